@@ -1,0 +1,4 @@
+pub mod Contents
+pub mod Risen
+pub mod Told
+pub mod Files

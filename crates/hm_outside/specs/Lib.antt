@@ -1,0 +1,5 @@
+pub mod Contents
+pub mod Failures
+pub mod Answers
+pub mod Files
+pub mod Shown

@@ -1,0 +1,123 @@
+-- What a user relies on, from how a run ended.
+use Rattle.std.proofs.Common.{◌≡◌, Bool, true, false, cond, ◌⊎◌, inl, inr, ℕ, List, Option, Some, Result, Ok, Err, refl, sym, ◌∙◌, ap, subst, arith}
+use Rattle.hm_tree.specs.Names.{Name}
+use Rattle.hm_outside.specs.Contents.{Contents}
+use Rattle.hm_outside.proofs.Risen.{not_risen}
+use Rattle.hm_safety.specs.Safety.{IsSafe}
+use Rattle.hm_reconcile.specs.Settling.{views}
+use Rattle.hm_command.specs.declared.ending.Refusal.{Refusal}
+use Rattle.hm_command.specs.declared.ending.Refusal.TheVariants.{Usage, Missing, NotYet}
+use Rattle.hm_command.specs.declared.ending.Stop.TheVariants.{Refused, ReadFault, WriteFault, Memory}
+use Rattle.hm_command.specs.declared.ending.Ending.{Ending}
+use Rattle.hm_command.specs.declared.ending.Ending.TheVariants.{Stopped, PutFault, Done}
+use Rattle.hm_command.specs.Words.{FileNames}
+use Rattle.hm_command.specs.Lines.{status_of, refusal_status}
+use Rattle.hm_run.specs.Steps.{stops, goes_on}
+use Rattle.hm_run.specs.Verdict.{Bytes, Trees, Plan, Plans, planned, LoadsAll, ReadsAll, Verdict, stop_state, in_conflict}
+use Rattle.hm_run.specs.Causes.{IsDone}
+use Rattle.hm_run.specs.Seen.{WhereTold}
+use Rattle.hm_run.specs.Endings.{Outside, HasCause, Leaves, EndsAs, conflict_status, IsSynchronised, IsComplete}
+use Rattle.hm_run.proofs.Only.{verdict_one}
+
+-- ---- a plan has a safe result
+
+abbrev IsPlanSafe : Plan → Type 0
+IsPlanSafe plan = IsSafe (views plan.before.archive plan.before.left plan.before.right) (views plan.after.archive plan.after.left plan.after.right)
+
+plan_is : (p q : Plan) → ◌≡◌ {A = Result Plan Refusal} (Ok p) (Ok q) → p ≡ q
+plan_is p q e = cc
+
+planned_safe : (files : FileNames) (before : Trees) (plan : Plan) (r : Result Plan Refusal) → r ≡ Ok plan → Plans files before r → IsPlanSafe plan
+planned_safe files before plan _ e (planned {after} h) = subst IsPlanSafe (plan_is _ plan e) h.safe
+
+plan_safe : (c : Contents) (words : List Name) (plan : Plan) (r : Result Plan Refusal) → r ≡ Ok plan → Verdict c words r → IsPlanSafe plan
+unfolding Verdict
+plan_safe c words plan _ e (stops h) = absurd (let no : ⊥ = cc in no)
+plan_safe c words plan _ e (goes_on h (stops k)) = absurd (let no : ⊥ = cc in no)
+plan_safe c words plan _ e (goes_on h (goes_on k (stops l))) = absurd (let no : ⊥ = cc in no)
+plan_safe c words plan r e (goes_on {x = files} h (goes_on k (goes_on {x = before} l m))) = planned_safe files before plan r e m
+
+-- ---- after 0 and 1
+
+done_synchronised : (words : List Name) (c : Contents) (conflict : Bool) (left : Option Contents) → IsDone words c conflict left → IsSynchronised words c (cond conflict 1 0) left
+done_synchronised words c conflict left h = record {
+  plan = h.state.plan;
+  planned = h.state.planned;
+  new = h.state.is;
+  safe = plan_safe c words h.state.plan (Ok h.state.plan) refl h.state.planned;
+  tells = ap (λ b. cond b 1 0) (sym h.tells);
+}
+
+refusal_is_high : (refusal : Refusal) (n : ℕ) → n ≡ refusal_status refusal → (n ≡ 0) ⊎ (n ≡ 1) → ⊥
+refusal_is_high Usage n e h = omega arith
+refusal_is_high (Missing slot) n e h = omega arith
+refusal_is_high (NotYet slot) n e h = omega arith
+
+synchronised_by : (ending : Ending) (words : List Name) (c : Contents) (left : Option Contents) → (status_of ending ≡ 0) ⊎ (status_of ending ≡ 1) → Leaves ending words c left → IsSynchronised words c (status_of ending) left
+synchronised_by (Stopped (Refused refusal)) words c left status h = absurd (refusal_is_high refusal _ refl status)
+synchronised_by (Stopped (ReadFault slot)) words c left status h = absurd (omega arith)
+synchronised_by (Stopped (WriteFault slot)) words c left status h = absurd (omega arith)
+synchronised_by (Stopped Memory) words c left status h = absurd (omega arith)
+synchronised_by (PutFault conflict) words c left status h = absurd (omega arith)
+synchronised_by (Done conflict) words c left status h = done_synchronised words c conflict left h
+
+pub synchronised : (ending : Ending) (words : List Name) (before after : Outside) (status : ℕ) → status ≡ status_of ending → EndsAs ending words before after → (status ≡ 0) ⊎ (status ≡ 1) → WhereTold before.contents (λ c. IsSynchronised words c status after.contents)
+synchronised ending words before after status is h at = λ c told.
+    let P : ℕ → Type 0 = λ n. (n ≡ 0) ⊎ (n ≡ 1) in
+    let Q : ℕ → Type 0 = λ n. IsSynchronised words c n after.contents in
+    subst Q (sym is) (synchronised_by ending words c after.contents (subst P is at) (h.contents c told))
+
+-- ---- after 2 and 3
+
+refused_by : (ending : Ending) (words : List Name) (c : Contents) (left : Option Contents) → (status_of ending ≡ 2) ⊎ (status_of ending ≡ 3) → Leaves ending words c left → left ≡ Some c
+refused_by (Stopped (Refused refusal)) words c left status h = h.same
+refused_by (Stopped (ReadFault slot)) words c left status h = h
+refused_by (Stopped (WriteFault slot)) words c left status h = absurd (omega arith)
+refused_by (Stopped Memory) words c left status h = absurd (omega arith)
+refused_by (PutFault conflict) words c left status h = absurd (omega arith)
+refused_by (Done true) words c left status h = absurd (omega arith)
+refused_by (Done false) words c left status h = absurd (omega arith)
+
+pub refused : (ending : Ending) (words : List Name) (before after : Outside) (status : ℕ) → status ≡ status_of ending → EndsAs ending words before after → (status ≡ 2) ⊎ (status ≡ 3) → WhereTold before.contents (λ c. after.contents ≡ Some c)
+refused ending words before after status is h at = λ c told.
+    let P : ℕ → Type 0 = λ n. (n ≡ 2) ⊎ (n ≡ 3) in
+    refused_by ending words c after.contents (subst P is at) (h.contents c told)
+
+-- ---- where nothing outside fails
+
+module _ (words : List Name) (c : Contents) where
+  same_plan : (p q : Plan) → Verdict c words (Ok p) → Verdict c words (Ok q) → p ≡ q
+  same_plan p q h k = plan_is p q (verdict_one c words (Ok p) (Ok q) h k)
+
+  not_both : (p : Plan) (refusal : Refusal) → Verdict c words (Ok p) → Verdict c words (Err refusal) → ⊥
+  not_both p refusal h k = let e = verdict_one c words (Ok p) (Err refusal) h k in let no : ⊥ = cc in no
+
+  same_refusal : (p q : Refusal) → Verdict c words (Err p) → Verdict c words (Err q) → p ≡ q
+  same_refusal p q h k = inside (verdict_one c words (Err p) (Err q) h k)
+    where
+      inside : ◌≡◌ {A = Result Plan Refusal} (Err p) (Err q) → p ≡ q
+      inside e = cc
+
+  complete_by : (ending : Ending) (before after : Outside) → HasCause ending words before after → Leaves ending words c after.contents → after.failed ≡ before.failed → after.faults ≡ before.faults → IsComplete words c (status_of ending) after.contents
+  complete_by (Stopped (Refused refusal)) before after cause leaves f s = record {
+    carried_out = λ plan k. absurd (not_both plan refusal k leaves.first);
+    refused = λ other k. inr (ap refusal_status (same_refusal refusal other leaves.first k), leaves.same);
+  }
+  complete_by (Stopped (ReadFault slot)) before after cause leaves f s = absurd (not_risen f cause.risen)
+  complete_by (Stopped (WriteFault slot)) before after cause leaves f s = absurd (not_risen f cause.risen)
+  complete_by (Stopped Memory) before after cause leaves f s = record { carried_out = λ plan k. inl refl; refused = λ other k. inl refl }
+  complete_by (PutFault conflict) before after cause leaves f s = absurd (omega (arith, cause.1, s))
+  complete_by (Done conflict) before after cause leaves f s = record {
+    carried_out = λ plan k.
+        let same : leaves.state.plan ≡ plan = same_plan leaves.state.plan plan leaves.state.planned k in
+        inr (
+          ap (λ b. cond b 1 0) (sym leaves.tells ∙ ap (λ (p : Plan). in_conflict p.after.archive) same),
+          leaves.state.is ∙ ap (λ (p : Plan). Some (stop_state c p 3)) same,
+        );
+    refused = λ other k. absurd (not_both leaves.state.plan other leaves.state.planned k);
+  }
+
+pub complete : (ending : Ending) (words : List Name) (before after : Outside) (status : ℕ) → status ≡ status_of ending → EndsAs ending words before after → after.failed ≡ before.failed → after.faults ≡ before.faults → WhereTold before.contents (λ c. IsComplete words c status after.contents)
+complete ending words before after status is h f s = λ c told.
+    let Q : ℕ → Type 0 = λ n. IsComplete words c n after.contents in
+    subst Q (sym is) (complete_by words c ending before after h.cause (h.contents c told) f s)

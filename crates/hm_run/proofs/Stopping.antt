@@ -1,0 +1,147 @@
+-- Where the work of a run stops.
+use Rattle.std.proofs.Common.{◌≡◌, ◌⊎◌, inl, inr, ⊎_elim, Bool, true, false, ◌||◌, ◌&&◌, not, ℕ, ◌+◌, List, [], ◌∷◌, Option, Some, Result, Ok, Err, refl, sym, ◌∙◌, ap, subst}
+use Rattle.std.specs.Prelude.{codes, if◌then◌else◌}
+use Rattle.std.specs.Str.{bytes_eq}
+use Rattle.hm_tree.specs.Names.{Name}
+use Rattle.hm_outside.specs.Contents.{Contents}
+use Rattle.hm_outside.specs.Failures.{Extends, HasRisen}
+use Rattle.hm_outside.specs.declared.outside.Failure.{Failure}
+use Rattle.hm_outside.specs.declared.outside.Kind.TheVariants.{Load, Replace}
+use Rattle.hm_outside.proofs.Risen.{risen_since}
+use Rattle.hm_command.specs.declared.ending.Slot.{Slot}
+use Rattle.hm_command.specs.declared.ending.Refusal.{Refusal}
+use Rattle.hm_command.specs.declared.ending.Refusal.TheVariants.{Usage, Missing, NotYet}
+use Rattle.hm_command.specs.declared.ending.Stop.{Stop}
+use Rattle.hm_command.specs.declared.ending.Stop.TheVariants.{Refused, ReadFault, WriteFault, Memory}
+use Rattle.hm_command.specs.Words.{FileNames, name_of, is_flag, meaning}
+use Rattle.hm_run.specs.Steps.{stops, goes_on}
+use Rattle.hm_run.specs.Verdict.{Bytes, Trees, Plan, LoadsAll, ReadsAll, Becomes, planned, Verdict, texts_of, written, in_conflict}
+use Rattle.hm_run.specs.Seen.{itself, Follows, StopsReading}
+use Rattle.hm_run.specs.Writing.{place_of, StopsWriting, WritesAll}
+use Rattle.hm_run.specs.Causes.{HasMeaning, HasStopCause, IsMeant, IsStopState, IsDone, Synchronises}
+
+-- ---- the words
+
+only_usage_if : (x y : Bool) (files : FileNames) (refusal : Refusal) → (if x then Err Usage else (if y then Err Usage else Ok files)) ≡ Err refusal → refusal ≡ Usage
+only_usage_if true y files refusal e = cc
+only_usage_if false true files refusal e = cc
+only_usage_if false false files refusal e = absurd (let no : ⊥ = cc in no)
+
+usage_is : (refusal : Refusal) → ◌≡◌ {A = Result FileNames Refusal} (Err Usage) (Err refusal) → refusal ≡ Usage
+usage_is refusal e = cc
+
+only_usage : (words : List Name) (refusal : Refusal) → meaning words ≡ Err refusal → refusal ≡ Usage
+unfolding meaning
+only_usage [] refusal e = usage_is refusal e
+only_usage (a ∷ []) refusal e = usage_is refusal e
+only_usage (a ∷ b ∷ []) refusal e = usage_is refusal e
+only_usage (a ∷ b ∷ c ∷ []) refusal e = usage_is refusal e
+only_usage (a ∷ b ∷ c ∷ d ∷ []) refusal e = only_usage_if _ _ _ refusal e
+only_usage (a ∷ b ∷ c ∷ d ∷ f ∷ rest) refusal e = usage_is refusal e
+
+pub words_cause : (words : List Name) (refusal : Refusal) (before after : List Failure) (r : Result Bool Stop) → meaning words ≡ Err refusal → r ≡ Err (Refused refusal) → HasStopCause words before after r
+words_cause words refusal before after r e is =
+    let same = only_usage words refusal e in
+    let R : Result Bool Stop → Type 0 = λ s. HasStopCause words before after s in
+    let P : Refusal → Type 0 = λ z. IsMeant words z in
+    subst R (sym is) (subst P (sym same) (e ∙ ap (λ (z : Refusal). Err z) same))
+
+pub words_told : (words : List Name) (c : Contents) (refusal : Refusal) (r : Result Bool Stop) (left : Option Contents) → meaning words ≡ Err refusal → r ≡ Err (Refused refusal) → left ≡ Some c → Synchronises words c r left
+unfolding Verdict
+words_told words c refusal r left e is same =
+    let R : Result Bool Stop → Type 0 = λ s. Synchronises words c s left in
+    subst R (sym is) (record { first = stops (sym e); same = same })
+
+-- ---- loading and reading
+
+reading_by : (A : Type 0) (words : List Name) (files : FileNames) (before after : List Failure) (stop : Stop) → meaning words ≡ Ok files → StopsReading {A = A} (λ at. HasRisen Load (name_of files at) before after) (Err stop) → HasStopCause {A = Bool} words before after (Err stop)
+reading_by A words files before after (Refused Usage) meant h = absurd h
+reading_by A words files before after (Refused (Missing slot)) meant h = record { files = files; is = meant }
+reading_by A words files before after (Refused (NotYet slot)) meant h = record { files = files; is = meant }
+reading_by A words files before after (ReadFault slot) meant h = record { files = files; meant = meant; risen = h }
+reading_by A words files before after (WriteFault slot) meant h = absurd h
+reading_by A words files before after Memory meant h = tt
+
+pub reading_cause : (A : Type 0) (words : List Name) (files : FileNames) (before after : List Failure) (stop : Stop) (r : Result Bool Stop) → r ≡ Err stop → meaning words ≡ Ok files → StopsReading {A = A} (λ at. HasRisen Load (name_of files at) before after) (Err stop) → HasStopCause words before after r
+reading_cause A words files before after stop r is meant h =
+    let R : Result Bool Stop → Type 0 = λ s. HasStopCause words before after s in
+    subst R (sym is) (reading_by A words files before after stop meant h)
+
+-- a stop without a fault of the store has any cause
+pub no_fault : (A : Type 0) (Q : Slot → Type 0) (stop : Stop) → StopsReading {A = A} (λ at. ⊥) (Err stop) → StopsReading {A = A} Q (Err stop)
+no_fault A Q (Refused refusal) h = h
+no_fault A Q (ReadFault slot) h = absurd h
+no_fault A Q (WriteFault slot) h = absurd h
+no_fault A Q Memory h = tt
+
+told_by : (A : Type 0) (Q : Slot → Type 0) (words : List Name) (c : Contents) (stop : Stop) (left : Option Contents) → StopsReading {A = A} Q (Err stop) → Follows {A = Plan} itself (Err stop) (Verdict c words) → left ≡ Some c → Synchronises words c (Err stop) left
+told_by A Q words c (Refused refusal) left h f same = record { first = f; same = same }
+told_by A Q words c (ReadFault slot) left h f same = same
+told_by A Q words c (WriteFault slot) left h f same = absurd h
+told_by A Q words c Memory left h f same = inl same
+
+-- what a step that stopped found, as what the whole found
+found_by : (A B : Type 0) (step : Result A Refusal → Type 0) (whole : Result Plan Refusal → Type 0) (seen : B → A) (stop : Stop) → ((refusal : Refusal) → step (Err refusal) → whole (Err refusal)) → Follows seen (Err stop) step → Follows {A = Plan} itself (Err stop) whole
+found_by A B step whole seen (Refused refusal) f h = f refusal h
+found_by A B step whole seen (ReadFault slot) f h = tt
+found_by A B step whole seen (WriteFault slot) f h = tt
+found_by A B step whole seen Memory f h = tt
+
+module _ (words : List Name) (c : Contents) (files : FileNames) (meant : meaning words ≡ Ok files) where
+  loads_first : (refusal : Refusal) → LoadsAll c files (Err refusal) → Verdict c words (Err refusal)
+  unfolding Verdict
+  loads_first refusal h = goes_on (sym meant) (stops h)
+
+  pub loads_told : (A : Type 0) (seen : A → Bytes) (Q : Slot → Type 0) (stop : Stop) (r : Result Bool Stop) (left : Option Contents) → r ≡ Err stop → StopsReading {A = A} Q (Err stop) → Follows seen (Err stop) (LoadsAll c files) → left ≡ Some c → Synchronises words c r left
+  loads_told A seen Q stop r left is h f same =
+      let R : Result Bool Stop → Type 0 = λ s. Synchronises words c s left in
+      subst R (sym is) (told_by A Q words c stop left h (found_by Bytes A (LoadsAll c files) (Verdict c words) seen stop loads_first f) same)
+
+  module _ (bytes : Bytes) (loads : LoadsAll c files (Ok bytes)) where
+    reads_first : (refusal : Refusal) → ReadsAll bytes (Err refusal) → Verdict c words (Err refusal)
+    unfolding Verdict
+    reads_first refusal h = goes_on (sym meant) (goes_on loads (stops h))
+
+    pub reads_told : (A : Type 0) (seen : A → Trees) (Q : Slot → Type 0) (stop : Stop) (r : Result Bool Stop) (left : Option Contents) → r ≡ Err stop → StopsReading {A = A} Q (Err stop) → Follows seen (Err stop) (ReadsAll bytes) → left ≡ Some c → Synchronises words c r left
+    reads_told A seen Q stop r left is h f same =
+        let R : Result Bool Stop → Type 0 = λ s. Synchronises words c s left in
+        subst R (sym is) (told_by A Q words c stop left h (found_by Trees A (ReadsAll bytes) (Verdict c words) seen stop reads_first f) same)
+
+    module _ (before : Trees) (reads : ReadsAll bytes (Ok before)) (after : Trees) (becomes : Becomes before after) where
+      plan : Plan
+      plan = record { files = files; before = before; after = after }
+
+      plans : Verdict c words (Ok plan)
+      unfolding Verdict plan
+      plans = goes_on (sym meant) (goes_on loads (goes_on reads (planned becomes)))
+
+      state : (left : Option Contents) (n : ℕ) → left ≡ Some (written c files (texts_of after) n) → IsStopState words c left n
+      unfolding plan
+      state left n is = record { plan = plan; planned = plans; is = is }
+
+      writes_by : (A : Type 0) (stop : Stop) (left : Option Contents) → WritesAll {A = A} c files (texts_of after) (Err stop) left → Synchronises words c (Err stop) left
+      writes_by A (Refused refusal) left h = absurd h
+      writes_by A (ReadFault slot) left h = absurd h
+      writes_by A (WriteFault slot) left h = ⊎_elim (λ old. inl (state left (place_of slot) old)) (λ now. inr (state left (place_of slot + 1) now)) h
+      writes_by A Memory left h = inr (h.0, state left h.0 h.1)
+
+      pub writes_told : (A : Type 0) (new : Bytes) (stop : Stop) (r : Result Bool Stop) (left : Option Contents) → r ≡ Err stop → new ≡ texts_of after → WritesAll {A = A} c files new (Err stop) left → Synchronises words c r left
+      writes_told A new stop r left is texts h =
+          let R : Result Bool Stop → Type 0 = λ s. Synchronises words c s left in
+          let W : Bytes → Type 0 = λ b. WritesAll {A = A} c files b (Err stop) left in
+          subst R (sym is) (writes_by A stop left (subst W texts h))
+
+      pub done_told : (new : Bytes) (conflict : Bool) (left : Option Contents) → new ≡ texts_of after → conflict ≡ in_conflict after.archive → left ≡ Some (written c files new 3) → IsDone words c conflict left
+      unfolding plan state
+      done_told new conflict left texts tells is = record { state = state left 3 (is ∙ ap (λ (b : Bytes). Some (written c files b 3)) texts); tells = sym tells }
+
+writes_cause_by : (A : Type 0) (words : List Name) (files : FileNames) (before mid after : List Failure) (stop : Stop) → meaning words ≡ Ok files → Extends before mid → StopsWriting {A = A} (λ at. HasRisen Replace (name_of files at) mid after) (Err stop) → HasStopCause {A = Bool} words before after (Err stop)
+writes_cause_by A words files before mid after (Refused refusal) meant more h = absurd h
+writes_cause_by A words files before mid after (ReadFault slot) meant more h = absurd h
+writes_cause_by A words files before mid after (WriteFault slot) meant more h = record { files = files; meant = meant; risen = risen_since more h }
+writes_cause_by A words files before mid after Memory meant more h = tt
+
+pub writes_cause : (A : Type 0) (words : List Name) (files : FileNames) (before mid after : List Failure) (stop : Stop) (r : Result Bool Stop) → r ≡ Err stop → meaning words ≡ Ok files → Extends before mid → StopsWriting {A = A} (λ at. HasRisen Replace (name_of files at) mid after) (Err stop) → HasStopCause words before after r
+writes_cause A words files before mid after stop r is meant more h =
+    let R : Result Bool Stop → Type 0 = λ s. HasStopCause words before after s in
+    subst R (sym is) (writes_cause_by A words files before mid after stop meant more h)

@@ -1,0 +1,118 @@
+-- What a run over these contents is to do: the first refusal in the order of the checks, or a plan.
+use Rattle.std.specs.Prelude.{◌≡◌, ◌⊎◌, ℕ, zero, suc, ◌<◌, ◌≤◌, Bool, true, false, List, [], length, Option, Some, None, Result, Ok, Err}
+use Rattle.hm_tree.specs.Names.{Name}
+use Rattle.hm_tree.specs.Nodes.{Tree}
+use Rattle.hm_tree.specs.Archives.{Archive}
+use Rattle.hm_tree.specs.States.{state}
+use Rattle.hm_tree.specs.declared.archive.State.{State}
+use Rattle.hm_tree.specs.declared.archive.State.TheVariants as state_of
+use Rattle.hm_tree_text.specs.Text.{IsTreeText, IsArchiveText, tree_text, archive_text}
+use Rattle.hm_safety.specs.Safety.{IsSafe}
+use Rattle.hm_reconcile.specs.Settling.{views, Settles}
+use Rattle.hm_outside.specs.Contents.{Contents, held, replaced}
+use Rattle.hm_command.specs.declared.ending.Slot.{Slot}
+use Rattle.hm_command.specs.declared.ending.Slot.TheVariants as slot
+use Rattle.hm_command.specs.declared.ending.Refusal.{Refusal}
+use Rattle.hm_command.specs.declared.ending.Refusal.TheVariants.{Missing, NotYet}
+use Rattle.hm_command.specs.Words.{FileNames, meaning}
+use Rattle.hm_run.specs.Steps.{Then}
+
+-- the greatest number of bytes of a file
+abbrev pub limit : ℕ
+limit = 16777216
+
+-- ---- loading: what is found of what a slot's name has in the store
+
+pub data Loads : Slot → Option (List ℕ) → Result (List ℕ) Refusal → Type 0 where
+  loaded : {at : Slot} {bytes : List ℕ} → length bytes ≤ limit → Loads at (Some bytes) (Ok bytes)
+  too_large : {at : Slot} {bytes : List ℕ} → limit < length bytes → Loads at (Some bytes) (Err (NotYet at))
+  no_archive : Loads slot.Archive None (Ok [])
+  no_left : Loads slot.Left None (Err (Missing slot.Left))
+  no_right : Loads slot.Right None (Err (Missing slot.Right))
+
+-- the bytes of the three files; an archive that is absent has none
+pub record Bytes : Type 0 where
+  pub archive : List ℕ
+  pub left : List ℕ
+  pub right : List ℕ
+
+unfoldable pub LoadsAll : Contents → FileNames → Result Bytes Refusal → Type 0
+LoadsAll c files =
+    Then (Loads slot.Archive (held c files.archive)) (λ o.
+    Then (Loads slot.Left (held c files.left)) (λ a.
+    Then (Loads slot.Right (held c files.right)) (λ b r.
+    r ≡ Ok (record { archive = o; left = a; right = b }))))
+
+-- ---- reading: the values that the bytes are the texts of
+
+pub data ReadsArchive (bytes : List ℕ) : Result Archive Refusal → Type 0 where
+  archive_text_of : {o : Archive} → IsArchiveText o bytes → ReadsArchive bytes (Ok o)
+  no_archive_text : ((o : Archive) → ¬ (IsArchiveText o bytes)) → ReadsArchive bytes (Err (NotYet slot.Archive))
+
+pub data ReadsReplica (at : Slot) (bytes : List ℕ) : Result Tree Refusal → Type 0 where
+  tree_text_of : {t : Tree} → IsTreeText t bytes → ReadsReplica at bytes (Ok t)
+  no_tree_text : ((t : Tree) → ¬ (IsTreeText t bytes)) → ReadsReplica at bytes (Err (NotYet at))
+
+-- an archive and two replicas
+pub record Trees : Type 0 where
+  pub archive : Archive
+  pub left : Tree
+  pub right : Tree
+
+unfoldable pub ReadsAll : Bytes → Result Trees Refusal → Type 0
+ReadsAll bytes =
+    Then (ReadsArchive bytes.archive) (λ o.
+    Then (ReadsReplica slot.Left bytes.left) (λ a.
+    Then (ReadsReplica slot.Right bytes.right) (λ b r.
+    r ≡ Ok (record { archive = o; left = a; right = b }))))
+
+-- ---- reconciling
+
+-- these become those, and that is safe
+pub record Becomes (before after : Trees) : Type 0 where
+  pub settles : Settles before.archive before.left before.right after.archive after.left after.right
+  pub safe : IsSafe (views before.archive before.left before.right) (views after.archive after.left after.right)
+
+-- the names of the files, what was read of them, and what they are to become
+pub record Plan : Type 0 where
+  pub files : FileNames
+  pub before : Trees
+  pub after : Trees
+
+pub data Plans (files : FileNames) (before : Trees) : Result Plan Refusal → Type 0 where
+  planned : {after : Trees} → Becomes before after → Plans files before (Ok (record { files = files; before = before; after = after }))
+
+-- ---- the verdict: words, loads, texts, and the plan
+
+unfoldable pub Verdict : Contents → List Name → Result Plan Refusal → Type 0
+Verdict c words =
+    Then (λ r. r ≡ meaning words) (λ files.
+    Then (LoadsAll c files) (λ bytes.
+    Then (ReadsAll bytes) (λ before.
+    Plans files before)))
+
+-- a conflict remains where the archive is marked at its root
+abbrev pub is_marked_state : State → Bool
+is_marked_state state_of.Missing = false
+is_marked_state state_of.Present = false
+is_marked_state state_of.Marked = true
+
+abbrev pub in_conflict : Archive → Bool
+in_conflict o = is_marked_state (state o [])
+
+-- ---- the contents that a plan comes to
+
+-- the texts of an archive and two replicas
+abbrev pub texts_of : Trees → Bytes
+texts_of t = record { archive = archive_text t.archive; left = tree_text t.left; right = tree_text t.right }
+
+-- the contents with the new bytes in the first n of left, right and archive
+abbrev pub written : Contents → FileNames → Bytes → ℕ → Contents
+written c files new zero = c
+written c files new (suc zero) = replaced c files.left new.left
+written c files new (suc (suc zero)) = replaced (replaced c files.left new.left) files.right new.right
+written c files new (suc (suc (suc n))) = replaced (replaced (replaced c files.left new.left) files.right new.right) files.archive new.archive
+
+-- the contents with the plan carried out as far as its first n files
+abbrev pub stop_state : Contents → Plan → ℕ → Contents
+stop_state c plan n = written c plan.files (texts_of plan.after) n

@@ -1,0 +1,13 @@
+//! One run of the program: it reads the files, reconciles them, writes them anew and says how it ended.
+#![tactic(auto)]
+
+mod load;
+mod make;
+mod read;
+mod sync;
+mod write;
+
+pub use sync::run;
+
+#[cfg(test)]
+mod tests;

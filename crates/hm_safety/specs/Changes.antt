@@ -1,0 +1,23 @@
+-- What has changed since the archive was written, and where the two sides clash (JCSS 2007, section 3).
+use Rattle.std.specs.Prelude.{◌≢◌, ◌⊎◌, ◌++◌}
+use Rattle.hm_tree.specs.declared.archive.State.TheVariants.{Missing, Present}
+use Rattle.hm_tree.specs.States.{Path}
+use Rattle.hm_safety.specs.Views.{View, Views, Has, Lacks, Agree}
+
+-- a replica has changed where its state and the archive's don't agree
+abbrev pub HasChanged : View → View → Path → Type 0
+HasChanged archive replica p = ¬ (Agree (archive p) (replica p))
+
+-- at p or below it the replica has a path that isn't present in the archive
+abbrev pub HasNews : View → View → Path → Type 0
+HasNews archive replica p = (r : Path) × Has replica (p ++ r) × (archive (p ++ r) ≢ Present)
+
+-- one side deleted p, while the other has news there
+pub record IsLost (archive keeper other : View) (p : Path) : Type 0 where
+  pub has : Has keeper p
+  pub lacks : Lacks other p
+  pub known : archive p ≢ Missing
+  pub news : HasNews archive keeper p
+
+abbrev pub Clash : Views → Path → Type 0
+Clash v p = IsLost v.archive v.left v.right p ⊎ IsLost v.archive v.right v.left p

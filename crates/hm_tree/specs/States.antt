@@ -1,0 +1,16 @@
+-- What an archive, a tree or a missing side has at a path (JCSS 2007, section 2).
+use Rattle.std.specs.Prelude.{Bool, cond, List, [], ◌∷◌, Option, Some, None}
+use Rattle.hm_tree.specs.declared.archive.State.{State}
+use Rattle.hm_tree.specs.declared.archive.State.TheVariants.{Missing, Present, Marked}
+use Rattle.hm_tree.specs.Names.{Name}
+use Rattle.hm_tree.specs.Nodes.{Node, below, is_marked}
+
+-- names from the root down
+abbrev pub Path : Type 0
+Path = List Name
+
+-- every path below a mark is marked
+abbrev pub state : {m : Bool} → Option (Node m) → Path → State
+state None p = Missing
+state (Some t) [] = cond (is_marked t) Marked Present
+state (Some t) (k ∷ p) = cond (is_marked t) Marked (state (below k t) p)

@@ -1,0 +1,16 @@
+//! Edges in the order of their names.
+ghost use Rattle.std.specs.Prelude.{T, IfOk, IfErr};
+ghost use Rattle.std.specs.FinMap.{is_sorted};
+ghost use Rattle.hm_tree.specs.Names.{name_cmp};
+ghost use Rattle.hm_tree.specs.Edges.{IsPlaceOf, IsGapFor};
+
+use crate::name::Name;
+
+/// Where a name is, or where it would go.
+pub fn place_of<V>(edges: &[(Name, V)], name: &Name) -> Result<usize, usize>
+    requires { T (is_sorted name_cmp edges.now) }
+    ensures found { IfOk result (IsPlaceOf name.now edges.now) }
+    ensures absent { IfErr result (IsGapFor name.now edges.now) }
+{
+    edges.binary_search_by(|edge| edge.0.order(name))
+}

@@ -1,0 +1,140 @@
+//! Trees.
+#![tactic(auto, using(crate::proofs::Sorted::seen))]
+
+ghost use Rattle.std.specs.Prelude.{◌≡◌, ◌↔◌, IsTrue, ◌<◌, length, [], IfOk, OnOk, OnErr, IfErr, slice_get, None, ◌^◌};
+ghost use Rattle.hm_tree.specs.Nodes.{edges, below, with_edge, depth, empty};
+ghost use Rattle.hm_tree.specs.Edges.{IsPlaceOf, IsGapFor};
+
+use crate::edges::place_of;
+use crate::memory::Memory;
+use crate::name::Name;
+use std::alloc::Global;
+use std::marker::Model;
+
+/// A finite map from names to trees.
+#[derive(Drop)]
+pub struct Tree {
+    edges: Vec<(Name, Tree)>,
+    deep: usize,
+}
+
+impl Model for Tree {
+    ghost use Rattle.std.specs.Prelude.{false};
+    ghost use Rattle.std.proofs.Common.{arith};
+    ghost use Rattle.hm_tree.specs.Nodes.{Node, node, depth};
+    ghost use Rattle.hm_tree.specs.NodeLaws.{node_code, falls};
+    ghost use Rattle.hm_tree.specs.Edges.{IsKeptTree};
+
+    ghost Value = { Node false };
+
+    ghost coded = { node_code false };
+
+    ghost view = { λ t. node t.edges.items };
+
+    ghost invariant = { λ t. IsKeptTree t.edges.items t.deep };
+
+    ghost size = { depth };
+
+    ghost size_decreases = { λ t h. falls _ (λ e. Prim.omega arith) t.edges.items h.sorted };
+}
+
+impl Tree {
+    /// The tree without edges, which takes no memory.
+    pub fn empty(alloc: Global) -> Tree
+        ensures { result ≡ empty }
+    {
+        Tree {
+            edges: Vec::new(alloc),
+            deep: 0,
+        }
+    }
+
+    /// The number of its edges.
+    pub fn count(&self) -> usize
+        ensures { result ≡ length (edges self.now) }
+    {
+        self.edges.len()
+    }
+
+    /// The edge at a place, in the order of names.
+    pub fn edge(&self, place: usize) -> (&Name, &Tree)
+        requires { place < length (edges self.now) }
+        ensures { slice_get (edges self.now) place ≡ Some (result.0.now, result.1.now) }
+    {
+        let edge = &self.edges[place];
+        (&edge.0, &edge.1)
+    }
+
+    /// Adds an edge. A name greater than all others costs no move of edges.
+    pub fn insert(&mut self, name: Name, child: Tree) -> Result<(), Memory>
+        requires { below name self.old ≡ None }
+        ensures ok { OnOk result (self.new ≡ with_edge name child self.old) }
+        ensures err { OnErr result (self.new ≡ self.old) }
+    {
+        match self.place(&name) {
+            Ok(_) => Ok(()),
+            Err(at) => {
+                let below = match child.deep.checked_add(1) {
+                    Some(below) => below,
+                    None => return Err(Memory),
+                };
+                self.edges.insert(at, (name, child))?;
+                self.deep = self.deep.max(below);
+                Ok(())
+            }
+        }
+    }
+
+    /// The allocator that its edges are kept by.
+    pub fn allocator(&self) -> Global {
+        *self.edges.allocator()
+    }
+
+    // Where a name is, or where it would go.
+    fn place(&self, name: &Name) -> Result<usize, usize>
+        ensures found { IfOk result (IsPlaceOf name.now (edges self.now)) }
+        ensures absent { IfErr result (IsGapFor name.now (edges self.now)) }
+    {
+        place_of(&self.edges, name)
+    }
+
+    /// How many edges lie one below another.
+    pub fn depth(&self) -> usize
+        ensures { result ≡ depth self.now }
+    {
+        self.deep
+    }
+
+    /// Whether the two are equal.
+    pub fn same(&self, other: &Tree) -> bool
+        ensures { IsTrue result ↔ (self.now ≡ other.now) }
+    {
+        if self.edges.len() != other.edges.len() {
+            return false;
+        }
+        for at in 0..self.edges.len() {
+            let one = &self.edges[at];
+            let two = &other.edges[at];
+            if !one.0.same(&two.0) || !one.1.same(&two.1) {
+                return false;
+            }
+        }
+        true
+    }
+
+    /// An equal tree.
+    pub fn copy(&self) -> Result<Tree, Memory>
+        ensures { IfOk result (λ tree. tree ≡ self.now) }
+    {
+        let mut edges = Vec::with_capacity(*self.edges.allocator(), self.edges.len())?;
+        for edge in &self.edges {
+            let name = edge.0.copy()?;
+            let tree = edge.1.copy()?;
+            edges.push((name, tree))?;
+        }
+        Ok(Tree {
+            edges,
+            deep: self.deep,
+        })
+    }
+}
