@@ -25,8 +25,16 @@ const AGREED: [Case; 6] = [
         status: 0,
     },
     Case {
-        before: [Some("{\"A\"}\n"), Some("{\"B\":{\"x\"}}\n"), Some("{\"A\"}\n")],
-        after: [Some("{\"B\":{\"x\"}}\n"), Some("{\"B\":{\"x\"}}\n"), Some("{\"B\":{\"x\"}}\n")],
+        before: [
+            Some("{\"A\"}\n"),
+            Some("{\"B\":{\"x\"}}\n"),
+            Some("{\"A\"}\n"),
+        ],
+        after: [
+            Some("{\"B\":{\"x\"}}\n"),
+            Some("{\"B\":{\"x\"}}\n"),
+            Some("{\"B\":{\"x\"}}\n"),
+        ],
         output: "agreed\n",
         status: 0,
     },
@@ -79,8 +87,16 @@ const IN_CONFLICT: [Case; 3] = [
 
 const REFUSED: [Case; 6] = [
     Case {
-        before: [Some("{\"A\"}\n"), Some("{\"b\",\"a\"}\n"), Some("{\"C\"}\n")],
-        after: [Some("{\"A\"}\n"), Some("{\"b\",\"a\"}\n"), Some("{\"C\"}\n")],
+        before: [
+            Some("{\"A\"}\n"),
+            Some("{\"b\",\"a\"}\n"),
+            Some("{\"C\"}\n"),
+        ],
+        after: [
+            Some("{\"A\"}\n"),
+            Some("{\"b\",\"a\"}\n"),
+            Some("{\"C\"}\n"),
+        ],
         output: "harmony: NotYet A\n",
         status: 3,
     },
@@ -195,7 +211,10 @@ fn expect_usage(rt: &impl Abort, alloc: Global, texts: &[&str]) -> Result<(), Fa
     let mut store = MemStore::empty(alloc);
     let mut out = MemSink::empty(alloc);
     assert_eq!(rt; run(alloc, &words, &mut store, &mut out), 2);
-    assert_eq!(rt; out.bytes(), b"usage: harmony sync ARCHIVE A B\n".as_slice());
+    assert_eq!(rt;
+        out.bytes(),
+        b"usage: harmony sync ARCHIVE A B\n".as_slice()
+    );
     Ok(())
 }
 

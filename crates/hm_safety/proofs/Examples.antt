@@ -84,9 +84,9 @@ left_wins_not h =
 not_as_left : ¬ (IsSafe (before holds_nothing (leaf ann) (leaf bob)) (before (holds ann) (leaf ann) (leaf bob)))
 unfolding edges edges_of is_marked name_cmp
 not_as_left h = elim (h.agrees_or_stops (ann ∷ [])) [
-    | inl m ↦ (let e : Present ≡ Marked = m in let no : ⊥ = cc in no)
-    | inr s ↦ (let e : Present ≡ Missing = s.1 in let no : ⊥ = cc in no)
-  ]
+  | inl m ↦ (let e : Present ≡ Marked = m in let no : ⊥ = cc in no)
+  | inr s ↦ (let e : Present ≡ Missing = s.1 in let no : ⊥ = cc in no)
+]
 
 -- a change that the other side hasn't seen may not be held back under a mark: there is no clash
 abbrev marks_bob : Archive
@@ -108,10 +108,10 @@ topmost = record { marked = refl; topmost = above }
 not_held_back : ¬ (IsSafe (before holds_nothing nothing (leaf bob)) (before marks_bob nothing (leaf bob)))
 unfolding edges edges_of is_marked name_cmp
 not_held_back h = elim (h.stops_at (bob ∷ []) topmost) [
-    | inl both ↦ (let e : Missing ≡ Present = both.0 in let no : ⊥ = cc in no)
-    | inr (inl lost) ↦ (let e : Missing ≡ Present = lost.has in let no : ⊥ = cc in no)
-    | inr (inr lost) ↦ lost.known refl
-  ]
+  | inl both ↦ (let e : Missing ≡ Present = both.0 in let no : ⊥ = cc in no)
+  | inr (inl lost) ↦ (let e : Missing ≡ Present = lost.has in let no : ⊥ = cc in no)
+  | inr (inr lost) ↦ lost.known refl
+]
 
 -- ---- clashes
 

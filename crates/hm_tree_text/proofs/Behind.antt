@@ -1,0 +1,65 @@
+-- Names that are greater than all names of edges.
+use Rattle.std.proofs.Common.{◌≡◌, suc, ◌-◌, Bool, T, List, [], ◌∷◌, ◌++◌, length, Some, None, slice_get, refl, sym, ap, subst, ◌∙◌, arith}
+use Rattle.std.specs.Ordering.{is_lt}
+use Rattle.std.specs.declared.cmp.Ordering.{Ordering}
+use Rattle.std.specs.declared.cmp.Ordering.TheVariants.{Less, Equal, Greater}
+use Rattle.std.specs.FinMap.{is_sorted, find, put}
+use Rattle.hm_tree.specs.Names.{Name, name_cmp}
+use Rattle.hm_tree.specs.Nodes.{Node, edges, node, with_edge, both, first, second, below_all}
+use Rattle.hm_tree.specs.NodeLaws.{edges-node, edges_sorted}
+use Rattle.hm_tree.proofs.Sorted.{name_total, back_less}
+use Rattle.hm_tree_text.specs.Reading.{is_behind}
+
+is_less : (o : Ordering) → T (is_lt o) → o ≡ Less
+is_less Less p = refl
+is_less Equal p = absurd p
+is_less Greater p = absurd p
+
+less_is : (o : Ordering) → o ≡ Less → T (is_lt o)
+less_is o e = subst (λ r. T (is_lt r)) (sym e) tt
+
+module _ {X : Type 0} where
+  -- the greatest name stands last
+  pub behind_last : (n : Name) (es : List (Name × X)) (k : Name) (x : X) → T (is_sorted name_cmp es) → slice_get es (length es - 1) ≡ Some (k, x) → name_cmp k n ≡ Less → T (is_behind n es)
+  behind_last n [] k x h at less = tt
+  behind_last n (e ∷ []) k x h at less = both _ _ (less_is _ (let head : e ≡ (k, x) = cc in ap (λ (d : Name × X). name_cmp d.0 n) head ∙ less)) tt
+  behind_last n (e ∷ (f ∷ es)) k x h at less =
+      let rest = behind_last n (f ∷ es) k x (second _ _ h) (subst (λ i. slice_get (e ∷ (f ∷ es)) i ≡ Some (k, x)) (let s : length (e ∷ (f ∷ es)) - 1 ≡ suc (length (f ∷ es) - 1) = omega arith in s) at) less in
+      both _ _ (less_is _ (name_total.trans e.0 f.0 n (is_less _ (first _ _ (first _ _ h))) (is_less _ (first _ _ rest)))) rest
+
+  pub last_behind : (n : Name) (es : List (Name × X)) (k : Name) (x : X) → slice_get es (length es - 1) ≡ Some (k, x) → T (is_behind n es) → name_cmp k n ≡ Less
+  last_behind n [] k x at h = let no : ⊥ = cc in absurd no
+  last_behind n (e ∷ []) k x at h = let head : e ≡ (k, x) = cc in ap (λ (d : Name × X). name_cmp d.0 n) (sym head) ∙ is_less _ (first _ _ h)
+  last_behind n (e ∷ (f ∷ es)) k x at h = last_behind n (f ∷ es) k x (subst (λ i. slice_get (e ∷ (f ∷ es)) i ≡ Some (k, x)) (let s : length (e ∷ (f ∷ es)) - 1 ≡ suc (length (f ∷ es) - 1) = omega arith in s) at) (second _ _ h)
+
+  -- it isn't among them, and goes to the end
+  pub behind_none : (n : Name) (es : List (Name × X)) → T (is_behind n es) → find name_cmp n es ≡ None
+  behind_none n [] h = refl
+  behind_none n (e ∷ es) h = let back = back_less n e.0 (is_less _ (first _ _ h)) in rw back (behind_none n es (second _ _ h))
+
+  pub put_behind : (n : Name) (x : X) (es : List (Name × X)) → T (is_behind n es) → put name_cmp n x es ≡ es ++ (n, x) ∷ []
+  put_behind n x [] h = refl
+  put_behind n x (e ∷ es) h = let back = back_less n e.0 (is_less _ (first _ _ h)) in rw back (ap (λ l. e ∷ l) (put_behind n x es (second _ _ h)))
+
+  all_below_more : (k n : Name) (x : X) (es : List (Name × X)) → T (below_all k es) → name_cmp k n ≡ Less → T (below_all k (es ++ (n, x) ∷ []))
+  all_below_more k n x [] h less = both _ _ (less_is _ less) tt
+  all_below_more k n x (e ∷ es) h less = both _ _ (first _ _ h) (all_below_more k n x es (second _ _ h) less)
+
+  pub sorted_behind : (n : Name) (x : X) (es : List (Name × X)) → T (is_sorted name_cmp es) → T (is_behind n es) → T (is_sorted name_cmp (es ++ (n, x) ∷ []))
+  sorted_behind n x [] h b = tt
+  sorted_behind n x (e ∷ es) h b = both _ _ (all_below_more e.0 n x es (first _ _ h) (is_less _ (first _ _ b))) (sorted_behind n x es (second _ _ h) (second _ _ b))
+
+  below_among : (k n : Name) (x : X) (es more : List (Name × X)) → T (below_all k (es ++ (n, x) ∷ more)) → T (is_lt (name_cmp k n))
+  below_among k n x [] more h = first _ _ h
+  below_among k n x (e ∷ es) more h = below_among k n x es more (second _ _ h)
+
+  -- in order, each name is greater than those before it
+  pub behind_sorted : (n : Name) (x : X) (es more : List (Name × X)) → T (is_sorted name_cmp (es ++ (n, x) ∷ more)) → T (is_behind n es)
+  behind_sorted n x [] more h = tt
+  behind_sorted n x (e ∷ es) more h = both _ _ (below_among e.0 n x es more (first _ _ h)) (behind_sorted n x es more (second _ _ h))
+
+-- an edge behind all others
+pub edges-with_last : {m : Bool} (n : Name) (c t : Node m) → T (is_behind n (edges t)) → edges (with_edge n c t) ≡ edges t ++ (n, c) ∷ []
+edges-with_last n c t h =
+    let e = put_behind n c (edges t) h in
+    ap (λ es. edges (node es)) e ∙ edges-node (edges t ++ (n, c) ∷ []) (sorted_behind n c (edges t) (edges_sorted t) h)
