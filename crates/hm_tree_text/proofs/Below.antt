@@ -6,9 +6,9 @@ use Rattle.hm_tree.specs.NodeLaws.{same_node, tree_unmarked}
 use Rattle.hm_tree_text.specs.Text.{quoted, whole, below, text, IsPlain, IsPlainShape, line_feed, IsTreeText}
 use Rattle.hm_tree_text.specs.Reading.{StandsAt, Fits, edge_text, separator}
 use Rattle.hm_tree_text.proofs.Spelling.{apart, quoted_apart, tails, IsOver, over_separator, no_colon}
-use Rattle.hm_tree_text.proofs.Listed.{shape_joined}
+use Rattle.hm_tree_text.proofs.Listed.{edges_empty, shape_joined}
 use Rattle.hm_tree_text.proofs.Places.{joins, behind}
-use Rattle.hm_tree_text.proofs.Gathering.{shape_empty, edges_empty}
+use Rattle.hm_tree_text.proofs.Gathering.{shape_empty}
 
 pub not_false : IsTrue false → ⊥
 not_false e = cc
@@ -24,7 +24,7 @@ shape_none t e = shape_joined t (tree_unmarked t) ∙ by (edges t) e
     by (d ∷ es) e = absurd (omega arith)
 
 pub none_shape : (t : Tree) → t.shape ≡ bare → length (edges t) ≡ 0
-none_shape t e = ap (λ (u : Tree). length (edges u)) (same_node t empty (e ∙ sym shape_empty)) ∙ ap length edges_empty
+none_shape t e = ap (λ (u : Tree). length (edges u)) (same_node t empty (e ∙ sym shape_empty)) ∙ ap length (edges_empty false)
 
 module _ (bytes : List ℕ) (start : ℕ) where
   -- nothing behind a name

@@ -3,17 +3,14 @@ use Rattle.std.proofs.Common.{◌≡◌, ℕ, ◌+◌, ◌-◌, ◌<◌, ◌≤�
 use Rattle.std.specs.List.{AllByRecursion}
 use Rattle.hm_tree.specs.Names.{Name}
 use Rattle.hm_tree.specs.Nodes.{Shape, bare, mark, edge, depth_of, Tree, edges, joined, with_edge, depth, empty}
-use Rattle.hm_tree.specs.NodeLaws.{edges_sorted, edges-node, node-nil, tree_unmarked}
+use Rattle.hm_tree.specs.NodeLaws.{edges_sorted, tree_unmarked}
 use Rattle.std.specs.FinMap.{is_sorted}
 use Rattle.hm_tree.specs.Names.{name_cmp}
 use Rattle.hm_tree_text.specs.Text.{whole, text, IsPlain, IsPlainShape}
 use Rattle.hm_tree_text.specs.Reading.{StandsAt, Fits, edge_text, separator, is_behind}
 use Rattle.hm_tree_text.proofs.Spelling.{edge_apart, tails}
-use Rattle.hm_tree_text.proofs.Listed.{commas, is_more, shape_joined, whole_joined, commas_last, whole_last, FitsEdge, fits_from_edges, edges_from_fits, all_last, NextEdge, remaining}
+use Rattle.hm_tree_text.proofs.Listed.{edges_empty, commas, is_more, shape_joined, whole_joined, commas_last, whole_last, FitsEdge, fits_from_edges, edges_from_fits, all_last, NextEdge, remaining}
 use Rattle.hm_tree_text.proofs.Behind.{edges-with_last, behind_sorted}
-
-pub edges_empty : edges (empty {m = false}) ≡ []
-edges_empty = ap edges (sym (node-nil [] refl)) ∙ edges-node [] tt
 
 pub shape_empty : (empty {m = false}).shape ≡ bare
 unfolding empty
@@ -31,7 +28,7 @@ pub record Gathered (room : ℕ) (bytes : List ℕ) (start : ℕ) (t : Tree) (en
 
 pub gathered_none : (room : ℕ) (bytes : List ℕ) (start : ℕ) (t : Tree) → t ≡ empty → StandsAt bytes start (123 ∷ []) (start + 1) → Gathered room bytes start t (start + 1)
 gathered_none room bytes start t e h =
-    let none = ap edges e ∙ edges_empty in
+    let none = ap edges e ∙ edges_empty false in
     record {
       spelled = rw none h.spelled;
       fits = rw none tt;

@@ -2,11 +2,14 @@
 use Rattle.std.proofs.Common.{◌≡◌, ℕ, ◌<◌, ◌≤◌, Bool, true, false, List, [], ◌∷◌, ◌++◌, refl, sym, ap, ◌∙◌, append_assoc, arith}
 use Rattle.std.specs.List.{AllByRecursion}
 use Rattle.hm_tree.specs.Names.{Name}
-use Rattle.hm_tree.specs.Nodes.{Node, Tree, edges, node, joined, is_marked, depth, deepest}
-use Rattle.hm_tree.specs.NodeLaws.{node-edges, edges_sorted, shape_checked, depth-edges, tree_unmarked}
+use Rattle.hm_tree.specs.Nodes.{Node, Tree, edges, node, joined, is_marked, depth, deepest, empty}
+use Rattle.hm_tree.specs.NodeLaws.{node-edges, node-nil, edges-node, edges_sorted, shape_checked, depth-edges, tree_unmarked}
 use Rattle.hm_tree_text.specs.Text.{quoted, whole, below, further, text, IsPlain, IsPlainShape}
 use Rattle.hm_tree_text.specs.Reading.{edge_text, separator, Fits}
 use Rattle.hm_tree_text.proofs.Spelling.{edge_apart}
+
+pub edges_empty : (m : Bool) → edges (empty {m = m}) ≡ []
+edges_empty m = ap edges (sym (node-nil [] refl)) ∙ edges-node [] tt
 
 module _ {m : Bool} where
   abbrev pub is_more : List (Name × Node m) → Bool
@@ -40,11 +43,12 @@ module _ {m : Bool} where
   unfolding node
   shape_joined t u = sym (ap (λ (n : Node m). n.shape) (node-edges t u)) ∙ shape_checked (edges t) _ refl (edges_sorted t)
 
-  commas_more : (es : List (Name × Node m)) (e : Name × Node m) (x : List ℕ) → commas (es ++ e ∷ []) ++ x ≡ commas es ++ ((edge_text e.0 e.1.shape ++ 44 ∷ []) ++ x)
-  commas_more [] e x = refl
-  commas_more (f ∷ es) e x =
+  -- an edge behind the others
+  pub commas_last : (es : List (Name × Node m)) (e : Name × Node m) (x : List ℕ) → commas (es ++ e ∷ []) ++ x ≡ commas es ++ ((edge_text e.0 e.1.shape ++ 44 ∷ []) ++ x)
+  commas_last [] e x = refl
+  commas_last (f ∷ es) e x =
       append_assoc (edge_text f.0 f.1.shape) (44 ∷ commas (es ++ e ∷ [])) x
-      ∙ ap (λ l. edge_text f.0 f.1.shape ++ 44 ∷ l) (commas_more es e x)
+      ∙ ap (λ l. edge_text f.0 f.1.shape ++ 44 ∷ l) (commas_last es e x)
       ∙ sym (append_assoc (edge_text f.0 f.1.shape) (44 ∷ commas es) _)
 
   is_more_append : (es : List (Name × Node m)) (e : Name × Node m) → is_more (es ++ e ∷ []) ≡ true
@@ -61,9 +65,6 @@ module _ {m : Bool} where
       ∙ sym (append_assoc (edge_text f.0 f.1.shape) (separator (is_more (es ++ e ∷ [])) ∷ inside (es ++ e ∷ [])) x)
 
 module _ {m : Bool} where
-  pub commas_last : (es : List (Name × Node m)) (e : Name × Node m) (x : List ℕ) → commas (es ++ e ∷ []) ++ x ≡ commas es ++ ((edge_text e.0 e.1.shape ++ 44 ∷ []) ++ x)
-  commas_last es e x = commas_more es e x
-
   -- a whole node by its edges, the last of which stands apart
   pub whole_last : (es : List (Name × Node m)) (e : Name × Node m) (x : List ℕ) → text whole (joined (es ++ e ∷ [])) ++ x ≡ 123 ∷ (commas es ++ ((edge_text e.0 e.1.shape ++ 125 ∷ []) ++ x))
   whole_last es e x = ap (λ l. l ++ x) (whole_some es e) ∙ ap (λ l. 123 ∷ l) (sym (closing es e x))

@@ -20,13 +20,13 @@ joins bytes one two start middle end g h = record {
   within = h.within;
 }
 
+pub none : {X : Type 0} (xs : List X) → length xs ≡ 0 → xs ≡ []
+none [] e = refl
+none (x ∷ xs) e = absurd (omega arith)
+
 -- a line feed at the end
 pub last_there : (bytes : List ℕ) (start : ℕ) → StandsAt bytes start line_feed (start + 1) → start + 1 ≡ length bytes → drop start bytes ≡ line_feed
-last_there bytes start h e = h.spelled ∙ ap (λ l. 10 ∷ l) (nothing (drop (start + 1) bytes) (let l = length-drop (start + 1) bytes in omega arith))
-  where
-    nothing : (l : List ℕ) → length l ≡ 0 → l ≡ []
-    nothing [] e = refl
-    nothing (x ∷ l) e = absurd (omega arith)
+last_there bytes start h e = h.spelled ∙ ap (λ l. 10 ∷ l) (none (drop (start + 1) bytes) (let l = length-drop (start + 1) bytes in omega arith))
 
 pub last_only : (bytes : List ℕ) (start : ℕ) → start + 1 ≤ length bytes → drop start bytes ≡ line_feed → start + 1 ≡ length bytes
 last_only bytes start le e = let l = ap length e in let d = length-drop start bytes in omega arith

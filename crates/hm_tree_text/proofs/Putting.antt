@@ -1,22 +1,19 @@
 -- What is written of a node, edge by edge.
 use Rattle.std.proofs.Common.{◌≡◌, ℕ, zero, suc, ◌+◌, ◌<◌, ◌≤◌, Bool, true, false, cond, nat_lt, List, [], ◌∷◌, ◌++◌, map, length, drop, Some, None, slice_get, refl, sym, ap, ◌∙◌, append_assoc, arith, add-one}
-use Rattle.std.proofs.lemmas.List.{append-nil}
+use Rattle.std.proofs.lemmas.List.{append-nil, length-map}
 use Rattle.std.proofs.lemmas.Bool.{ltb-true, ltb-false}
 use mathlib.Core.Bool.{true≢false}
 use Rattle.hm_tree.specs.declared.archive.State.TheVariants.{Missing, Present, Marked}
 use Rattle.hm_tree.specs.Names.{Name}
-use Rattle.hm_tree.specs.Nodes.{Shape, bare, mark, edge, Node, edges, joined, is_mark, is_marked, empty}
-use Rattle.hm_tree.specs.NodeLaws.{edges-marked, node-nil, edges-node}
+use Rattle.hm_tree.specs.Nodes.{Shape, bare, mark, edge, Node, edges, joined, is_mark, is_marked}
+use Rattle.hm_tree.specs.NodeLaws.{edges-marked}
 use Rattle.hm_tree.specs.Archives.{Archive, edges_here}
 use Rattle.hm_tree.specs.States.{state}
 use Rattle.hm_tree_text.specs.Text.{quoted, whole, below, text, line_feed, archive_text}
 use Rattle.hm_tree_text.specs.Reading.{edge_text, separator}
 use Rattle.hm_tree_text.specs.Writing.{present}
-use Rattle.hm_tree_text.proofs.Listed.{inside, is_more, shape_joined, whole_joined, below_joined}
-
-none : {X : Type 0} (xs : List X) → length xs ≡ 0 → xs ≡ []
-none [] e = refl
-none (x ∷ xs) e = absurd (omega arith)
+use Rattle.hm_tree_text.proofs.Places.{none}
+use Rattle.hm_tree_text.proofs.Listed.{edges_empty, inside, is_more, shape_joined, whole_joined, below_joined}
 
 module _ (t : Node true) where
   -- a mark has no edges
@@ -62,6 +59,14 @@ module _ (t : Node true) where
       by [] h = absurd (h refl)
       by (e ∷ es) h = whole_joined e es
 
+  -- behind a colon
+  pub put_colon : (length (edges t) ≡ 0 → ⊥) → (old now : List ℕ) → now ≡ old ++ 58 ∷ [] → now ++ text whole t.shape ≡ old ++ text below t.shape
+  put_colon some old now e = ap (λ l. l ++ text whole t.shape) e ∙ append_assoc old (58 ∷ []) (text whole t.shape) ∙ ap (λ l. old ++ l) (sym (below_some some))
+
+  -- two braces alone
+  pub put_braces : is_marked t ≡ false → length (edges t) ≡ 0 → (old one two : List ℕ) → one ≡ old ++ 123 ∷ [] → two ≡ one ++ 125 ∷ [] → two ≡ old ++ text whole t.shape
+  put_braces m none old one two e f = f ∙ ap (λ l. l ++ 125 ∷ []) e ∙ append_assoc old (123 ∷ []) (125 ∷ []) ∙ ap (λ l. old ++ l) (sym (whole_none m none))
+
 -- ---- one edge more
 
 drop_at : {X : Type 0} (xs : List X) (i : ℕ) (x : X) → slice_get xs i ≡ Some x → drop i xs ≡ x ∷ drop (suc i) xs
@@ -99,21 +104,14 @@ put_edge es i k c before named child after rest b count counts at one two three 
     regroup a q t b x = simp append_assoc
 
 -- all edges are written
-pub put_all : (es : List (Name × Node true)) (i : ℕ) (now rest : List ℕ) → length es ≤ i → now ++ inside (drop i es) ≡ rest → now ≡ rest
-put_all es i now rest le e = sym (append-nil now) ∙ ap (λ l. now ++ inside l) (sym (drop_none es i le)) ∙ e
+pub put_all : (t : Node true) (i : ℕ) (now old : List ℕ) → (length (edges t) ≡ 0 → ⊥) → length (edges t) ≤ i → now ++ inside (drop i (edges t)) ≡ old ++ 123 ∷ inside (edges t) → now ≡ old ++ text whole t.shape
+put_all t i now old some le e = sym (append-nil now) ∙ ap (λ l. now ++ inside l) (sym (drop_none (edges t) i le)) ∙ e ∙ ap (λ l. old ++ l) (sym (whole_some t some))
 
 -- ---- archives
 
-edges_empty : edges (empty {m = true}) ≡ []
-edges_empty = ap edges (sym (node-nil [] refl)) ∙ edges-node [] tt
-
-length_map : {X Y : Type 0} (f : X → Y) (xs : List X) → length (map f xs) ≡ length xs
-length_map f [] = refl
-length_map f (x ∷ xs) = ap suc (length_map f xs)
-
 pub count_present : (a : Archive) → length (edges_here a) ≡ length (edges (present a))
-count_present None = sym (ap length edges_empty)
-count_present (Some t) = length_map _ (edges t)
+count_present None = sym (ap length (edges_empty true))
+count_present (Some t) = length-map _ _
 
 pub edge_present : (a : Archive) (i : ℕ) (k : Name) (c : Archive) → slice_get (edges_here a) i ≡ Some (k, c) → slice_get (edges (present a)) i ≡ Some (k, present c)
 edge_present None i k c e = let no : ⊥ = cc in absurd no

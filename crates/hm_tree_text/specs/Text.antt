@@ -20,7 +20,7 @@ pub data Position : Type 0 where
   further : Position
 
 -- what is written where there is no edge, where there is a mark, and before an edge.
--- No mark is written behind a name so far.
+-- No mark is written behind a name so far; and none stands in place of further edges.
 abbrev pub none : Position → List ℕ
 none whole = codes "{}"
 none below = []
@@ -36,6 +36,7 @@ before whole = codes "{"
 before below = codes ":{"
 before further = codes ","
 
+-- the text of a node at its position
 abbrev pub text : Position → Shape → List ℕ
 text p bare = none p
 text p mark = exclaimed p

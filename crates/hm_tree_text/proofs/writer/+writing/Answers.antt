@@ -1,14 +1,13 @@
-use Rattle.std.proofs.Common.{◌++◌, ◌∷◌, [], rules, sym, ap, ◌∙◌, append_assoc, arith}
+use Rattle.std.proofs.Common.{◌++◌, rules, sym, ap, ◌∙◌, arith}
 use Rattle.std.proofs.lemmas.List.{append-nil}
 use Rattle.std.proofs.lemmas.Result.{IfOk-equal}
-use Rattle.hm_tree.specs.Nodes.{edges}
 use Rattle.hm_tree.proofs.Depths.{depth_edge}
-use Rattle.hm_tree_text.specs.Text.{text, whole}
-use Rattle.hm_tree_text.proofs.Putting.{unmarked, below_none, whole_none, below_some, whole_some, put_edge, put_all}
+use Rattle.hm_tree_text.proofs.Putting.{unmarked, below_none, put_colon, put_braces, put_edge, put_all}
 use Rattle.hm_tree_text.proofs.writer.+writing.Goals as goal
 
 pub put_below-returns-then-count-eq0 : goal.put_below-returns-then-count-eq0
-put_below-returns-then-count-eq0 g t c = sym (ap (λ l. c.args.text.now.items ++ l) (below_none _ (sym c.count.ensures ∙ c.if-count-eq0.true)) ∙ append-nil _)
+put_below-returns-then-count-eq0 g t c =
+    sym (ap (λ l. c.args.text.now.items ++ l) (below_none _ (sym c.count.ensures ∙ c.if-count-eq0.true)) ∙ append-nil _)
 
 pub put_below-put_whole-requires : goal.put_below-put_whole-requires
 put_below-put_whole-requires g t c =
@@ -17,13 +16,11 @@ put_below-put_whole-requires g t c =
 
 pub put_below-returns : goal.put_below-returns
 put_below-returns g t c =
-    let some = below_some (g.N.Written.node c.args.node.now) (λ e. c.if-count-eq0.false (c.count.ensures ∙ e)) in
-    IfOk-equal _ _ _ _ c.put_whole.ensures (ap (λ l. l ++ text whole (g.N.Written.node c.args.node.now).shape) c.in_ok-push.ensures.items ∙ append_assoc c.args.text.now.items (58 ∷ []) _ ∙ ap (λ l. c.args.text.now.items ++ l) (sym some))
+    IfOk-equal _ _ _ _ c.put_whole.ensures (put_colon (g.N.Written.node c.args.node.now) (λ e. c.if-count-eq0.false (c.count.ensures ∙ e)) _ _ c.in_ok-push.ensures.items)
 
 pub put_whole-returns-then-count-eq0 : goal.put_whole-returns-then-count-eq0
 put_whole-returns-then-count-eq0 g t c =
-    let empty = whole_none _ c.requires (sym c.count-count.ensures ∙ c.if-count-eq0.true) in
-    c.in_ok-push-2.ensures.items ∙ ap (λ l. l ++ 125 ∷ []) c.in_ok-push.ensures.items ∙ append_assoc c.args.text.now.items (123 ∷ []) (125 ∷ []) ∙ ap (λ l. c.args.text.now.items ++ l) (sym empty)
+    put_braces _ c.requires (sym c.count-count.ensures ∙ c.if-count-eq0.true) _ _ _ c.in_ok-push.ensures.items c.in_ok-push-2.ensures.items
 
 pub put_whole-put_below-requires : goal.put_whole-put_below-requires
 put_whole-put_below-requires g t c =
@@ -36,5 +33,5 @@ put_whole-loop-place-preserved g t c =
 
 pub put_whole-returns : goal.put_whole-returns
 put_whole-returns g t c =
-    let some = whole_some (g.N.Written.node c.args.node.now) (λ e. c.if-count-eq0.false (c.count-count.ensures ∙ e)) in
-    put_all (edges (g.N.Written.node c.args.node.now)) c.loop-place.place c.loop-place.text.items _ (let n = c.count-count.ensures in omega arith) c.loop-place.invariant ∙ ap (λ l. c.args.text.now.items ++ l) (sym some)
+    let n = c.count-count.ensures in
+    put_all (g.N.Written.node c.args.node.now) c.loop-place.place c.loop-place.text.items _ (λ e. c.if-count-eq0.false (n ∙ e)) (omega arith) c.loop-place.invariant
