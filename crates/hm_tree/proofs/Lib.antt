@@ -4,3 +4,8 @@ pub mod Deepest
 pub mod States
 pub mod Extent
 pub mod Kept
+pub mod Spelled
+pub mod Classed
+pub mod Folded
+pub mod CleanText
+pub mod NameSets

@@ -1,5 +1,5 @@
 -- What a search finds among edges, and what an edit at that place does.
-use Rattle.std.proofs.Common.{◌≡◌, ℕ, zero, suc, ◌+◌, ◌<◌, ◌≤◌, ◌≢◌, Bool, true, false, cond, not, T, List, [], ◌∷◌, length, get_or, slice_get, Some, None, Result, Ok, Err, IfOk, IfErr, refl, sym, ap, subst, ◌∙◌, arith, inl, inr}
+use Rattle.std.proofs.Common.{◌≡◌, ℕ, zero, suc, ◌+◌, ◌-◌, ◌<◌, ◌≤◌, ◌≢◌, Bool, true, false, cond, not, T, List, [], ◌∷◌, length, get_or, slice_get, Some, None, Result, Ok, Err, IfOk, IfErr, refl, sym, ap, subst, ◌∙◌, arith, inl, inr}
 use Rattle.std.specs.Ordering.{is_lt, is_eq, eq_by_cmp, ordering_index, ordering_reverse}
 use Rattle.std.specs.declared.cmp.Ordering.{Ordering}
 use Rattle.std.specs.declared.cmp.Ordering.TheVariants.{Less, Equal, Greater}
@@ -36,7 +36,7 @@ pub ruleset seen = (edges_seen, edges-node, slice_get_read)
 pub not_None : {A : Type 0} (x : A) → Some x ≢ None
 not_None x e = cc
 
-is_less : (o : Ordering) → T (is_lt o) → o ≡ Less
+pub is_less : (o : Ordering) → T (is_lt o) → o ≡ Less
 is_less Less p = refl
 is_less Equal p = absurd p
 is_less Greater p = absurd p
@@ -186,6 +186,26 @@ below_with q k c t = ap (find name_cmp q) (edges-node (put name_cmp k c (edges t
 
 slice_get_within : {X : Type 0} (xs : List X) (i : ℕ) (x : X) → slice_get xs i ≡ Some x → i < length xs
 slice_get_within xs i x e = elim ((slice_get_cases xs i).1) [ inl w ↦ w.1 | inr w ↦ absurd (not_None x (sym e ∙ w.1)) ]
+
+-- a name greater than the last one would go to the end
+pub past : {X : Type 0} (k : Name) (es : List (Name × X)) → T (is_sorted name_cmp es) → (d : Name × X) → slice_get es (length es - 1) ≡ Some d → name_cmp d.0 k ≡ Less → IsGapFor k es (length es)
+past {X = X} k es h d e less = record {
+  place = rank_is k es (length es) (omega arith) (λ j x lt. before j x lt) (λ x lt. absurd (omega arith));
+  in_range = omega arith;
+  absent = not_found k es (λ j x lt. ap is_eq (back_less k _ (before j x lt)));
+}
+  where
+    within : length es - 1 < length es
+    within = slice_get_within es (length es - 1) d e
+
+    last_is : (x : Name × X) → get_or es (length es - 1) x ≡ d
+    last_is x = get_or_from_slice_get es (length es - 1) d x e
+
+    before : (j : ℕ) (x : Name × X) → j < length es → name_cmp (get_or es j x).0 k ≡ Less
+    before j x lt = elim (cases_lt j (length es - 1)) [
+      | inl early ↦ name_total.trans _ _ _ (rises es h j (length es - 1) x early within) (ap (λ (y : Name × X). name_cmp y.0 k) (last_is x) ∙ less)
+      | inr above ↦ let same : j ≡ length es - 1 = omega arith in ap (λ i. name_cmp (get_or es i x).0 k) same ∙ ap (λ (y : Name × X). name_cmp y.0 k) (last_is x) ∙ less
+    ]
 
 -- an edge's child stands under its name
 pub below_edge : {m : Bool} (t : Node m) (i : ℕ) (k : Name) (c : Node m) → slice_get (edges t) i ≡ Some (k, c) → below k t ≡ Some c

@@ -4,3 +4,7 @@ pub mod NodeLaws
 pub mod Archives
 pub mod States
 pub mod Edges
+pub mod Spelling
+pub mod SpellingLaws
+pub mod Cleaned
+pub mod Classes

@@ -14,3 +14,8 @@ abbrev pub state : {m : Bool} → Option (Node m) → Path → State
 state None p = Missing
 state (Some t) [] = cond (is_marked t) Marked Present
 state (Some t) (k ∷ p) = cond (is_marked t) Marked (state (below k t) p)
+
+-- what it has at each path whose first name isn't there
+abbrev pub state_off : {m : Bool} → Option (Node m) → State
+state_off None = Missing
+state_off (Some t) = cond (is_marked t) Marked Missing

@@ -1,15 +1,16 @@
 //! Archives.
 #![tactic(auto, using(crate::proofs::Kept::seen))]
 
-ghost use Rattle.std.specs.Prelude.{◌≡◌, ◌↔◌, IsTrue, ◌<◌, length, OnOk, OnErr, IfOk, [], Some, None, is_some, slice_get};
+ghost use Rattle.std.specs.Prelude.{◌≡◌, ◌↔◌, IsTrue, ◌<◌, length, OnOk, OnErr, IfOk, [], Some, None, is_some, slice_get, MatchOption};
 ghost use Rattle.hm_tree.specs.Nodes.{marked, empty};
 ghost use Rattle.hm_tree.specs.Archives.{recorded, under, with_archive, edges_here};
-ghost use Rattle.hm_tree.specs.States.{state};
+ghost use Rattle.hm_tree.specs.States.{state, state_off};
 ghost use Rattle.hm_tree.specs.declared.archive.State.TheVariants.{Present};
 
 use crate::edges::place_of;
 use crate::memory::Memory;
 use crate::name::Name;
+use crate::path::Path;
 use crate::tree::Tree;
 use std::alloc::Global;
 use std::marker::Model;
@@ -100,6 +101,41 @@ impl Archive {
     {
         let edge = &self.edges[place];
         (&edge.0, &edge.1)
+    }
+
+    /// The archive at a name; none where the root isn't present or nothing stands at the name.
+    pub fn child(&self, name: &Name) -> Option<&Archive>
+        ensures { MatchOption result (under name.now self.now ≡ None) (λ child. (child.now ≡ under name.now self.now) × IsTrue (is_some child.now)) }
+    {
+        match place_of(&self.edges, name) {
+            Ok(at) => Some(&self.edges[at].1),
+            Err(_) => None,
+        }
+    }
+
+    /// What it has at a path.
+    #[tactic(auto, using(crate::proofs::States::archive_steps))]
+    pub fn state(&self, path: &Path) -> State
+        ensures { result ≡ state self.now path.now }
+    {
+        let mut here = self;
+        for name in &path.names {
+            match here.child(name) {
+                Some(child) => here = child,
+                None => return here.off(),
+            }
+        }
+        here.root()
+    }
+
+    // What it has below a name under which nothing stands.
+    fn off(&self) -> State
+        ensures { result ≡ state_off self.now }
+    {
+        match self.root {
+            State::Marked => State::Marked,
+            _ => State::Missing,
+        }
     }
 
     /// Puts an archive that isn't missing at a name.

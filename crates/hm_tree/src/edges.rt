@@ -1,5 +1,5 @@
 //! Edges in the order of their names.
-ghost use Rattle.std.specs.Prelude.{T, IfOk, IfErr};
+ghost use Rattle.std.specs.Prelude.{T, IfOk, IfErr, IsTrue, length};
 ghost use Rattle.std.specs.FinMap.{is_sorted};
 ghost use Rattle.hm_tree.specs.Names.{name_cmp};
 ghost use Rattle.hm_tree.specs.Edges.{IsPlaceOf, IsGapFor};
@@ -12,5 +12,19 @@ pub fn place_of<V>(edges: &[(Name, V)], name: &Name) -> Result<usize, usize>
     ensures found { IfOk result (IsPlaceOf name.now edges.now) }
     ensures absent { IfErr result (IsGapFor name.now edges.now) }
 {
+    if is_past(edges, name) {
+        return Err(edges.len());
+    }
     edges.binary_search_by(|edge| edge.0.order(name))
+}
+
+// Whether a name is greater than the last one, as each is where names come in ascending order.
+fn is_past<V>(edges: &[(Name, V)], name: &Name) -> bool
+    requires { T (is_sorted name_cmp edges.now) }
+    ensures { IsTrue result → IsGapFor name.now edges.now (length edges.now) }
+{
+    match edges.last() {
+        Some(last) => last.0.order(name).is_lt(),
+        None => false,
+    }
 }

@@ -1,7 +1,12 @@
 //! Names, which are texts in the order of their UTF-8 bytes.
-ghost use Rattle.std.specs.Prelude.{◌≡◌, ◌↔◌, IsTrue, IfOk};
+ghost use Rattle.std.specs.Prelude.{◌≡◌, ◌↔◌, IsTrue, IfOk, string_bytes};
 ghost use Rattle.hm_tree.specs.Names.{name_cmp};
+ghost use Rattle.hm_tree.specs.Cleaned.{cleaned};
+ghost use Rattle.hm_tree.specs.Classes.{IsInClass};
 
+use crate::class::{Class, is_filled, is_trimmed};
+use crate::cleaning::{clean_bytes, is_clean};
+use crate::folding::is_own_folding;
 use crate::memory::Memory;
 use std::alloc::Global;
 use std::cmp::Ordering;
@@ -11,6 +16,8 @@ use std::marker::Model;
 #[derive(Drop)]
 pub struct Name {
     text: String,
+    // Whether the text equals its own full case folding.
+    folded: bool,
 }
 
 impl Model for Name {
@@ -18,7 +25,12 @@ impl Model for Name {
 
     ghost Value = { List ℕ };
 
+    ghost use Rattle.std.specs.Prelude.{◌≡◌, ◌↔◌, IsTrue};
+    ghost use Rattle.hm_tree.specs.Classes.{folding};
+
     ghost view = { λ n. string_bytes n.text };
+
+    ghost invariant = { λ n. IsTrue n.folded ↔ (folding (string_bytes n.text) ≡ string_bytes n.text) };
 }
 
 impl Name {
@@ -26,9 +38,42 @@ impl Name {
     pub fn from_text(alloc: Global, text: &str) -> Result<Name, Memory>
         ensures { IfOk result (λ name. name ≡ text.now) }
     {
-        Ok(Name {
-            text: String::from_str(alloc, text)?,
-        })
+        Name::from_string(alloc, String::from_str(alloc, text)?)
+    }
+
+    /// The name with the bytes of a text, which it takes over.
+    pub fn from_string(alloc: Global, text: String) -> Result<Name, Memory>
+        ensures { IfOk result (λ name. name ≡ string_bytes text) }
+    {
+        let folded = is_own_folding(alloc, text.as_str())?;
+        Ok(Name { text, folded })
+    }
+
+    /// The name of what is left of a text where each CRLF and each other CR is made LF, and control characters other than tab and LF are dropped.
+    pub fn cleaned(alloc: Global, text: &str) -> Result<Name, Memory>
+        ensures { IfOk result (λ name. name ≡ cleaned text.now) }
+    {
+        if is_clean(text.as_bytes()) {
+            return Name::from_text(alloc, text);
+        }
+        let bytes = clean_bytes(alloc, text.as_bytes())?;
+        match String::from_utf8(bytes) {
+            Ok(text) => Name::from_string(alloc, text),
+            Err(_) => unreachable!(),
+        }
+    }
+
+    /// Whether it is in a class.
+    pub fn in_class(&self, class: Class) -> bool
+        ensures { IsTrue result ↔ IsInClass class self.now }
+    {
+        match class {
+            Class::Any => true,
+            Class::Clean => is_clean(self.bytes()),
+            Class::Filled => is_filled(self.bytes()),
+            Class::Trimmed => is_trimmed(self.bytes()),
+            Class::Folded => is_trimmed(self.bytes()) && self.folded,
+        }
     }
 
     /// Its text.
@@ -51,6 +96,7 @@ impl Name {
     {
         Ok(Name {
             text: self.text.clone()?,
+            folded: self.folded,
         })
     }
 

@@ -1,13 +1,16 @@
 //! Trees.
 #![tactic(auto, using(crate::proofs::Sorted::seen))]
 
-ghost use Rattle.std.specs.Prelude.{◌≡◌, ◌↔◌, IsTrue, ◌<◌, length, [], IfOk, OnOk, OnErr, IfErr, slice_get, None, ◌^◌};
+ghost use Rattle.std.specs.Prelude.{◌≡◌, ◌↔◌, IsTrue, ◌<◌, length, IfOk, OnOk, OnErr, IfErr, slice_get, Some, None, option_copied};
 ghost use Rattle.hm_tree.specs.Nodes.{edges, below, with_edge, depth, empty};
 ghost use Rattle.hm_tree.specs.Edges.{IsPlaceOf, IsGapFor};
+ghost use Rattle.hm_tree.specs.States.{state};
+ghost use Rattle.hm_tree.specs.declared.archive.State.TheVariants.{Present};
 
 use crate::edges::place_of;
 use crate::memory::Memory;
 use crate::name::Name;
+use crate::path::Path;
 use std::alloc::Global;
 use std::marker::Model;
 
@@ -63,6 +66,31 @@ impl Tree {
     {
         let edge = &self.edges[place];
         (&edge.0, &edge.1)
+    }
+
+    /// The subtree under a name; none where there is no such edge.
+    pub fn child(&self, name: &Name) -> Option<&Tree>
+        ensures { option_copied result ≡ below name.now self.now }
+    {
+        match self.place(name) {
+            Ok(at) => Some(&self.edges[at].1),
+            Err(_) => None,
+        }
+    }
+
+    /// Whether something stands at a path.
+    #[tactic(auto, using(crate::proofs::States::tree_steps))]
+    pub fn has(&self, path: &Path) -> bool
+        ensures { IsTrue result ↔ (state (Some self.now) path.now ≡ Present) }
+    {
+        let mut here = self;
+        for name in &path.names {
+            match here.child(name) {
+                Some(child) => here = child,
+                None => return false,
+            }
+        }
+        true
     }
 
     /// Adds an edge. A name greater than all others costs no move of edges.

@@ -1,0 +1,39 @@
+-- What the classes of names say of a text's bytes.
+use Rattle.std.proofs.Common.{◌≡◌, ℕ, suc, true, false, not, IsTrue, List, [], ◌∷◌, refl, sym, ap, ◌∙◌, subst, arith, inl, inr}
+use Rattle.std.specs.Bool.{◌==◌}
+use Rattle.std.specs.List.{All, filter}
+use Rattle.std.proofs.lemmas.List.Elements.{All-cons}
+use Rattle.std.proofs.lemmas.Bool.{eqb-true, cases_Bool, true≢false, and_from, cond_both}
+use Rattle.hm_tree.specs.Names.{Name}
+use Rattle.hm_tree.specs.Cleaned.{line_ends, is_kept, cleaned, has_no_return, line_ends_same}
+
+kept_no_return : (b : ℕ) → is_kept b ≡ true → not (b == 13) ≡ true
+kept_no_return b h = elim (cases_Bool (b == 13)) [
+  | inl e ↦ let bad : false ≡ true = rw (eqb-true b 13 e) at h in absurd (true≢false (sym bad))
+  | inr e ↦ rw e refl
+]
+
+no_return_from_kept : (t : List ℕ) → All (λ b. IsTrue (is_kept b)) t → has_no_return t ≡ true
+no_return_from_kept [] all = refl
+no_return_from_kept (b ∷ t) all = and_from (not (b == 13)) (has_no_return t) (kept_no_return b (all 0 0 (omega arith))) (no_return_from_kept t (λ k d lt. all (suc k) d (omega arith)))
+
+filter_kept : (t : List ℕ) → All (λ b. IsTrue (is_kept b)) t → filter is_kept t ≡ t
+filter_kept [] all = refl
+filter_kept (b ∷ t) all = rw (all 0 0 (omega arith)) (ap (λ l. b ∷ l) (filter_kept t (λ k d lt. all (suc k) d (omega arith))))
+
+pub clean_from_kept : (t : Name) → All (λ b. IsTrue (is_kept b)) t → cleaned t ≡ t
+unfolding cleaned
+clean_from_kept t all = ap (filter is_kept) (line_ends_same t (no_return_from_kept t all)) ∙ filter_kept t all
+
+All_filtered : (t : List ℕ) → All (λ b. IsTrue (is_kept b)) (filter is_kept t)
+All_filtered [] = λ k d lt. absurd (omega arith)
+All_filtered (b ∷ t) =
+    cond_both (is_kept b) (b ∷ filter is_kept t) (filter is_kept t) (λ l. All (λ b. IsTrue (is_kept b)) l)
+    (λ e. All-cons (λ b. IsTrue (is_kept b)) b (filter is_kept t) e (All_filtered t))
+    (λ _. All_filtered t)
+
+pub kept_from_clean : (t : Name) → cleaned t ≡ t → All (λ b. IsTrue (is_kept b)) t
+unfolding cleaned
+kept_from_clean t e = subst (All (λ b. IsTrue (is_kept b))) e (All_filtered (line_ends false t))
+
+pub ruleset clean_laws = (clean_from_kept, kept_from_clean)

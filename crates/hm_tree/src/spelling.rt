@@ -1,0 +1,189 @@
+//! The one spelling of a name in a file: between quotes, with what doesn't stand for itself escaped.
+ghost use Rattle.std.specs.Prelude.{◌≡◌, ◌≢◌, ◌<◌, ◌≤◌, ◌∷◌, [], ◌++◌, List, ℕ, length, take, slice_index, false, IfOk, OnOk, OnErr, MatchOption, is_ok, if◌then◌else◌};
+ghost use Rattle.hm_tree.specs.Spelling.{is_quote_or_backslash, is_control, is_plain, spelled_byte, escaped, spelled, IsUnspelled, IsUnspelledByte};
+ghost use Rattle.std.specs.Char.{digit_char};
+
+use crate::memory::Memory;
+use crate::name::Name;
+use std::alloc::Global;
+
+/// How a name is spelled.
+pub fn spell_name(alloc: Global, name: &Name) -> Result<Vec<u8>, Memory>
+    ensures { IfOk result (λ bytes. bytes.items ≡ spelled name.now) }
+{
+    let mut out = Vec::new(alloc);
+    append_spelled(name, &mut out)?;
+    Ok(out)
+}
+
+/// Appends how a name is spelled.
+pub fn append_spelled(name: &Name, out: &mut Vec<u8>) -> Result<(), Memory>
+    ensures ok { OnOk result (out.new.items ≡ out.old.items ++ spelled name.now) }
+    ensures err { OnErr result (out.new.items ≡ out.old.items) }
+{
+    let start = out.len();
+    let appended = append_pieces(name.bytes(), out);
+    if appended.is_err() {
+        out.truncate(start);
+    }
+    appended
+}
+
+// Appends a spelling piece by piece; without memory for one of them the pieces before it stay.
+fn append_pieces(bytes: &[u8], out: &mut Vec<u8>) -> Result<(), Memory>
+    ensures ok { OnOk result (out.new.items ≡ out.old.items ++ spelled bytes.now) }
+    ensures kept { (rest : List ℕ) × (out.new.items ≡ out.old.items ++ rest) }
+{
+    out.push(b'"')?;
+    let plain = plain_len(bytes);
+    out.extend_from_slice(&bytes[..plain])?;
+    for byte in &bytes[plain..] {
+        append_byte(*byte, out)?;
+    }
+    out.push(b'"')?;
+    Ok(())
+}
+
+// Appends how one byte is spelled.
+fn append_byte(byte: u8, out: &mut Vec<u8>) -> Result<(), Memory>
+    ensures { out.new.items ≡ (if is_ok result then out.old.items ++ spelled_byte byte else out.old.items) }
+{
+    if is_quote_or_backslash(byte) {
+        out.extend_from_slice(&[b'\\', byte])?;
+    } else if is_control(byte) {
+        out.extend_from_slice(&[b'\\', b'x', hexadecimal(byte / 16), hexadecimal(byte % 16)])?;
+    } else {
+        out.push(byte)?;
+    }
+    Ok(())
+}
+
+// The lower-case hexadecimal digit of a number below 16.
+fn hexadecimal(digit: u8) -> u8
+    requires { digit < 16 }
+    ensures { result ≡ digit_char digit }
+{
+    if digit < 10 {
+        b'0' + digit
+    } else {
+        b'a' + (digit - 10)
+    }
+}
+
+// How many of the first bytes stand for themselves.
+fn plain_len(bytes: &[u8]) -> usize
+    ensures within { result ≤ length bytes.now }
+    ensures plain { escaped (take result bytes.now) ≡ take result bytes.now }
+    ensures longest { result < length bytes.now → is_plain (slice_index bytes.now result) ≡ false }
+{
+    let mut at = 0;
+    while at < bytes.len() && is_plain(bytes[at]) {
+        at += 1;
+    }
+    at
+}
+
+// Whether a byte is " or \.
+fn is_quote_or_backslash(byte: u8) -> bool
+    ensures { result ≡ is_quote_or_backslash byte }
+{
+    byte == b'"' || byte == b'\\'
+}
+
+fn is_control(byte: u8) -> bool
+    ensures { result ≡ is_control byte }
+{
+    byte < 32 || byte == 127
+}
+
+// Whether a byte stands for itself.
+fn is_plain(byte: u8) -> bool
+    ensures { result ≡ is_plain byte }
+{
+    !(is_quote_or_backslash(byte) || is_control(byte))
+}
+
+/// The name that is spelled at the front, and the length of that spelling; none where no name's spelling stands there.
+pub fn unspell_name(alloc: Global, bytes: &[u8]) -> Result<Option<(Name, usize)>, Memory>
+    ensures { IfOk result (IsUnspelled bytes.now) }
+{
+    let Some(first) = bytes.first() else {
+        return Ok(None);
+    };
+    if *first != b'"' {
+        return Ok(None);
+    }
+    unspell_rest(alloc, &bytes[1..])
+}
+
+// The same behind the first quote.
+fn unspell_rest(alloc: Global, rest: &[u8]) -> Result<Option<(Name, usize)>, Memory>
+    ensures { IfOk result (IsUnspelled (34 ∷ rest.now)) }
+{
+    let Some((text, length)) = unescape(alloc, rest)? else {
+        return Ok(None);
+    };
+    match String::from_utf8(text) {
+        Ok(text) => Ok(Some((Name::from_string(alloc, text)?, length + 1))),
+        Err(_) => Ok(None),
+    }
+}
+
+// The bytes whose spelling ends at the first quote that isn't escaped, and its length with that quote.
+fn unescape(alloc: Global, bytes: &[u8]) -> Result<Option<(Vec<u8>, usize)>, Memory>
+    ensures { IfOk result (λ found. MatchOption found ((name rest : List ℕ) → bytes.now ≢ escaped name ++ 34 ∷ rest) (λ f. (f.1 ≤ length bytes.now) × (take f.1 bytes.now ≡ escaped f.0.items ++ 34 ∷ []))) }
+{
+    let mut at = plain_len(bytes);
+    let mut text = Vec::with_capacity(alloc, at)?;
+    text.extend_from_slice(&bytes[..at])?;
+    while at < bytes.len() && bytes[at] != b'"' {
+        match byte_at(&bytes[at..]) {
+            Some((byte, length)) => {
+                text.push(byte)?;
+                at += length;
+            }
+            None => return Ok(None),
+        }
+    }
+    if at < bytes.len() {
+        Ok(Some((text, at + 1)))
+    } else {
+        Ok(None)
+    }
+}
+
+// The byte whose spelling stands at the front, and the length of that spelling.
+fn byte_at(bytes: &[u8]) -> Option<(u8, usize)>
+    ensures { IsUnspelledByte bytes.now result }
+{
+    match bytes {
+        [b'\\', b'x', high, low, ..] => match control_of(*high, *low) {
+            Some(byte) => Some((byte, 4)),
+            None => None,
+        },
+        [b'\\', byte, ..] if is_quote_or_backslash(*byte) => Some((*byte, 2)),
+        [byte, ..] if is_plain(*byte) => Some((*byte, 1)),
+        _ => None,
+    }
+}
+
+// The control character that is spelled by two digits.
+fn control_of(high: u8, low: u8) -> Option<u8>
+    ensures { MatchOption result ((b : ℕ) → spelled_byte b ≢ 92 ∷ 120 ∷ high ∷ low ∷ []) (λ b. spelled_byte b ≡ 92 ∷ 120 ∷ high ∷ low ∷ []) }
+{
+    let high = digit_of(high)?;
+    let low = digit_of(low)?;
+    let byte = high * 16 + low;
+    if is_control(byte) { Some(byte) } else { None }
+}
+
+// The number below 16 whose lower-case hexadecimal digit a byte is.
+fn digit_of(byte: u8) -> Option<u8>
+    ensures { MatchOption result ((d : ℕ) → d < 16 → byte ≢ digit_char d) (λ d. (d < 16) × (byte ≡ digit_char d)) }
+{
+    match byte {
+        b'0'..=b'9' => Some(byte - b'0'),
+        b'a'..=b'f' => Some(byte - b'a' + 10),
+        _ => None,
+    }
+}

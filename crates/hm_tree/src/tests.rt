@@ -1,0 +1,216 @@
+//! Names, their classes and spellings, sets and paths, with expected values by hand.
+use crate::{Archive, Class, Memory, Name, NameSet, Path, State, Tree, spell_name, unspell_name};
+use std::alloc::Global;
+use std::process::Abort;
+use std::test::Fail;
+
+// Whether a text is in each class, in the order in which they are declared.
+fn classes_of(alloc: Global, text: &str) -> Result<[bool; 5], Memory> {
+    let name = Name::from_text(alloc, text)?;
+    Ok([
+        name.in_class(Class::Any),
+        name.in_class(Class::Clean),
+        name.in_class(Class::Filled),
+        name.in_class(Class::Trimmed),
+        name.in_class(Class::Folded),
+    ])
+}
+
+const ANY: [bool; 5] = [true, false, false, false, false];
+
+const CLEAN: [bool; 5] = [true, true, false, false, false];
+
+const FILLED: [bool; 5] = [true, true, true, false, false];
+
+const TRIMMED: [bool; 5] = [true, true, true, true, false];
+
+const FOLDED: [bool; 5] = [true, true, true, true, true];
+
+#[test]
+fn classes_of_ascii(rt: HostRuntime) -> Result<(), Fail> {
+    let alloc = rt.alloc();
+    assert_eq!(rt; classes_of(alloc, "")?, CLEAN);
+    assert_eq!(rt; classes_of(alloc, "  ")?, CLEAN);
+    assert_eq!(rt; classes_of(alloc, " a")?, FILLED);
+    assert_eq!(rt; classes_of(alloc, "a ")?, FILLED);
+    assert_eq!(rt; classes_of(alloc, "a")?, FOLDED);
+    assert_eq!(rt; classes_of(alloc, "a b")?, FOLDED);
+    assert_eq!(rt; classes_of(alloc, "aB")?, TRIMMED);
+    Ok(())
+}
+
+#[test]
+fn classes_of_controls(rt: HostRuntime) -> Result<(), Fail> {
+    let alloc = rt.alloc();
+    assert_eq!(rt; classes_of(alloc, "a\tb")?, FOLDED);
+    assert_eq!(rt; classes_of(alloc, "a\nb")?, FOLDED);
+    assert_eq!(rt; classes_of(alloc, "a\rb")?, ANY);
+    assert_eq!(rt; classes_of(alloc, "\x01")?, ANY);
+    assert_eq!(rt; classes_of(alloc, "a\x7f")?, ANY);
+    Ok(())
+}
+
+// \u{df} folds to ss, \u{c9} to \u{e9}, and \u{e9} to itself.
+#[test]
+fn classes_of_letters(rt: HostRuntime) -> Result<(), Fail> {
+    let alloc = rt.alloc();
+    assert_eq!(rt; classes_of(alloc, "\u{df}")?, TRIMMED);
+    assert_eq!(rt; classes_of(alloc, "ss")?, FOLDED);
+    assert_eq!(rt; classes_of(alloc, "\u{e9}")?, FOLDED);
+    assert_eq!(rt; classes_of(alloc, "\u{c9}")?, TRIMMED);
+    Ok(())
+}
+
+fn assert_cleaned(rt: &impl Abort, alloc: Global, text: &str, left: &str) -> Result<(), Memory> {
+    let name = Name::cleaned(alloc, text)?;
+    assert_eq!(rt; name.text(), left);
+    Ok(())
+}
+
+#[test]
+fn cleaning(rt: HostRuntime) -> Result<(), Fail> {
+    let alloc = rt.alloc();
+    assert_cleaned(&rt, alloc, "", "")?;
+    assert_cleaned(&rt, alloc, "a b", "a b")?;
+    assert_cleaned(&rt, alloc, "a\r\nb\rc\x01", "a\nb\nc")?;
+    assert_cleaned(&rt, alloc, "\r\r\n\n", "\n\n\n")?;
+    assert_cleaned(&rt, alloc, "\t\x7f\u{e9}\x1f", "\t\u{e9}")?;
+    Ok(())
+}
+
+// A text is spelled so, and that is read back, whatever follows.
+fn assert_spelled(
+    rt: &impl Abort,
+    alloc: Global,
+    text: &str,
+    spelled: &[u8],
+) -> Result<(), Memory> {
+    let name = Name::from_text(alloc, text)?;
+    let mut bytes = spell_name(alloc, &name)?;
+    assert_eq!(rt; bytes.as_slice(), spelled);
+    bytes.extend_from_slice(b"\"b\"")?;
+    match unspell_name(alloc, &bytes)? {
+        Some((read, length)) => {
+            assert_eq!(rt; read.text(), text);
+            assert_eq!(rt; length, spelled.len());
+        }
+        None => assert!(rt; false),
+    }
+    Ok(())
+}
+
+#[test]
+fn spellings(rt: HostRuntime) -> Result<(), Fail> {
+    let alloc = rt.alloc();
+    assert_spelled(&rt, alloc, "", b"\"\"")?;
+    assert_spelled(&rt, alloc, "abc", b"\"abc\"")?;
+    assert_spelled(&rt, alloc, "a\"b\\c", b"\"a\\\"b\\\\c\"")?;
+    assert_spelled(
+        &rt,
+        alloc,
+        "\x00\t\n\x1f\x7f",
+        b"\"\\x00\\x09\\x0a\\x1f\\x7f\"",
+    )?;
+    assert_spelled(&rt, alloc, "\u{e9} b", b"\"\xc3\xa9 b\"")?;
+    Ok(())
+}
+
+fn assert_unspelled(rt: &impl Abort, alloc: Global, bytes: &[u8]) -> Result<(), Memory> {
+    assert!(rt; unspell_name(alloc, bytes)?.is_none());
+    Ok(())
+}
+
+#[test]
+fn no_spellings(rt: HostRuntime) -> Result<(), Fail> {
+    let alloc = rt.alloc();
+    assert_unspelled(&rt, alloc, b"")?;
+    assert_unspelled(&rt, alloc, b"a\"\"")?;
+    assert_unspelled(&rt, alloc, b"\"a")?;
+    assert_unspelled(&rt, alloc, b"\"a\\\"")?;
+    assert_unspelled(&rt, alloc, b"\"\\q\"")?;
+    assert_unspelled(&rt, alloc, b"\"\\x1\"")?;
+    assert_unspelled(&rt, alloc, b"\"\\x41\"")?;
+    assert_unspelled(&rt, alloc, b"\"\\x1F\"")?;
+    assert_unspelled(&rt, alloc, b"\"a\nb\"")?;
+    assert_unspelled(&rt, alloc, b"\"\x7f\"")?;
+    assert_unspelled(&rt, alloc, b"\"\xc3\"")?;
+    Ok(())
+}
+
+#[test]
+fn sets(rt: HostRuntime) -> Result<(), Fail> {
+    let alloc = rt.alloc();
+    let mut names = Vec::new(alloc);
+    for text in ["b", "a", "b", "c", "a"] {
+        names.push(Name::from_text(alloc, text)?)?;
+    }
+    let set = NameSet::from_list(names)?;
+    let kept = set.names();
+    assert_eq!(rt; kept.len(), 3);
+    assert_eq!(rt; kept[0].text(), "a");
+    assert_eq!(rt; kept[1].text(), "b");
+    assert_eq!(rt; kept[2].text(), "c");
+    assert!(rt; set.has(&Name::from_text(alloc, "b")?));
+    assert!(rt; !set.has(&Name::from_text(alloc, "bb")?));
+    Ok(())
+}
+
+fn path_of(alloc: Global, texts: &[&str]) -> Result<Path, Memory> {
+    let mut names = Vec::new(alloc);
+    for text in texts {
+        names.push(Name::from_text(alloc, text)?)?;
+    }
+    Ok(Path { names })
+}
+
+// The tree of the one edge.
+fn edge_to(alloc: Global, text: &str, child: Tree) -> Result<Tree, Memory> {
+    let mut tree = Tree::empty(alloc);
+    let name = Name::from_text(alloc, text)?;
+    if tree.child(&name).is_none() {
+        tree.insert(name, child)?;
+    }
+    Ok(tree)
+}
+
+#[test]
+fn paths_of_a_tree(rt: HostRuntime) -> Result<(), Fail> {
+    let alloc = rt.alloc();
+    let tree = edge_to(alloc, "a", edge_to(alloc, "b", Tree::empty(alloc))?)?;
+    assert!(rt; tree.has(&path_of(alloc, &[])?));
+    assert!(rt; tree.has(&path_of(alloc, &["a", "b"])?));
+    assert!(rt; !tree.has(&path_of(alloc, &["b"])?));
+    assert!(rt; !tree.has(&path_of(alloc, &["a", "a"])?));
+    assert!(rt; !tree.has(&path_of(alloc, &["a", "b", "c"])?));
+    match tree.child(&Name::from_text(alloc, "a")?) {
+        Some(child) => assert_eq!(rt; child.count(), 1),
+        None => assert!(rt; false),
+    }
+    assert!(rt; tree.child(&Name::from_text(alloc, "b")?).is_none());
+    Ok(())
+}
+
+#[test]
+fn states_of_an_archive(rt: HostRuntime) -> Result<(), Fail> {
+    let alloc = rt.alloc();
+    let mut archive = Archive::of_tree(&edge_to(alloc, "a", Tree::empty(alloc))?)?;
+    let name = Name::from_text(alloc, "b")?;
+    if archive.root() == State::Present && archive.child(&name).is_none() {
+        archive.insert(name, Archive::marked(alloc))?;
+    }
+    assert_eq!(rt; archive.state(&path_of(alloc, &[])?), State::Present);
+    assert_eq!(rt; archive.state(&path_of(alloc, &["a"])?), State::Present);
+    assert_eq!(rt;
+        archive.state(&path_of(alloc, &["a", "b"])?),
+        State::Missing
+    );
+    assert_eq!(rt; archive.state(&path_of(alloc, &["b"])?), State::Marked);
+    assert_eq!(rt; archive.state(&path_of(alloc, &["b", "c"])?), State::Marked);
+    assert_eq!(rt; archive.state(&path_of(alloc, &["c"])?), State::Missing);
+    assert_eq!(rt;
+        Archive::missing(alloc).state(&path_of(alloc, &[])?),
+        State::Missing
+    );
+    assert!(rt; archive.child(&Name::from_text(alloc, "c")?).is_none());
+    Ok(())
+}
