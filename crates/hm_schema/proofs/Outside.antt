@@ -1,0 +1,97 @@
+-- The first path of a tree at which it isn't allowed: at the root, or below the first name that has one.
+use Rattle.std.proofs.Common.{◌≡◌, ℕ, zero, suc, Bool, true, false, cond, T, is_some, List, [], ◌∷◌, take, slice_get, Option, Some, None, All, refl, sym, ap, subst, ◌∙◌}
+use mathlib.Core.Bool.{true≢false}
+use Rattle.std.specs.declared.cmp.Ordering.{Ordering}
+use Rattle.std.specs.declared.cmp.Ordering.TheVariants.{Less, Equal, Greater}
+use Rattle.std.specs.Ordering.{is_lt, eq_by_cmp, ordering_then}
+use Rattle.std.specs.FinMap.{find, is_sorted}
+use Rattle.std.proofs.lemmas.Option.{same_Some, none-some}
+use Rattle.std.proofs.lemmas.List.Elements.{All-head, All-tail, All-nil}
+use Rattle.hm_tree.specs.Names.{Name, name_cmp}
+use Rattle.hm_tree.specs.Nodes.{Tree, edges, below, below_all, first, second}
+use Rattle.hm_tree.specs.NodeLaws.{edges_sorted}
+use Rattle.hm_tree.specs.States.{Path}
+use Rattle.hm_tree.proofs.Sorted.{name_total, name_one, below_edge}
+use Rattle.hm_tree.proofs.States.{state_root}
+use Rattle.hm_schema.specs.declared.node.NodeId.{NodeId}
+use Rattle.hm_schema.specs.Values.{SchemaValue, child_at}
+use Rattle.hm_schema.specs.Permitted.{PermitsAt, names_of}
+use Rattle.hm_schema.specs.Membership.{IsTwin, IsAllowed, path_cmp, IsOutside, IsFirstOutside, HasNoTwins}
+use Rattle.hm_schema.proofs.NamesOf.{tie_one}
+use Rattle.hm_schema.proofs.Members.{view, IsMemberBelow, allowed_root, permits_root, allowed_up, allowed_down, has_up, has_down, below_has}
+
+-- without twins, a root is allowed where its names are permitted
+pub allowed_names : (s : SchemaValue) (i : NodeId) (t : Tree) → HasNoTwins s → PermitsAt s i (names_of t) → IsAllowed s i (view t) []
+allowed_names s i t none p = allowed_root s i p.node p.is t p.permitted (subst (λ l. All (λ (twin : Name × Name). IsTwin (view t) twin.0 twin.1) l) (sym (none i p.node p.is)) (All-nil (λ (twin : Name × Name). IsTwin (view t) twin.0 twin.1)))
+
+-- nothing stands before the root
+root_first : (q : Path) → path_cmp q [] ≡ Less → ⊥
+root_first [] e = cc
+root_first (k ∷ q) e = cc
+
+pub first_at_root : (s : SchemaValue) (i : NodeId) (t : Tree) → ¬ (PermitsAt s i (names_of t)) → IsFirstOutside s i (view t) []
+first_at_root s i t refused = record {
+  outside = record { has = state_root t; refused = λ a. refused (permits_root s i t a) };
+  first = λ q e. absurd (root_first q e);
+}
+
+-- ---- below a name
+
+is_less : (o : Ordering) → T (is_lt o) → o ≡ Less
+is_less Less p = refl
+is_less Equal p = absurd p
+is_less Greater p = absurd p
+
+-- a name before another isn't found among names after that one
+before_all : {X : Type 0} (j k : Name) (es : List (Name × X)) → name_cmp j k ≡ Less → T (below_all k es) → find name_cmp j es ≡ None
+before_all j k [] lt h = refl
+before_all j k (e ∷ es) lt h =
+    let less : name_cmp j e.0 ≡ Less = name_total.trans j k e.0 lt (is_less (name_cmp k e.0) (first _ _ h)) in
+    rw less (before_all j k es lt (second (is_lt (name_cmp k e.0)) _ h))
+
+-- what holds of each item before a place holds of what is found under a name before the name there
+before_place : {X : Type 0} (P : Name → X → Type 0) (es : List (Name × X)) → T (is_sorted name_cmp es) → (i : ℕ) (k : Name) (c : X) → slice_get es i ≡ Some (k, c) → All (λ e. P e.0 e.1) (take i es) → (j : Name) (d : X) → name_cmp j k ≡ Less → find name_cmp j es ≡ Some d → P j d
+before_place P [] h i k c at all j d lt e = absurd (none-some d e)
+before_place {X = X} P (x ∷ es) h zero k c at all j d lt e =
+    let here : x ≡ (k, c) = same_Some x (k, c) at in
+    let less : name_cmp j x.0 ≡ Less = ap (λ (x : Name × X). name_cmp j x.0) here ∙ lt in
+    let found : find name_cmp j es ≡ Some d = rw less at e in
+    absurd (none-some d (sym (before_all j x.0 es less (first _ _ h)) ∙ found))
+before_place {X = X} P (x ∷ es) h (suc i) k c at all j d lt e =
+    go (eq_by_cmp name_cmp j x.0) refl e (λ found. before_place P es (second _ _ h) i k c at (All-tail (λ (e : Name × X). P e.0 e.1) x (take i es) all) j d lt found)
+  where
+    go : (b : Bool) → eq_by_cmp name_cmp j x.0 ≡ b → cond b (Some x.1) (find name_cmp j es) ≡ Some d → (find name_cmp j es ≡ Some d → P j d) → P j d
+    go true t e rest = subst (λ k. P k d) (sym (tie_one j x.0 t)) (subst (P x.0) (same_Some x.1 d e) (All-head (λ (e : Name × X). P e.0 e.1) x (take i es) all))
+    go false t e rest = rest e
+
+module _ (s : SchemaValue) (i : NodeId) (t : Tree) (root : IsAllowed s i (view t) []) (place : ℕ) (k : Name) (c : Tree) (at : slice_get (edges t) place ≡ Some (k, c)) (before : All (λ e. IsMemberBelow s i e.0 e.1) (take place (edges t))) (j : NodeId) (is : child_at s i k ≡ Some j) (p : Path) (here : IsFirstOutside s j (view c) p) where
+  there : below k t ≡ Some c
+  there = below_edge t place k c at
+
+  -- no path below an earlier name
+  earlier : (l : Name) (q : Path) → name_cmp l k ≡ Less → ¬ (IsOutside s i (view t) (l ∷ q))
+  earlier l q lt out = go (below l t) refl (below_has t l q out.has)
+    where
+      go : (x : Option Tree) → below l t ≡ x → is_some x ≡ true → ⊥
+      go None e h = true≢false (sym h)
+      go (Some d) e h =
+          let m = before_place (λ l d. IsMemberBelow s i l d) (edges t) (edges_sorted t) place k c at before l d lt e in
+          out.refused (allowed_up s i m.place t l d q m.is e (m.member q (has_down t l d q e out.has)))
+
+  pub outside_down : (q : Path) → IsOutside s i (view t) (k ∷ q) → IsOutside s j (view c) q
+  outside_down q out = record { has = has_down t k c q there out.has; refused = λ a. out.refused (allowed_up s i j t k c q is there a) }
+
+  no_earlier : (q : Path) → path_cmp q (k ∷ p) ≡ Less → ¬ (IsOutside s i (view t) q)
+  no_earlier [] e out = out.refused root
+  no_earlier (l ∷ q) e out = go (name_cmp l k) refl e
+    where
+      go : (r : Ordering) → name_cmp l k ≡ r → ordering_then r (path_cmp q p) ≡ Less → ⊥
+      go Less lt e = earlier l q lt out
+      go Equal tie e = here.first q e (outside_down q (subst (λ l. IsOutside s i (view t) (l ∷ q)) (name_one l k tie) out))
+      go Greater gt e = cc
+
+  pub first_below : IsFirstOutside s i (view t) (k ∷ p)
+  first_below = record {
+    outside = record { has = has_up t k c p there here.outside.has; refused = λ a. here.outside.refused (allowed_down s i j t k c p is there a) };
+    first = no_earlier;
+  }

@@ -1,0 +1,28 @@
+use Rattle.std.proofs.Common.{rules, refl, sym, subst, All}
+use mathlib.Core.Bool.{false≢true}
+use Rattle.hm_schema.specs.Values.{node_value}
+use Rattle.hm_schema.specs.Permitted.{Fits, IsWithin, names_of}
+use Rattle.hm_schema.proofs.Lists.{none_is, all_done}
+use Rattle.hm_schema.proofs.permitted.permits.Goals as goal
+
+pub returns-then-fits_listed : goal.returns-then-fits_listed
+returns-then-fits_listed c = (
+  λ _. (
+    c.loop-shape.shape-index,
+    c.shape-item.result,
+    rw (← c.deref-shape-items.ensures.value) (search rules),
+    rw (← c.deref-shape-items.ensures.value) (sym c.shape-item.is),
+    record {
+      listed = c.fits_listed.ensures.0 c.if-fits_listed.true;
+      others = c.in-Some.ensures.taken.0 refl;
+      number = subst (IsWithin c.shape-item.result) c.in-Some.ensures.number (c.is_within.ensures.0 c.if-is_within.true);
+    },
+  ),
+  λ _. refl,
+)
+
+pub returns : goal.returns
+returns c = (
+  λ f. absurd (false≢true f),
+  λ some. absurd (none_is (λ s. Fits (node_value c.args.node.now) s (names_of c.args.tree.now)) c.args.node.now.shapes.items (subst (λ l. All (λ s. ¬ (Fits (node_value c.args.node.now) s (names_of c.args.tree.now))) l) c.deref-shape-items.ensures.value (all_done (λ s. ¬ (Fits (node_value c.args.node.now) s (names_of c.args.tree.now))) c.deref-shape-items.result.now _ (search rules) c.loop-shape.invariant)) some),
+)

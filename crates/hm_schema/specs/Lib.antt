@@ -1,0 +1,4 @@
+pub mod Values
+pub mod Permitted
+pub mod WellFormed
+pub mod Membership
