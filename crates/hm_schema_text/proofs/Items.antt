@@ -1,0 +1,97 @@
+-- What a line says is determined by its tokens.
+use Rattle.std.proofs.Common.{◌≡◌, ◌≢◌, ℕ, Bool, true, false, cond, List, [], ◌∷◌, ◌++◌, take, drop, Option, Some, None, Result, Ok, Err, refl, sym, ap, ◌∙◌, subst}
+use Rattle.std.specs.Prelude.{codes, IfOk}
+use Rattle.std.proofs.lemmas.List.{take-append-drop}
+use lib.Pointwise.{pointwise, bytes_decides}
+use lib.Dec.{eqb}
+use Rattle.hm_tree.specs.Names.{Name}
+use Rattle.hm_schema_text.specs.declared.count.Count.{Count}
+use Rattle.hm_schema_text.specs.declared.item.Item.{Item}
+use Rattle.hm_schema_text.specs.declared.token.Token.{Token}
+use Rattle.hm_schema_text.specs.declared.token.Token.TheVariants.{Word, Plus}
+use Rattle.hm_schema_text.specs.Tokens.{Spaced}
+use Rattle.hm_schema_text.specs.Counts.{IsCount, IsReadCount}
+use Rattle.hm_schema_text.specs.Items.{ItemValue, item_value, is_flush, indent, IsItem, IsLine, IsTail, IsReadTail, IsReadItem, IsFlushItem, IsIndentedItem}
+use Rattle.hm_schema_text.proofs.Tokens.{spaced_one, spaced_no_space}
+
+pub tail_counted : {E : Type 0} (rest : List Token) (word : Name) (r : Result (Option Count) E) → rest ≡ Word word ∷ [] → IfOk r (IsReadCount word) → IfOk r (IsReadTail (Plus ∷ rest))
+tail_counted rest word (Ok None) is h = λ c t. let same : word ≡ t.0 = cc in h c (subst (λ (w : Name). IsCount w c) (sym same) t.2)
+tail_counted rest word (Ok (Some c)) is h = (word, ap (λ (z : List Token). Plus ∷ z) is, h)
+tail_counted rest word (Err e) is h = tt
+
+pub tail_none : (rest : List Token) → ((word : Name) → rest ≢ Word word ∷ []) → (c : Count) → ¬ (IsTail (Plus ∷ rest) c)
+tail_none rest none c t = let is : rest ≡ Word t.0 ∷ [] = cc in none t.0 is
+
+two_spaces : (i : ItemValue) → is_flush i ≡ false → indent i ≡ 32 ∷ 32 ∷ []
+two_spaces i e = ap (λ (b : Bool). cond b [] (codes "  ")) e
+
+no_spaces : (i : ItemValue) → is_flush i ≡ true → indent i ≡ []
+no_spaces i e = ap (λ (b : Bool). cond b [] (codes "  ")) e
+
+-- a line that begins with two spaces
+module _ (line text : List ℕ) (ts : List Token) (front : line ≡ 32 ∷ 32 ∷ text) (s : Spaced ts text) where
+  indented_line : (i : ItemValue) → IsIndentedItem ts i → IsLine line i
+  indented_line i h = record {
+    tokens = ts;
+    text = text;
+    is = front ∙ ap (λ (z : List ℕ). z ++ text) (sym (two_spaces i h.0));
+    spaced = s;
+    item = h.1;
+  }
+
+  line_indented : (i : ItemValue) → IsLine line i → IsIndentedItem ts i
+  line_indented i l = go (is_flush i) refl
+    where
+      go : (b : Bool) → is_flush i ≡ b → IsIndentedItem ts i
+      go true e = absurd (spaced_no_space l.tokens l.text (32 ∷ text) l.spaced (ap (λ (z : List ℕ). z ++ l.text) (sym (no_spaces i e)) ∙ sym l.is ∙ front))
+      go false e =
+          let both : 32 ∷ 32 ∷ text ≡ 32 ∷ 32 ∷ l.text = sym front ∙ l.is ∙ ap (λ (z : List ℕ). z ++ l.text) (two_spaces i e) in
+          let same : l.text ≡ text = cc in
+          (e, subst (λ (z : List Token). IsItem z i) (spaced_one l.tokens ts l.text text same l.spaced s) l.item)
+
+-- a line of tokens
+module _ (line : List ℕ) (ts : List Token) (s : Spaced ts line) where
+  flush_line : (i : ItemValue) → IsFlushItem ts i → IsLine line i
+  flush_line i h = record {
+    tokens = ts;
+    text = line;
+    is = ap (λ (z : List ℕ). z ++ line) (sym (no_spaces i h.0));
+    spaced = s;
+    item = h.1;
+  }
+
+  line_flush : (i : ItemValue) → IsLine line i → IsFlushItem ts i
+  line_flush i l = go (is_flush i) refl
+    where
+      go : (b : Bool) → is_flush i ≡ b → IsFlushItem ts i
+      go true e = (e, subst (λ (z : List Token). IsItem z i) (spaced_one l.tokens ts l.text line (sym (l.is ∙ ap (λ (z : List ℕ). z ++ l.text) (no_spaces i e))) l.spaced s) l.item)
+      go false e = absurd (spaced_no_space ts line (32 ∷ l.text) s (l.is ∙ ap (λ (z : List ℕ). z ++ l.text) (two_spaces i e)))
+
+pub read_as : {E : Type 0} (P Q : ItemValue → Type 0) → ((i : ItemValue) → P i → Q i) → ((i : ItemValue) → Q i → P i) → (r : Result (Option Item) E) → IfOk r (IsReadItem P) → IfOk r (IsReadItem Q)
+read_as P Q to from (Ok None) h = λ i q. h i (from i q)
+read_as P Q to from (Ok (Some i)) h = to (item_value i) h
+read_as P Q to from (Err e) h = tt
+
+front_two : (line text : List ℕ) → pointwise eqb (take 2 line) (32 ∷ 32 ∷ []) ≡ true → text ≡ drop 2 line → line ≡ 32 ∷ 32 ∷ text
+front_two line text same is =
+    sym (take-append-drop 2 line) ∙ ap (λ (z : List ℕ). z ++ drop 2 line) ((bytes_decides (take 2 line) (32 ∷ 32 ∷ [])).0 same) ∙ ap (λ (z : List ℕ). 32 ∷ 32 ∷ z) (sym is)
+
+pub indented_reads : {E : Type 0} (line text : List ℕ) (ts : List Token) (r : Result (Option Item) E) → pointwise eqb (take 2 line) (32 ∷ 32 ∷ []) ≡ true → text ≡ drop 2 line → Spaced ts text → IfOk r (IsReadItem (IsIndentedItem ts)) → IfOk r (IsReadItem (IsLine line))
+indented_reads line text ts r same is s h =
+    let front = front_two line text same is in
+    read_as (IsIndentedItem ts) (IsLine line) (indented_line line text ts front s) (line_indented line text ts front s) r h
+
+pub flush_reads : {E : Type 0} (line : List ℕ) (ts : List Token) (r : Result (Option Item) E) → Spaced ts line → IfOk r (IsReadItem (IsFlushItem ts)) → IfOk r (IsReadItem (IsLine line))
+flush_reads line ts r s h = read_as (IsFlushItem ts) (IsLine line) (flush_line line ts s) (line_flush line ts s) r h
+
+-- two items of a line are of the same tokens
+pub line_items : (line : List ℕ) (i j : ItemValue) → IsLine line i → (l : IsLine line j) → IsItem l.tokens i
+line_items line i j h l = go (is_flush j) refl
+  where
+    go : (b : Bool) → is_flush j ≡ b → IsItem l.tokens i
+    go true e =
+        let flush : line ≡ l.text = l.is ∙ ap (λ (z : List ℕ). z ++ l.text) (no_spaces j e) in
+        (line_flush line l.tokens (subst (Spaced l.tokens) (sym flush) l.spaced) i h).1
+    go false e =
+        let indented : line ≡ 32 ∷ 32 ∷ l.text = l.is ∙ ap (λ (z : List ℕ). z ++ l.text) (two_spaces j e) in
+        (line_indented line l.text l.tokens indented l.spaced i h).1

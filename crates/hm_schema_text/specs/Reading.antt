@@ -1,0 +1,16 @@
+-- What the readers of a part of a line say.
+use Rattle.std.specs.Prelude.{◌≡◌, ◌≢◌, false, ℕ, ◌≤◌, List, ◌++◌, length, take, drop, Option, Some, None, IsUtf8}
+use Rattle.hm_tree.specs.Names.{Name}
+use Rattle.hm_tree.specs.Spelling.{spelled}
+use Rattle.hm_schema_text.specs.declared.token.Token.{Token}
+use Rattle.hm_schema_text.specs.Tokens.{token_text, IsToken, Stops, begins_word}
+
+-- the word at the front of bytes, and its length; none where no byte of a word stands there
+abbrev pub IsFirstWord : List ℕ → Option (Token × ℕ) → Type 0
+IsFirstWord bytes None = begins_word bytes ≡ false
+IsFirstWord bytes (Some found) = IsToken found.0 × (found.1 ≤ length bytes) × (take found.1 bytes ≡ token_text found.0) × Stops found.0 (drop found.1 bytes)
+
+-- the name between quotes at the front of bytes, and the length of its spelling; none where no spelling stands there
+abbrev pub IsFirstQuoted : List ℕ → Option (Token × ℕ) → Type 0
+IsFirstQuoted bytes None = (name : Name) (rest : List ℕ) → IsUtf8 name → bytes ≢ spelled name ++ rest
+IsFirstQuoted bytes (Some found) = IsToken found.0 × (found.1 ≤ length bytes) × (take found.1 bytes ≡ token_text found.0) × Stops found.0 (drop found.1 bytes)

@@ -1,0 +1,55 @@
+//! The lines of a schema file.
+ghost use Rattle.std.specs.Prelude.{◌≡◌, ◌↔◌, IsTrue, IfOk};
+ghost use Rattle.hm_schema_text.specs.Entries.{IsSkipped, IsBlank, IsEntry, IsFile, entry_value, entry_values};
+
+use crate::item::{Item, read_item};
+use bstr::ByteSlice;
+use hm_tree::Memory;
+use std::alloc::Global;
+
+/// A line as it is read.
+#[derive(Drop)]
+pub enum Entry {
+    /// Blank, or a comment.
+    Skipped,
+    /// No line of a schema.
+    Unknown,
+    Says(Item),
+}
+
+// Whether a line is of spaces alone, or empty.
+fn is_blank(line: &[u8]) -> bool
+    ensures { IsTrue result ↔ IsBlank line.now }
+{
+    line.iter().all(|byte| *byte == b' ')
+}
+
+// Whether a line is blank or a comment.
+fn is_skipped(line: &[u8]) -> bool
+    ensures { IsTrue result ↔ IsSkipped line.now }
+{
+    line.first() == Some(&b'#') || is_blank(line)
+}
+
+fn read_entry(alloc: Global, line: &[u8]) -> Result<Entry, Memory>
+    ensures { IfOk result (λ entry. IsEntry line.now (entry_value entry)) }
+{
+    if is_skipped(line) {
+        return Ok(Entry::Skipped);
+    }
+    match read_item(alloc, line)? {
+        Some(item) => Ok(Entry::Says(item)),
+        None => Ok(Entry::Unknown),
+    }
+}
+
+/// The lines of a file, in order.
+pub fn read_entries(alloc: Global, bytes: &[u8]) -> Result<Vec<Entry>, Memory>
+    ensures { IfOk result (λ entries. IsFile bytes.now (entry_values entries.items)) }
+{
+    let mut entries = Vec::new(alloc);
+    for line in bytes.lines() {
+        entries.push(read_entry(alloc, line)?)?;
+    }
+    Ok(entries)
+}

@@ -1,0 +1,100 @@
+//! Files, and what each of their lines is read as.
+use crate::{Count, Entry, Item, read_entries, read_item};
+use std::alloc::Global;
+use std::process::Abort;
+use std::test::Fail;
+
+// One letter for each line: s where it is skipped, u where it says nothing, and else the first letter of its item.
+fn letter(entry: &Entry) -> u8 {
+    match entry {
+        Entry::Skipped => b's',
+        Entry::Unknown => b'u',
+        Entry::Says(Item::Header) => b'h',
+        Entry::Says(Item::Root(_)) => b'r',
+        Entry::Says(Item::Node(_)) => b'n',
+        Entry::Says(Item::Edge(_, _)) => b'e',
+        Entry::Says(Item::Other(_, _)) => b'o',
+        Entry::Says(Item::Shape(_)) => b'x',
+    }
+}
+
+fn expect_lines(rt: &impl Abort, alloc: Global, bytes: &[u8], want: &[u8]) -> Result<(), Fail> {
+    let mut letters = Vec::new(alloc);
+    for entry in &read_entries(alloc, bytes)? {
+        letters.push(letter(entry))?;
+    }
+    assert_eq!(rt; letters.as_slice(), want);
+    Ok(())
+}
+
+const BOOK: &str =
+    "harmony schema 1\nroot Book\nnode Book\n  other filled Cards\n  shape + 0..\nnode Cards\n  edge *h Card\n  edge \"a b\" More\n  shape *h \"a b\" ? c\nnode More\n  shape\n";
+
+#[test]
+fn lines_of_a_book(rt: HostRuntime) -> Result<(), Fail> {
+    expect_lines(&rt, rt.alloc(), BOOK.as_bytes(), b"hrnoxneexnx")
+}
+
+#[test]
+fn line_ends_and_skipped_lines(rt: HostRuntime) -> Result<(), Fail> {
+    let alloc = rt.alloc();
+    expect_lines(&rt, alloc, b"", b"")?;
+    expect_lines(&rt, alloc, b"\n\r\n   \n# one\n#\xff", b"sssss")?;
+    expect_lines(&rt, alloc, b"harmony schema 1\r\nroot A\r\n", b"hr")?;
+    expect_lines(&rt, alloc, b"node A\r", b"u")?;
+    expect_lines(&rt, alloc, b"\t\n #", b"uu")
+}
+
+#[test]
+fn lines_that_say_nothing(rt: HostRuntime) -> Result<(), Fail> {
+    let alloc = rt.alloc();
+    expect_lines(&rt, alloc, b"harmony schema 2\n", b"u")?;
+    expect_lines(&rt, alloc, b" root A\nroot A \nroot\nroot A B", b"uuuu")?;
+    expect_lines(
+        &rt,
+        alloc,
+        b"edge a A\n edge a A\n   edge a A\n  edge a",
+        b"uuuu",
+    )?;
+    expect_lines(&rt, alloc, b"  other all A\n  other any \"A\"", b"uu")?;
+    expect_lines(
+        &rt,
+        alloc,
+        b"  shape + 01..\n  shape + 1.2\n  shape ? ?",
+        b"uuu",
+    )?;
+    expect_lines(&rt, alloc, b"  edge \"\xff\" A\nnode \xff", b"uu")?;
+    expect_lines(&rt, alloc, b"  shape + 18446744073709551616..", b"u")
+}
+
+fn expect_count(rt: &impl Abort, alloc: Global, line: &[u8], want: Count) -> Result<(), Fail> {
+    match read_item(alloc, line)? {
+        Some(Item::Shape(shape)) => {
+            assert_eq!(rt; shape.count.least, want.least);
+            assert_eq!(rt; shape.count.most, want.most);
+            Ok(())
+        }
+        _ => Err("no shape is read")?,
+    }
+}
+
+#[test]
+fn counts(rt: HostRuntime) -> Result<(), Fail> {
+    let alloc = rt.alloc();
+    let none = Count {
+        least: 0,
+        most: Some(0),
+    };
+    expect_count(&rt, alloc, b"  shape", none)?;
+    expect_count(&rt, alloc, b"  shape a ?", none)?;
+    let some = Count {
+        least: 2,
+        most: None,
+    };
+    expect_count(&rt, alloc, b"  shape a ? b + 2..", some)?;
+    let most = Count {
+        least: 0,
+        most: Some(18_446_744_073_709_551_615),
+    };
+    expect_count(&rt, alloc, b"  shape + 0..18446744073709551615", most)
+}
