@@ -3,6 +3,7 @@ pub mod Tokens
 pub mod Counts
 pub mod Items
 pub mod Entries
+pub mod Rising
 pub mod Once
 pub mod Declared
 pub mod Laws

@@ -3,5 +3,7 @@ pub mod Reading
 pub mod Counts
 pub mod Items
 pub mod Entries
+pub mod Counting
 pub mod BadLines
 pub mod SchemaFiles
+pub mod Firsts

@@ -10,7 +10,9 @@ use Rattle.hm_schema.specs.declared.node.Shape.{Shape}
 use Rattle.hm_schema.specs.Values.{NodeValue, SchemaValue}
 use Rattle.hm_schema_text.specs.Items.{ItemValue, ShapeValue, header, root, node, edge, other, shape}
 use Rattle.hm_schema_text.specs.Entries.{EntryValue, skipped, unknown, says, IsFile}
-use Rattle.hm_schema_text.specs.BadLines.{Says, named, begins_node, is_counted, nodes_before, behind, HasNoBadLine}
+use Rattle.hm_schema_text.specs.BadLines.{Says, named, begins_node, is_counted, nodes_before, behind, HasNoBadLine, IsFirstBadLine}
+use Rattle.hm_schema_text.specs.declared.fault.SchemaFault.{SchemaFault}
+use Rattle.hm_schema_text.specs.declared.fault.SchemaFault.TheVariants.{BadSchema, Memory}
 
 -- the place of a node: that of its line among the node lines, and for `Empty` the one behind them
 pub data IsPlaceOf (es : List EntryValue) : Name → ℕ → Type 0 where
@@ -66,3 +68,8 @@ pub record IsSchemaFile (bytes : List ℕ) (s : SchemaValue) : Type 0 where
   pub sound : HasNoBadLine entries
   pub head : 2 ≤ count_by is_counted entries
   pub schema : IsSchemaOf entries s
+
+-- what is wrong with a file; of want of memory nothing is said
+abbrev pub FaultsAt : List ℕ → SchemaFault → Type 0
+FaultsAt bytes (BadSchema line) = IsFirstBadLine bytes line
+FaultsAt bytes Memory = Unit {0}
