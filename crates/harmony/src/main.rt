@@ -1,4 +1,4 @@
-//! Synchronises two files with the archive of what they last agreed on.
+//! Synchronises two files of one schema with the archive of what they last agreed on.
 #![tactic(auto)]
 
 use hm_outside::{FileStore, StdSink};

@@ -5,7 +5,7 @@ use Rattle.hm_command.specs.declared.words.Files.{Files}
 use Rattle.hm_command.specs.Words.{FileNames}
 
 abbrev pub names : Files → FileNames
-names files = record { archive = files.archive.now; left = files.left.now; right = files.right.now }
+names files = record { schema = files.schema.now; archive = files.archive.now; left = files.left.now; right = files.right.now }
 
 -- the answer is what it should be, seen so
 abbrev pub Answers : {A B : Type 0} → (A → B) → Result A Refusal → Result B Refusal → Type 0

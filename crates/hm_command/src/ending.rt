@@ -2,29 +2,58 @@
 ghost use Rattle.std.specs.Prelude.{◌≡◌};
 ghost use Rattle.hm_command.specs.declared.ending.Stop.TheVariants.{Refused, Memory as OutOfMemory};
 
-use hm_tree::Memory;
+use hm_tree::{Memory, Path};
 
-/// Which of the three files.
+/// Which of the four files.
 #[derive(Clone, Copy, Debug, PartialEq, Eq)]
 pub enum Slot {
+    Schema,
     Archive,
     Left,
     Right,
 }
 
-/// Why a run changed nothing, each with one exact cause.
+/// Why the bytes of an archive aren't read.
 #[derive(Clone, Copy, Debug, PartialEq, Eq)]
+pub enum ArchiveFault {
+    /// The number of bytes that some archive's text still begins with.
+    At(usize),
+    /// More than 1,000 braces are open at once.
+    Deep,
+}
+
+/// Why the bytes of a replica aren't read.
+#[derive(Drop)]
+pub enum ReplicaFault {
+    /// The number of bytes before the first that isn't UTF-8.
+    NotUtf8(usize),
+    /// The number of bytes that some tree's text still begins with.
+    BadItem(usize),
+    /// The depth that is too great.
+    TooDeep(usize),
+    /// The first path, in path order, at which the schema doesn't permit the names.
+    Outside(Path),
+}
+
+/// Why a run changed nothing, each with one exact cause.
+#[derive(Drop)]
 pub enum Refusal {
-    /// The words have no meaning, or two of the three names are equal.
+    /// The words have no meaning.
     Usage,
-    /// The file of this replica isn't there.
+    /// Two slots have one name.
+    SameName(Slot, Slot),
+    /// The file of this slot isn't there.
     Missing(Slot),
-    /// The file has more than 16,777,216 bytes, or its bytes aren't a text that is read so far.
-    NotYet(Slot),
+    /// The file has more than 16,777,216 bytes.
+    TooLarge(Slot),
+    /// The first bad line of the schema file, counted from 1.
+    BadSchema(usize),
+    BadArchive(ArchiveFault),
+    BadReplica(Slot, ReplicaFault),
 }
 
 /// Why a run stopped before its output.
-#[derive(Clone, Copy, Debug, PartialEq, Eq)]
+#[derive(Drop)]
 pub enum Stop {
     Refused(Refusal),
     /// The store failed to load this file.
@@ -35,7 +64,7 @@ pub enum Stop {
 }
 
 /// How a run ended. Where it came to its output, the flag says whether a conflict remains.
-#[derive(Clone, Copy, Debug, PartialEq, Eq)]
+#[derive(Drop)]
 pub enum Ending {
     Stopped(Stop),
     /// The sink failed while the output was put.

@@ -5,6 +5,6 @@ mod ending;
 mod lines;
 mod words;
 
-pub use ending::{Ending, Refusal, Slot, Stop};
+pub use ending::{ArchiveFault, Ending, Refusal, ReplicaFault, Slot, Stop};
 pub use lines::{output_of, status_of};
 pub use words::{Files, files_of};

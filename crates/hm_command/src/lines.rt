@@ -1,77 +1,164 @@
 //! What a run says as it ends: one line, and the exit status.
-ghost use Rattle.std.specs.Prelude.{◌≡◌, ◌++◌, ◌∷◌, [], codes, IfOk};
-ghost use Rattle.hm_command.specs.Lines.{slot_name, slot_line, refusal_line, report_line, output_of, status_of};
+ghost use Rattle.std.specs.Prelude.{◌≡◌, ◌++◌, ◌∷◌, [], IfOk, OnOk};
+ghost use Rattle.std.specs.Fmt.{decimal};
+ghost use Rattle.hm_command.specs.Lines.{slot_name, path_text, archive_fault_text, replica_fault_text, refusal_text, report_text, text_of, output_of, refusal_status, status_of};
 
-use crate::ending::{Ending, Refusal, Slot, Stop};
-use hm_tree::Memory;
+use crate::ending::{ArchiveFault, Ending, Refusal, ReplicaFault, Slot, Stop};
+use hm_tree::{Memory, Path, append_spelled};
 use std::alloc::Global;
 
 fn slot_name(slot: Slot) -> &'static [u8]
     ensures { result.now ≡ slot_name slot }
 {
     match slot {
+        Slot::Schema => b"schema",
         Slot::Archive => b"archive",
         Slot::Left => b"A",
         Slot::Right => b"B",
     }
 }
 
-fn slot_line(alloc: Global, word: &[u8], slot: Slot) -> Result<Vec<u8>, Memory>
-    ensures { IfOk result (λ line. line.items ≡ slot_line word.now slot) }
+// Puts some bytes, and then the name of a slot, behind a line.
+fn put_slot(line: &mut Vec<u8>, before: &[u8], slot: Slot) -> Result<(), Memory>
+    ensures { OnOk result (line.new.items ≡ line.old.items ++ (before.now ++ slot_name slot)) }
 {
-    let mut line = b"harmony: ".to_vec(alloc)?;
-    line.extend_from_slice(word)?;
-    line.push(b' ')?;
+    line.extend_from_slice(before)?;
     line.extend_from_slice(slot_name(slot))?;
+    Ok(())
+}
+
+// Puts some bytes, and then a number, behind a line.
+fn put_number(alloc: Global, line: &mut Vec<u8>, before: &[u8], number: usize) -> Result<(), Memory>
+    ensures { OnOk result (line.new.items ≡ line.old.items ++ (before.now ++ decimal number)) }
+{
+    let digits = format!(in alloc; "{number}")?;
+    line.extend_from_slice(before)?;
+    line.extend_from_slice(digits.as_bytes())?;
+    Ok(())
+}
+
+// Puts a path behind a line.
+fn put_path(line: &mut Vec<u8>, path: &Path) -> Result<(), Memory>
+    ensures { OnOk result (line.new.items ≡ line.old.items ++ path_text path.now) }
+{
+    if path.names.is_empty() {
+        line.push(b'/')?;
+        return Ok(());
+    }
+    for name in &path.names {
+        line.push(b'/')?;
+        append_spelled(name, line)?;
+    }
+    Ok(())
+}
+
+// Puts what is wrong with an archive behind a line.
+fn put_archive_fault(alloc: Global, line: &mut Vec<u8>, fault: ArchiveFault) -> Result<(), Memory>
+    ensures { OnOk result (line.new.items ≡ line.old.items ++ archive_fault_text fault) }
+{
+    match fault {
+        ArchiveFault::At(at) => put_number(alloc, line, b"at ", at),
+        ArchiveFault::Deep => Ok(line.extend_from_slice(b"deep")?),
+    }
+}
+
+// Puts what is wrong with a replica behind a line.
+fn put_replica_fault(alloc: Global, line: &mut Vec<u8>, fault: &ReplicaFault) -> Result<(), Memory>
+    ensures { OnOk result (line.new.items ≡ line.old.items ++ replica_fault_text fault.now) }
+{
+    match fault {
+        ReplicaFault::NotUtf8(at) => put_number(alloc, line, b"NotUtf8 ", *at),
+        ReplicaFault::BadItem(at) => put_number(alloc, line, b"BadItem ", *at),
+        ReplicaFault::TooDeep(depth) => put_number(alloc, line, b"TooDeep ", *depth),
+        ReplicaFault::Outside(path) => {
+            line.extend_from_slice(b"Outside ")?;
+            put_path(line, path)
+        }
+    }
+}
+
+// Puts a refusal behind a line.
+fn put_refusal(alloc: Global, line: &mut Vec<u8>, refusal: &Refusal) -> Result<(), Memory>
+    ensures { OnOk result (line.new.items ≡ line.old.items ++ refusal_text refusal.now) }
+{
+    match refusal {
+        Refusal::Usage => Ok(line.extend_from_slice(b"usage: harmony sync SCHEMA ARCHIVE A B")?),
+        Refusal::SameName(one, two) => {
+            put_slot(line, b"harmony: SameName ", *one)?;
+            put_slot(line, b" ", *two)
+        }
+        Refusal::Missing(slot) => put_slot(line, b"harmony: Missing ", *slot),
+        Refusal::TooLarge(slot) => put_slot(line, b"harmony: TooLarge ", *slot),
+        Refusal::BadSchema(at) => put_number(alloc, line, b"harmony: BadSchema ", *at),
+        Refusal::BadArchive(fault) => {
+            line.extend_from_slice(b"harmony: BadArchive ")?;
+            put_archive_fault(alloc, line, *fault)
+        }
+        Refusal::BadReplica(slot, fault) => {
+            put_slot(line, b"harmony: BadReplica ", *slot)?;
+            line.push(b' ')?;
+            put_replica_fault(alloc, line, fault)
+        }
+    }
+}
+
+// Puts the last line of a report behind a line.
+fn put_report(line: &mut Vec<u8>, conflict: bool) -> Result<(), Memory>
+    ensures { OnOk result (line.new.items ≡ line.old.items ++ report_text conflict) }
+{
+    if conflict {
+        line.extend_from_slice(b"conflicts 1")?;
+    } else {
+        line.extend_from_slice(b"agreed")?;
+    }
+    Ok(())
+}
+
+// Puts what this ending says behind a line.
+fn put_ending(alloc: Global, line: &mut Vec<u8>, ending: &Ending) -> Result<(), Memory>
+    ensures { OnOk result (line.new.items ≡ line.old.items ++ text_of ending.now) }
+{
+    match ending {
+        Ending::Stopped(Stop::Refused(refusal)) => put_refusal(alloc, line, refusal),
+        Ending::Stopped(Stop::ReadFault(slot)) => put_slot(line, b"harmony: ReadFault ", *slot),
+        Ending::Stopped(Stop::WriteFault(slot)) => put_slot(line, b"harmony: WriteFault ", *slot),
+        Ending::Stopped(Stop::Memory) => Ok(()),
+        Ending::PutFault(conflict) | Ending::Done(conflict) => put_report(line, *conflict),
+    }
+}
+
+/// What a run that ends so puts out: one line, and nothing for want of memory.
+pub fn output_of(alloc: Global, ending: &Ending) -> Result<Vec<u8>, Memory>
+    ensures { IfOk result (λ output. output.items ≡ output_of ending.now) }
+{
+    let mut line = Vec::new(alloc);
+    if let Ending::Stopped(Stop::Memory) = ending {
+        return Ok(line);
+    }
+    put_ending(alloc, &mut line, ending)?;
     line.push(b'\n')?;
     Ok(line)
 }
 
-fn refusal_line(alloc: Global, refusal: Refusal) -> Result<Vec<u8>, Memory>
-    ensures { IfOk result (λ line. line.items ≡ refusal_line refusal) }
+fn refusal_status(refusal: &Refusal) -> u8
+    ensures { result ≡ refusal_status refusal.now }
 {
     match refusal {
-        Refusal::Usage => Ok(b"usage: harmony sync ARCHIVE A B\n".to_vec(alloc)?),
-        Refusal::Missing(slot) => slot_line(alloc, b"Missing", slot),
-        Refusal::NotYet(slot) => slot_line(alloc, b"NotYet", slot),
-    }
-}
-
-fn report_line(alloc: Global, conflict: bool) -> Result<Vec<u8>, Memory>
-    ensures { IfOk result (λ line. line.items ≡ report_line conflict) }
-{
-    if conflict {
-        Ok(b"conflicts 1\n".to_vec(alloc)?)
-    } else {
-        Ok(b"agreed\n".to_vec(alloc)?)
-    }
-}
-
-/// What a run that ends so puts out.
-pub fn output_of(alloc: Global, ending: Ending) -> Result<Vec<u8>, Memory>
-    ensures { IfOk result (λ output. output.items ≡ output_of ending) }
-{
-    match ending {
-        Ending::Stopped(Stop::Refused(refusal)) => refusal_line(alloc, refusal),
-        Ending::Stopped(Stop::ReadFault(slot)) => slot_line(alloc, b"ReadFault", slot),
-        Ending::Stopped(Stop::WriteFault(slot)) => slot_line(alloc, b"WriteFault", slot),
-        Ending::Stopped(Stop::Memory) => Ok(Vec::new(alloc)),
-        Ending::PutFault(conflict) => report_line(alloc, conflict),
-        Ending::Done(conflict) => report_line(alloc, conflict),
+        Refusal::Usage => 2,
+        _ => 3,
     }
 }
 
 /// The exit status of a run that ends so: 0 agreed, 1 a conflict remains, 2 usage, 3 refused, 4 a fault of the store,
 /// 5 want of memory, 6 a fault of the sink while the output was put.
-pub fn status_of(ending: Ending) -> u8
-    ensures { result ≡ status_of ending }
+pub fn status_of(ending: &Ending) -> u8
+    ensures { result ≡ status_of ending.now }
 {
     match ending {
-        Ending::Stopped(Stop::Refused(Refusal::Usage)) => 2,
-        Ending::Stopped(Stop::Refused(Refusal::Missing(_) | Refusal::NotYet(_))) => 3,
+        Ending::Stopped(Stop::Refused(refusal)) => refusal_status(refusal),
         Ending::Stopped(Stop::ReadFault(_) | Stop::WriteFault(_)) => 4,
         Ending::Stopped(Stop::Memory) => 5,
         Ending::PutFault(_) => 6,
-        Ending::Done(conflict) => u8::from(conflict),
+        Ending::Done(conflict) => u8::from(*conflict),
     }
 }

@@ -1,4 +1,3 @@
 pub mod Contents
 pub mod Risen
-pub mod Told
 pub mod Files

@@ -27,10 +27,6 @@ count_of-extends kind name {old} {new} e =
 pub risen_since : {kind : Kind} {name : Name} {old mid new : List Failure} → Extends old mid → HasRisen kind name mid new → HasRisen kind name old new
 risen_since {kind} {name} e h = record { rises = omega (arith, count_of-extends kind name e, h.rises) }
 
--- what has risen stays risen
-pub risen_until : {kind : Kind} {name : Name} {old mid new : List Failure} → HasRisen kind name old mid → Extends mid new → HasRisen kind name old new
-risen_until {kind} {name} h e = record { rises = omega (arith, count_of-extends kind name e, h.rises) }
-
 -- an unchanged list has not risen
 pub not_risen : {kind : Kind} {name : Name} {old new : List Failure} → new ≡ old → HasRisen kind name old new → ⊥
 not_risen {kind} {name} same h = let counts = ap (count_of kind name) same in omega (arith, counts, h.rises)

@@ -1,5 +1,6 @@
 pub mod Steps
 pub mod Loading
+pub mod Reading
 pub mod Making
 pub mod Writing
 pub mod Stopping

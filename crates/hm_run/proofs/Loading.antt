@@ -1,23 +1,23 @@
 -- What a load finds.
-use Rattle.std.proofs.Common.{◌≡◌, ℕ, ◌<◌, ◌≤◌, List, [], length, Vec, Option, Some, None, Result, Ok, Err, subst, sym, ◌∙◌, ap}
+use Rattle.std.proofs.Common.{◌≡◌, ℕ, ◌<◌, ◌≤◌, List, [], length, Vec, Option, Some, None, Result, Ok, Err, subst, sym}
 use Rattle.std.specs.Option.{IsSomeAnd}
 use Rattle.std.specs.declared.alloc.Global.{Global}
 use Rattle.hm_command.specs.declared.ending.Slot.{Slot}
 use Rattle.hm_command.specs.declared.ending.Stop.{Stop}
-use Rattle.hm_command.specs.declared.ending.Refusal.TheVariants.{Missing, NotYet}
-use Rattle.hm_command.specs.declared.ending.Slot.TheVariants.{Archive, Left, Right}
+use Rattle.hm_command.specs.declared.ending.Refusal.TheVariants.{Missing, TooLarge}
+use Rattle.hm_command.specs.declared.ending.Slot.TheVariants.{Schema, Archive, Left, Right}
 use Rattle.hm_command.specs.Words.{FileNames, name_of}
 use Rattle.hm_outside.specs.declared.outside.Kind.{Kind}
 use Rattle.hm_outside.specs.declared.outside.Failure.{Failure}
 use Rattle.hm_outside.specs.Failures.{Extends, HasRisen}
 use Rattle.hm_outside.proofs.Risen.{risen_since}
-use Rattle.hm_run.specs.Verdict.{Loads, loaded, too_large, no_archive, no_left, no_right, limit}
+use Rattle.hm_run.specs.Verdict.{Loads, loaded, too_large, no_archive, no_schema, no_left, no_right, limit}
 use Rattle.hm_run.specs.Seen.{bytes_of, Follows}
 
 pub finds_bytes : (at : Slot) (there : Option (List ℕ)) (bytes : List ℕ) → there ≡ Some bytes → length bytes ≤ limit → Loads at there (Ok bytes)
 finds_bytes at there bytes is le = subst (λ o. Loads at o (Ok bytes)) (sym is) (loaded le)
 
-pub finds_large : (at : Slot) (there : Option (List ℕ)) → IsSomeAnd there (λ bytes. limit < length bytes) → Loads at there (Err (NotYet at))
+pub finds_large : (at : Slot) (there : Option (List ℕ)) → IsSomeAnd there (λ bytes. limit < length bytes) → Loads at there (Err (TooLarge at))
 finds_large at None h = absurd h
 finds_large at (Some bytes) h = too_large h
 
@@ -31,10 +31,13 @@ risen_at kind files at slot {old} {mid} {new} more h = subst (λ s. HasRisen kin
 pub absent_archive : (at : Slot) (bytes : List ℕ) → at ≡ Archive → bytes ≡ [] → Loads at None (Ok bytes)
 absent_archive at bytes is none = subst (λ (z : Slot × List ℕ). Loads z.0 None (Ok z.1)) (λ i. (sym is i, sym none i)) no_archive
 
+pub absent_schema : (at : Slot) → at ≡ Schema → Loads at None (Err (Missing Schema))
+absent_schema at is = subst (λ s. Loads s None (Err (Missing Schema))) (sym is) no_schema
+
 pub absent_left : (at : Slot) → at ≡ Left → Loads at None (Err (Missing Left))
 absent_left at is = subst (λ s. Loads s None (Err (Missing Left))) (sym is) no_left
 
 pub absent_right : (at : Slot) → at ≡ Right → Loads at None (Err (Missing Right))
 absent_right at is = subst (λ s. Loads s None (Err (Missing Right))) (sym is) no_right
 
-pub ruleset lacking = (absent_archive, absent_left, absent_right)
+pub ruleset lacking = (absent_archive, absent_schema, absent_left, absent_right)

@@ -1,20 +1,36 @@
 -- A run is to do one thing alone: each step finds one thing at the most.
-use Rattle.std.proofs.Common.{◌≡◌, ◌≢◌, ℕ, ◌<◌, ◌≤◌, List, length, Option, Some, None, Result, Ok, Err, refl, sym, ◌∙◌, ap, subst, arith}
+use Rattle.std.proofs.Common.{◌≡◌, ◌≢◌, ℕ, ◌<◌, ◌≤◌, List, length, Option, Some, Result, Ok, Err, refl, sym, ◌∙◌, ap, subst, arith}
 use Rattle.hm_tree.specs.Names.{Name}
 use Rattle.hm_tree.specs.Nodes.{Tree}
 use Rattle.hm_tree.specs.Archives.{Archive}
-use Rattle.hm_tree_text.specs.Text.{IsTreeText, IsArchiveText}
-use Rattle.hm_tree_text.proofs.Laws.{tree_once, archive_once}
-use Rattle.hm_reconcile.specs.Settling.{Settles}
+use Rattle.hm_tree.specs.States.{Path, state}
+use Rattle.hm_tree.proofs.Sorted.{name_total, name_one}
+use Rattle.hm_tree_text.specs.Files.{IsTreeText}
+use Rattle.hm_tree_text.specs.Faults.{TreeFaults}
+use Rattle.hm_tree_text.specs.declared.fault.TextFault.TheVariants.{BadTree, TooDeep, Memory}
+use Rattle.hm_tree_text.proofs.Laws.{tree_once, archive_once, tree_text_reads, archive_text_reads, tree_fault_once, archive_fault_once}
+use Rattle.hm_schema.specs.declared.node.NodeId.{NodeId}
+use Rattle.hm_schema.specs.Values.{SchemaValue}
+use Rattle.hm_schema.specs.Membership.{IsMember, IsFirstOutside, path_cmp}
+use Rattle.hm_schema_text.proofs.Laws.{schema_once, schema_no_line, line_once}
+use Rattle.hm_safety.specs.Views.{View}
+use Rattle.std.specs.Cmp.{IsTotalOrder}
+use Rattle.std.specs.Cmp.Lexicographic.{lists_total}
+use Rattle.std.specs.Ordering.{ordering_reverse}
+use Rattle.std.specs.FinMap.{slice_cmp-IsAntisymmetric}
+use Rattle.std.specs.declared.cmp.Ordering.{Ordering}
+use Rattle.std.specs.declared.cmp.Ordering.TheVariants.{Less, Equal, Greater}
 use Rattle.hm_reconcile.proofs.Safe.{settles_one}
 use Rattle.hm_outside.specs.Contents.{Contents, held}
 use Rattle.hm_command.specs.declared.ending.Slot.{Slot}
-use Rattle.hm_command.specs.declared.ending.Slot.TheVariants.{Archive as ArchiveSlot, Left, Right}
+use Rattle.hm_command.specs.declared.ending.Slot.TheVariants.{Schema as SchemaSlot, Archive as ArchiveSlot, Left, Right}
+use Rattle.hm_command.specs.declared.ending.ArchiveFault.TheVariants as archive_fault
+use Rattle.hm_command.specs.declared.ending.ReplicaFault.TheVariants as replica_fault
 use Rattle.hm_command.specs.declared.ending.Refusal.{Refusal}
-use Rattle.hm_command.specs.declared.ending.Refusal.TheVariants.{Missing, NotYet}
+use Rattle.hm_command.specs.declared.ending.Refusal.TheVariants.{TooLarge, BadSchema, BadArchive, BadReplica}
 use Rattle.hm_command.specs.Words.{FileNames, meaning}
 use Rattle.hm_run.specs.Steps.{Then, stops, goes_on, FindsOne}
-use Rattle.hm_run.specs.Verdict.{Loads, loaded, too_large, no_archive, no_left, no_right, limit, Bytes, LoadsAll, ReadsArchive, archive_text_of, no_archive_text, ReadsReplica, tree_text_of, no_tree_text, Trees, ReadsAll, Plan, Plans, planned, Verdict}
+use Rattle.hm_run.specs.Verdict.{Loads, loaded, too_large, no_archive, no_schema, no_left, no_right, limit, Bytes, LoadsAll, ReadsSchema, schema_of, bad_line, ReadsArchive, archive_of, bad_archive, deep_archive, ReadsReplica, replica_of, no_utf8, bad_item, too_deep, outside, Trees, ReadsAll, Plans, planned, Verdict}
 
 module _ {A B : Type 0} (first : Result A Refusal → Type 0) (second : A → Result B Refusal → Type 0) (one : FindsOne first) (next : (x : A) → FindsOne (second x)) where
   ok_one : (x y : A) → first (Ok x) → first (Ok y) → x ≡ y
@@ -46,44 +62,135 @@ small_or_large x y e p q = let same = ap length (some_bytes x y e) in omega arit
 loads_by : (at at2 : Slot) (there there2 : Option (List ℕ)) → at ≡ at2 → there ≡ there2 → (r s : Result (List ℕ) Refusal) → Loads at there r → Loads at2 there2 s → r ≡ s
 loads_by at at2 _ _ p q _ _ (loaded {bytes = x} h) (loaded {bytes = y} k) = ap Ok (some_bytes x y q)
 loads_by at at2 _ _ p q _ _ (loaded {bytes = x} h) (too_large {bytes = y} k) = absurd (small_or_large x y q h k)
-loads_by at at2 _ _ p q _ _ (loaded h) no_archive = absurd (let no : ⊥ = cc in no)
-loads_by at at2 _ _ p q _ _ (loaded h) no_left = absurd (let no : ⊥ = cc in no)
-loads_by at at2 _ _ p q _ _ (loaded h) no_right = absurd (let no : ⊥ = cc in no)
+loads_by at _ _ _ p q _ _ (loaded {bytes = x} h) no_archive = absurd (let f : ⊥ = cc in f)
+loads_by at _ _ _ p q _ _ (loaded {bytes = x} h) no_schema = absurd (let f : ⊥ = cc in f)
+loads_by at _ _ _ p q _ _ (loaded {bytes = x} h) no_left = absurd (let f : ⊥ = cc in f)
+loads_by at _ _ _ p q _ _ (loaded {bytes = x} h) no_right = absurd (let f : ⊥ = cc in f)
 loads_by at at2 _ _ p q _ _ (too_large {bytes = x} h) (loaded {bytes = y} k) = absurd (small_or_large y x (sym q) k h)
-loads_by at at2 _ _ p q _ _ (too_large h) (too_large k) = ap (λ (z : Slot). Err (NotYet z)) p
-loads_by at at2 _ _ p q _ _ (too_large h) no_archive = absurd (let no : ⊥ = cc in no)
-loads_by at at2 _ _ p q _ _ (too_large h) no_left = absurd (let no : ⊥ = cc in no)
-loads_by at at2 _ _ p q _ _ (too_large h) no_right = absurd (let no : ⊥ = cc in no)
-loads_by _ at2 _ _ p q _ _ no_archive (loaded k) = absurd (let no : ⊥ = cc in no)
-loads_by _ at2 _ _ p q _ _ no_archive (too_large k) = absurd (let no : ⊥ = cc in no)
+loads_by at at2 _ _ p q _ _ (too_large {bytes = x} h) (too_large {bytes = y} k) = ap (λ (z : Slot). Err (TooLarge z)) p
+loads_by at _ _ _ p q _ _ (too_large {bytes = x} h) no_archive = absurd (let f : ⊥ = cc in f)
+loads_by at _ _ _ p q _ _ (too_large {bytes = x} h) no_schema = absurd (let f : ⊥ = cc in f)
+loads_by at _ _ _ p q _ _ (too_large {bytes = x} h) no_left = absurd (let f : ⊥ = cc in f)
+loads_by at _ _ _ p q _ _ (too_large {bytes = x} h) no_right = absurd (let f : ⊥ = cc in f)
+loads_by _ at2 _ _ p q _ _ no_archive (loaded {bytes = y} k) = absurd (let f : ⊥ = cc in f)
+loads_by _ at2 _ _ p q _ _ no_archive (too_large {bytes = y} k) = absurd (let f : ⊥ = cc in f)
 loads_by _ _ _ _ p q _ _ no_archive no_archive = refl
-loads_by _ _ _ _ p q _ _ no_archive no_left = absurd (let no : ⊥ = cc in no)
-loads_by _ _ _ _ p q _ _ no_archive no_right = absurd (let no : ⊥ = cc in no)
-loads_by _ at2 _ _ p q _ _ no_left (loaded k) = absurd (let no : ⊥ = cc in no)
-loads_by _ at2 _ _ p q _ _ no_left (too_large k) = absurd (let no : ⊥ = cc in no)
-loads_by _ _ _ _ p q _ _ no_left no_archive = absurd (let no : ⊥ = cc in no)
+loads_by _ _ _ _ p q _ _ no_archive no_schema = absurd (let f : ⊥ = cc in f)
+loads_by _ _ _ _ p q _ _ no_archive no_left = absurd (let f : ⊥ = cc in f)
+loads_by _ _ _ _ p q _ _ no_archive no_right = absurd (let f : ⊥ = cc in f)
+loads_by _ at2 _ _ p q _ _ no_schema (loaded {bytes = y} k) = absurd (let f : ⊥ = cc in f)
+loads_by _ at2 _ _ p q _ _ no_schema (too_large {bytes = y} k) = absurd (let f : ⊥ = cc in f)
+loads_by _ _ _ _ p q _ _ no_schema no_archive = absurd (let f : ⊥ = cc in f)
+loads_by _ _ _ _ p q _ _ no_schema no_schema = refl
+loads_by _ _ _ _ p q _ _ no_schema no_left = absurd (let f : ⊥ = cc in f)
+loads_by _ _ _ _ p q _ _ no_schema no_right = absurd (let f : ⊥ = cc in f)
+loads_by _ at2 _ _ p q _ _ no_left (loaded {bytes = y} k) = absurd (let f : ⊥ = cc in f)
+loads_by _ at2 _ _ p q _ _ no_left (too_large {bytes = y} k) = absurd (let f : ⊥ = cc in f)
+loads_by _ _ _ _ p q _ _ no_left no_archive = absurd (let f : ⊥ = cc in f)
+loads_by _ _ _ _ p q _ _ no_left no_schema = absurd (let f : ⊥ = cc in f)
 loads_by _ _ _ _ p q _ _ no_left no_left = refl
-loads_by _ _ _ _ p q _ _ no_left no_right = absurd (let no : ⊥ = cc in no)
-loads_by _ at2 _ _ p q _ _ no_right (loaded k) = absurd (let no : ⊥ = cc in no)
-loads_by _ at2 _ _ p q _ _ no_right (too_large k) = absurd (let no : ⊥ = cc in no)
-loads_by _ _ _ _ p q _ _ no_right no_archive = absurd (let no : ⊥ = cc in no)
-loads_by _ _ _ _ p q _ _ no_right no_left = absurd (let no : ⊥ = cc in no)
+loads_by _ _ _ _ p q _ _ no_left no_right = absurd (let f : ⊥ = cc in f)
+loads_by _ at2 _ _ p q _ _ no_right (loaded {bytes = y} k) = absurd (let f : ⊥ = cc in f)
+loads_by _ at2 _ _ p q _ _ no_right (too_large {bytes = y} k) = absurd (let f : ⊥ = cc in f)
+loads_by _ _ _ _ p q _ _ no_right no_archive = absurd (let f : ⊥ = cc in f)
+loads_by _ _ _ _ p q _ _ no_right no_schema = absurd (let f : ⊥ = cc in f)
+loads_by _ _ _ _ p q _ _ no_right no_left = absurd (let f : ⊥ = cc in f)
 loads_by _ _ _ _ p q _ _ no_right no_right = refl
 
 loads_one : (at : Slot) (there : Option (List ℕ)) → FindsOne (Loads at there)
 loads_one at there r s h k = loads_by at at there there refl refl r s h k
 
-archive_one : (bytes : List ℕ) → FindsOne (ReadsArchive bytes)
-archive_one bytes _ _ (archive_text_of {o} h) (archive_text_of {o = a} k) = ap (λ (z : Archive). Ok z) (archive_once o a bytes h k)
-archive_one bytes _ _ (archive_text_of {o} h) (no_archive_text k) = absurd (k o h)
-archive_one bytes _ _ (no_archive_text h) (archive_text_of {o} k) = absurd (h o k)
-archive_one bytes _ _ (no_archive_text h) (no_archive_text k) = refl
+schema_one : (bytes : List ℕ) → FindsOne (ReadsSchema bytes)
+schema_one bytes _ _ (schema_of {s} h) (schema_of {s = t} k) = ap (λ (z : SchemaValue). Ok z) (schema_once bytes s t h k)
+schema_one bytes _ _ (schema_of {s} h) (bad_line {line} k) = absurd (schema_no_line bytes s line h k)
+schema_one bytes _ _ (bad_line {line} h) (schema_of {s} k) = absurd (schema_no_line bytes s line k h)
+schema_one bytes _ _ (bad_line {line} h) (bad_line {line = other} k) = ap (λ (z : ℕ). Err (BadSchema z)) (line_once bytes line other h k)
 
-replica_one : (at : Slot) (bytes : List ℕ) → FindsOne (ReadsReplica at bytes)
-replica_one at bytes _ _ (tree_text_of {t} h) (tree_text_of {t = u} k) = ap (λ (z : Tree). Ok z) (tree_once t u bytes h k)
-replica_one at bytes _ _ (tree_text_of {t} h) (no_tree_text k) = absurd (k t h)
-replica_one at bytes _ _ (no_tree_text h) (tree_text_of {t} k) = absurd (h t k)
-replica_one at bytes _ _ (no_tree_text h) (no_tree_text k) = refl
+place_is : (a b : ℕ) → BadTree a ≡ BadTree b → a ≡ b
+place_is a b e = cc
+
+not_memory : (at : ℕ) → BadTree at ≢ Memory
+not_memory at e = cc
+
+deep_not_memory : TooDeep ≢ Memory
+deep_not_memory e = cc
+
+bad_not_deep : (at : ℕ) → BadTree at ≢ TooDeep
+bad_not_deep at e = cc
+
+archive_one : (bytes : List ℕ) → FindsOne (ReadsArchive bytes)
+archive_one bytes _ _ (archive_of {o} h) (archive_of {o = a} k) = ap (λ (z : Archive). Ok z) (archive_once o a bytes h k)
+archive_one bytes _ _ (archive_of {o} h) (bad_archive {at} k) = absurd (not_memory at (archive_text_reads o bytes h (BadTree at) k))
+archive_one bytes _ _ (archive_of {o} h) (deep_archive k) = absurd (deep_not_memory (archive_text_reads o bytes h TooDeep k))
+archive_one bytes _ _ (bad_archive {at} h) (archive_of {o} k) = absurd (not_memory at (archive_text_reads o bytes k (BadTree at) h))
+archive_one bytes _ _ (bad_archive {at} h) (bad_archive {at = other} k) =
+    ap (λ (z : ℕ). Err (BadArchive (archive_fault.At z))) (place_is at other (archive_fault_once bytes (BadTree at) (BadTree other) h k (not_memory at) (not_memory other)))
+archive_one bytes _ _ (bad_archive {at} h) (deep_archive k) = absurd (bad_not_deep at (archive_fault_once bytes (BadTree at) TooDeep h k (not_memory at) deep_not_memory))
+archive_one bytes _ _ (deep_archive h) (archive_of {o} k) = absurd (deep_not_memory (archive_text_reads o bytes k TooDeep h))
+archive_one bytes _ _ (deep_archive h) (bad_archive {at} k) = absurd (bad_not_deep at (archive_fault_once bytes (BadTree at) TooDeep k h (not_memory at) deep_not_memory))
+archive_one bytes _ _ (deep_archive h) (deep_archive k) = refl
+
+-- two first paths outside are one
+path_total : IsTotalOrder path_cmp
+path_total = lists_total name_total
+
+path_one : (p q : Path) → path_cmp p q ≡ Equal → p ≡ q
+path_one = slice_cmp-IsAntisymmetric name_one
+
+outside_one : (s : SchemaValue) (i : NodeId) (a : View) (p q : Path) → IsFirstOutside s i a p → IsFirstOutside s i a q → p ≡ q
+outside_one s i a p q h k = go (path_cmp p q) refl
+  where
+    go : (o : Ordering) → path_cmp p q ≡ o → p ≡ q
+    go Less e = absurd (k.first p e h.outside)
+    go Equal e = path_one p q e
+    go Greater e = absurd (h.first q (path_total.antisymm q p ∙ ap ordering_reverse e) k.outside)
+
+module _ (s : SchemaValue) (at : Slot) (bytes : List ℕ) where
+  -- a member has no path outside
+  member_not_outside : (t : Tree) (p : Path) → IsMember s s.root (state (Some t)) → IsFirstOutside s s.root (state (Some t)) p → ⊥
+  member_not_outside t p m o = o.outside.refused (m p o.outside.has)
+
+  member_or_outside : (t u : Tree) (p : Path) → IsTreeText t bytes → IsTreeText u bytes → IsMember s s.root (state (Some t)) → IsFirstOutside s s.root (state (Some u)) p → ⊥
+  member_or_outside t u p h k m o = member_not_outside u p (subst (λ z. IsMember s s.root (state (Some z))) (tree_once t u bytes h k) m) o
+
+  text_or_bad : (t : Tree) (place : ℕ) → IsTreeText t bytes → TreeFaults bytes (BadTree place) → ⊥
+  text_or_bad t place h k = not_memory place (tree_text_reads t bytes h (BadTree place) k)
+
+  text_or_deep : (t : Tree) → IsTreeText t bytes → TreeFaults bytes TooDeep → ⊥
+  text_or_deep t h k = deep_not_memory (tree_text_reads t bytes h TooDeep k)
+
+  bad_or_deep : (place : ℕ) → TreeFaults bytes (BadTree place) → TreeFaults bytes TooDeep → ⊥
+  bad_or_deep place h k = bad_not_deep place (tree_fault_once bytes (BadTree place) TooDeep h k (not_memory place) deep_not_memory)
+
+  replica_one : FindsOne (ReadsReplica s at bytes)
+  replica_one _ _ (replica_of {t} u h m) (replica_of {t = v} w k n) = ap (λ (z : Tree). Ok z) (tree_once t v bytes h k)
+  replica_one _ _ (replica_of {t} u h m) (no_utf8 w) = absurd (w u)
+  replica_one _ _ (replica_of {t} u h m) (bad_item {place} w k) = absurd (text_or_bad t place h k)
+  replica_one _ _ (replica_of {t} u h m) (too_deep w k) = absurd (text_or_deep t h k)
+  replica_one _ _ (replica_of {t} u h m) (outside {t = v} {p} w k o) = absurd (member_or_outside t v p h k m o)
+  replica_one _ _ (no_utf8 u) (replica_of w k n) = absurd (u w)
+  replica_one _ _ (no_utf8 u) (no_utf8 w) = refl
+  replica_one _ _ (no_utf8 u) (bad_item w k) = absurd (u w)
+  replica_one _ _ (no_utf8 u) (too_deep w k) = absurd (u w)
+  replica_one _ _ (no_utf8 u) (outside w k o) = absurd (u w)
+  replica_one _ _ (bad_item {place} u h) (replica_of {t} w k n) = absurd (text_or_bad t place k h)
+  replica_one _ _ (bad_item u h) (no_utf8 w) = absurd (w u)
+  replica_one _ _ (bad_item {place} u h) (bad_item {place = other} w k) =
+      ap (λ (z : ℕ). Err (BadReplica at (replica_fault.BadItem z))) (place_is place other (tree_fault_once bytes (BadTree place) (BadTree other) h k (not_memory place) (not_memory other)))
+  replica_one _ _ (bad_item {place} u h) (too_deep w k) = absurd (bad_or_deep place h k)
+  replica_one _ _ (bad_item {place} u h) (outside {t} w k o) = absurd (text_or_bad t place k h)
+  replica_one _ _ (too_deep u h) (replica_of {t} w k n) = absurd (text_or_deep t k h)
+  replica_one _ _ (too_deep u h) (no_utf8 w) = absurd (w u)
+  replica_one _ _ (too_deep u h) (bad_item {place} w k) = absurd (bad_or_deep place k h)
+  replica_one _ _ (too_deep u h) (too_deep w k) = refl
+  replica_one _ _ (too_deep u h) (outside {t} w k o) = absurd (text_or_deep t k h)
+  replica_one _ _ (outside {t} {p} u h o) (replica_of {t = v} w k n) = absurd (member_or_outside v t p k h n o)
+  replica_one _ _ (outside u h o) (no_utf8 w) = absurd (w u)
+  replica_one _ _ (outside {t} u h o) (bad_item {place} w k) = absurd (text_or_bad t place h k)
+  replica_one _ _ (outside {t} u h o) (too_deep w k) = absurd (text_or_deep t h k)
+  replica_one _ _ (outside {t} {p} u h o) (outside {t = v} {p = q} w k r) =
+      ap (λ (z : Path). Err (BadReplica at (replica_fault.Outside z)))
+      (outside_one s s.root (state (Some v)) p q (subst (λ z. IsFirstOutside s s.root (state (Some z)) p) (tree_once t v bytes h k) o) r)
 
 plans_one : (files : FileNames) (before : Trees) → FindsOne (Plans files before)
 plans_one files before _ _ (planned {after} h) (planned {after = next} k) =
@@ -93,12 +200,12 @@ plans_one files before _ _ (planned {after} h) (planned {after = next} k) =
 loads_all_one : (c : Contents) (files : FileNames) → FindsOne (LoadsAll c files)
 unfolding LoadsAll
 loads_all_one c files =
-    then_one _ _ (loads_one ArchiveSlot (held c files.archive)) (λ o. then_one _ _ (loads_one Left (held c files.left)) (λ a. then_one _ _ (loads_one Right (held c files.right)) (λ b. equals_one _)))
+    then_one _ _ (loads_one SchemaSlot (held c files.schema)) (λ s. then_one _ _ (loads_one ArchiveSlot (held c files.archive)) (λ o. then_one _ _ (loads_one Left (held c files.left)) (λ a. then_one _ _ (loads_one Right (held c files.right)) (λ b. equals_one _))))
 
 reads_all_one : (bytes : Bytes) → FindsOne (ReadsAll bytes)
 unfolding ReadsAll
 reads_all_one bytes =
-    then_one _ _ (archive_one bytes.archive) (λ o. then_one _ _ (replica_one Left bytes.left) (λ a. then_one _ _ (replica_one Right bytes.right) (λ b. equals_one _)))
+    then_one _ _ (schema_one bytes.schema) (λ s. then_one _ _ (archive_one bytes.archive) (λ o. then_one _ _ (replica_one s Left bytes.left) (λ a. then_one _ _ (replica_one s Right bytes.right) (λ b. equals_one _))))
 
 -- there is one verdict at the most
 pub verdict_one : (c : Contents) (words : List Name) → FindsOne (Verdict c words)

@@ -3,32 +3,30 @@ use Rattle.std.proofs.Common.{◌≡◌, Bool, true, false, cond, ◌⊎◌, inl
 use Rattle.hm_tree.specs.Names.{Name}
 use Rattle.hm_outside.specs.Contents.{Contents}
 use Rattle.hm_outside.proofs.Risen.{not_risen}
-use Rattle.hm_safety.specs.Safety.{IsSafe}
-use Rattle.hm_reconcile.specs.Settling.{views}
 use Rattle.hm_command.specs.declared.ending.Refusal.{Refusal}
-use Rattle.hm_command.specs.declared.ending.Refusal.TheVariants.{Usage, Missing, NotYet}
+use Rattle.hm_command.specs.declared.ending.Refusal.TheVariants.{Usage, SameName, Missing, TooLarge, BadSchema, BadArchive, BadReplica}
 use Rattle.hm_command.specs.declared.ending.Stop.TheVariants.{Refused, ReadFault, WriteFault, Memory}
 use Rattle.hm_command.specs.declared.ending.Ending.{Ending}
 use Rattle.hm_command.specs.declared.ending.Ending.TheVariants.{Stopped, PutFault, Done}
 use Rattle.hm_command.specs.Words.{FileNames}
 use Rattle.hm_command.specs.Lines.{status_of, refusal_status}
 use Rattle.hm_run.specs.Steps.{stops, goes_on}
-use Rattle.hm_run.specs.Verdict.{Bytes, Trees, Plan, Plans, planned, LoadsAll, ReadsAll, Verdict, stop_state, in_conflict}
+use Rattle.hm_run.specs.Verdict.{Trees, Becomes, Plan, Plans, planned, Verdict, stop_state, in_conflict}
 use Rattle.hm_run.specs.Causes.{IsDone}
 use Rattle.hm_run.specs.Seen.{WhereTold}
-use Rattle.hm_run.specs.Endings.{Outside, HasCause, Leaves, EndsAs, conflict_status, IsSynchronised, IsComplete}
+use Rattle.hm_run.specs.Endings.{Outside, HasCause, Leaves, EndsAs, IsSynchronised, IsComplete}
 use Rattle.hm_run.proofs.Only.{verdict_one}
 
--- ---- a plan has a safe result
+-- ---- what a plan comes to is safe
 
 abbrev IsPlanSafe : Plan → Type 0
-IsPlanSafe plan = IsSafe (views plan.before.archive plan.before.left plan.before.right) (views plan.after.archive plan.after.left plan.after.right)
+IsPlanSafe plan = Becomes plan.before plan.after
 
 plan_is : (p q : Plan) → ◌≡◌ {A = Result Plan Refusal} (Ok p) (Ok q) → p ≡ q
 plan_is p q e = cc
 
 planned_safe : (files : FileNames) (before : Trees) (plan : Plan) (r : Result Plan Refusal) → r ≡ Ok plan → Plans files before r → IsPlanSafe plan
-planned_safe files before plan _ e (planned {after} h) = subst IsPlanSafe (plan_is _ plan e) h.safe
+planned_safe files before plan _ e (planned {after} h) = subst IsPlanSafe (plan_is _ plan e) h
 
 plan_safe : (c : Contents) (words : List Name) (plan : Plan) (r : Result Plan Refusal) → r ≡ Ok plan → Verdict c words r → IsPlanSafe plan
 unfolding Verdict
@@ -40,18 +38,24 @@ plan_safe c words plan r e (goes_on {x = files} h (goes_on k (goes_on {x = befor
 -- ---- after 0 and 1
 
 done_synchronised : (words : List Name) (c : Contents) (conflict : Bool) (left : Option Contents) → IsDone words c conflict left → IsSynchronised words c (cond conflict 1 0) left
-done_synchronised words c conflict left h = record {
+done_synchronised words c conflict left h = let becomes = plan_safe c words h.state.plan (Ok h.state.plan) refl h.state.planned in record {
   plan = h.state.plan;
   planned = h.state.planned;
   new = h.state.is;
-  safe = plan_safe c words h.state.plan (Ok h.state.plan) refl h.state.planned;
+  safe = becomes.safe;
+  member_left = becomes.member_left;
+  member_right = becomes.member_right;
   tells = ap (λ b. cond b 1 0) (sym h.tells);
 }
 
 refusal_is_high : (refusal : Refusal) (n : ℕ) → n ≡ refusal_status refusal → (n ≡ 0) ⊎ (n ≡ 1) → ⊥
 refusal_is_high Usage n e h = omega arith
+refusal_is_high (SameName one two) n e h = omega arith
 refusal_is_high (Missing slot) n e h = omega arith
-refusal_is_high (NotYet slot) n e h = omega arith
+refusal_is_high (TooLarge slot) n e h = omega arith
+refusal_is_high (BadSchema line) n e h = omega arith
+refusal_is_high (BadArchive fault) n e h = omega arith
+refusal_is_high (BadReplica slot fault) n e h = omega arith
 
 synchronised_by : (ending : Ending) (words : List Name) (c : Contents) (left : Option Contents) → (status_of ending ≡ 0) ⊎ (status_of ending ≡ 1) → Leaves ending words c left → IsSynchronised words c (status_of ending) left
 synchronised_by (Stopped (Refused refusal)) words c left status h = absurd (refusal_is_high refusal _ refl status)

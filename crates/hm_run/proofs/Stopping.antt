@@ -1,7 +1,6 @@
 -- Where the work of a run stops.
-use Rattle.std.proofs.Common.{◌≡◌, ◌⊎◌, inl, inr, ⊎_elim, Bool, true, false, ◌||◌, ◌&&◌, not, ℕ, ◌+◌, List, [], ◌∷◌, Option, Some, Result, Ok, Err, refl, sym, ◌∙◌, ap, subst}
-use Rattle.std.specs.Prelude.{codes, if◌then◌else◌}
-use Rattle.std.specs.Str.{bytes_eq}
+use Rattle.std.proofs.Common.{◌≡◌, inl, inr, ⊎_elim, Bool, true, false, ℕ, ◌+◌, List, [], ◌∷◌, Option, Some, None, Result, Ok, Err, sym, ◌∙◌, ap, subst}
+use Rattle.std.specs.Prelude.{if◌then◌else◌}
 use Rattle.hm_tree.specs.Names.{Name}
 use Rattle.hm_outside.specs.Contents.{Contents}
 use Rattle.hm_outside.specs.Failures.{Extends, HasRisen}
@@ -10,41 +9,52 @@ use Rattle.hm_outside.specs.declared.outside.Kind.TheVariants.{Load, Replace}
 use Rattle.hm_outside.proofs.Risen.{risen_since}
 use Rattle.hm_command.specs.declared.ending.Slot.{Slot}
 use Rattle.hm_command.specs.declared.ending.Refusal.{Refusal}
-use Rattle.hm_command.specs.declared.ending.Refusal.TheVariants.{Usage, Missing, NotYet}
+use Rattle.hm_command.specs.declared.ending.Refusal.TheVariants.{Usage, SameName, Missing, TooLarge, BadSchema, BadArchive, BadReplica}
 use Rattle.hm_command.specs.declared.ending.Stop.{Stop}
 use Rattle.hm_command.specs.declared.ending.Stop.TheVariants.{Refused, ReadFault, WriteFault, Memory}
-use Rattle.hm_command.specs.Words.{FileNames, name_of, is_flag, meaning}
+use Rattle.hm_command.specs.Words.{FileNames, name_of, apart, meaning}
 use Rattle.hm_run.specs.Steps.{stops, goes_on}
-use Rattle.hm_run.specs.Verdict.{Bytes, Trees, Plan, LoadsAll, ReadsAll, Becomes, planned, Verdict, texts_of, written, in_conflict}
+use Rattle.hm_run.specs.Verdict.{Bytes, Texts, Trees, Synced, Plan, LoadsAll, ReadsAll, Becomes, planned, Verdict, texts_of, written, in_conflict}
 use Rattle.hm_run.specs.Seen.{itself, Follows, StopsReading}
 use Rattle.hm_run.specs.Writing.{place_of, StopsWriting, WritesAll}
-use Rattle.hm_run.specs.Causes.{HasMeaning, HasStopCause, IsMeant, IsStopState, IsDone, Synchronises}
+use Rattle.hm_run.specs.Causes.{HasStopCause, IsMeant, IsStopState, IsDone, Synchronises}
 
 -- ---- the words
 
-only_usage_if : (x y : Bool) (files : FileNames) (refusal : Refusal) → (if x then Err Usage else (if y then Err Usage else Ok files)) ≡ Err refusal → refusal ≡ Usage
-only_usage_if true y files refusal e = cc
-only_usage_if false true files refusal e = cc
-only_usage_if false false files refusal e = absurd (let no : ⊥ = cc in no)
+-- a refusal of the words is the usage line or two equal names
+data OfWords : Refusal → Type 0 where
+  usage : OfWords Usage
+  same_name : {one two : Slot} → OfWords (SameName one two)
 
-usage_is : (refusal : Refusal) → ◌≡◌ {A = Result FileNames Refusal} (Err Usage) (Err refusal) → refusal ≡ Usage
-usage_is refusal e = cc
+usage_is : (refusal : Refusal) → ◌≡◌ {A = Result FileNames Refusal} (Err Usage) (Err refusal) → OfWords refusal
+usage_is refusal e = let is : Usage ≡ refusal = cc in subst OfWords is usage
 
-only_usage : (words : List Name) (refusal : Refusal) → meaning words ≡ Err refusal → refusal ≡ Usage
+apart_is : (files : FileNames) (pair : Option (Slot × Slot)) (refusal : Refusal) → apart files pair ≡ Err refusal → OfWords refusal
+apart_is files None refusal e = absurd (let f : ⊥ = cc in f)
+apart_is files (Some pair) refusal e = let is : SameName pair.0 pair.1 ≡ refusal = cc in subst OfWords is same_name
+
+either_is : (x : Bool) (files : FileNames) (pair : Option (Slot × Slot)) (refusal : Refusal) → (if x then Err Usage else apart files pair) ≡ Err refusal → OfWords refusal
+either_is true files pair refusal e = usage_is refusal e
+either_is false files pair refusal e = apart_is files pair refusal e
+
+of_words : (words : List Name) (refusal : Refusal) → meaning words ≡ Err refusal → OfWords refusal
 unfolding meaning
-only_usage [] refusal e = usage_is refusal e
-only_usage (a ∷ []) refusal e = usage_is refusal e
-only_usage (a ∷ b ∷ []) refusal e = usage_is refusal e
-only_usage (a ∷ b ∷ c ∷ []) refusal e = usage_is refusal e
-only_usage (a ∷ b ∷ c ∷ d ∷ []) refusal e = only_usage_if _ _ _ refusal e
-only_usage (a ∷ b ∷ c ∷ d ∷ f ∷ rest) refusal e = usage_is refusal e
+of_words [] refusal e = usage_is refusal e
+of_words (a ∷ []) refusal e = usage_is refusal e
+of_words (a ∷ b ∷ []) refusal e = usage_is refusal e
+of_words (a ∷ b ∷ c ∷ []) refusal e = usage_is refusal e
+of_words (a ∷ b ∷ c ∷ d ∷ []) refusal e = usage_is refusal e
+of_words (a ∷ b ∷ c ∷ d ∷ f ∷ []) refusal e = either_is _ _ _ refusal e
+of_words (a ∷ b ∷ c ∷ d ∷ f ∷ g ∷ rest) refusal e = usage_is refusal e
+
+meant_by : (words : List Name) (refusal : Refusal) → OfWords refusal → meaning words ≡ Err refusal → IsMeant words refusal
+meant_by words _ usage e = e
+meant_by words _ same_name e = e
 
 pub words_cause : (words : List Name) (refusal : Refusal) (before after : List Failure) (r : Result Bool Stop) → meaning words ≡ Err refusal → r ≡ Err (Refused refusal) → HasStopCause words before after r
 words_cause words refusal before after r e is =
-    let same = only_usage words refusal e in
     let R : Result Bool Stop → Type 0 = λ s. HasStopCause words before after s in
-    let P : Refusal → Type 0 = λ z. IsMeant words z in
-    subst R (sym is) (subst P (sym same) (e ∙ ap (λ (z : Refusal). Err z) same))
+    subst R (sym is) (meant_by words refusal (of_words words refusal e) e)
 
 pub words_told : (words : List Name) (c : Contents) (refusal : Refusal) (r : Result Bool Stop) (left : Option Contents) → meaning words ≡ Err refusal → r ≡ Err (Refused refusal) → left ≡ Some c → Synchronises words c r left
 unfolding Verdict
@@ -56,8 +66,12 @@ words_told words c refusal r left e is same =
 
 reading_by : (A : Type 0) (words : List Name) (files : FileNames) (before after : List Failure) (stop : Stop) → meaning words ≡ Ok files → StopsReading {A = A} (λ at. HasRisen Load (name_of files at) before after) (Err stop) → HasStopCause {A = Bool} words before after (Err stop)
 reading_by A words files before after (Refused Usage) meant h = absurd h
+reading_by A words files before after (Refused (SameName one two)) meant h = absurd h
 reading_by A words files before after (Refused (Missing slot)) meant h = record { files = files; is = meant }
-reading_by A words files before after (Refused (NotYet slot)) meant h = record { files = files; is = meant }
+reading_by A words files before after (Refused (TooLarge slot)) meant h = record { files = files; is = meant }
+reading_by A words files before after (Refused (BadSchema line)) meant h = record { files = files; is = meant }
+reading_by A words files before after (Refused (BadArchive fault)) meant h = record { files = files; is = meant }
+reading_by A words files before after (Refused (BadReplica slot fault)) meant h = record { files = files; is = meant }
 reading_by A words files before after (ReadFault slot) meant h = record { files = files; meant = meant; risen = h }
 reading_by A words files before after (WriteFault slot) meant h = absurd h
 reading_by A words files before after Memory meant h = tt
@@ -107,7 +121,7 @@ module _ (words : List Name) (c : Contents) (files : FileNames) (meant : meaning
         let R : Result Bool Stop → Type 0 = λ s. Synchronises words c s left in
         subst R (sym is) (told_by A Q words c stop left h (found_by Trees A (ReadsAll bytes) (Verdict c words) seen stop reads_first f) same)
 
-    module _ (before : Trees) (reads : ReadsAll bytes (Ok before)) (after : Trees) (becomes : Becomes before after) where
+    module _ (before : Trees) (reads : ReadsAll bytes (Ok before)) (after : Synced) (becomes : Becomes before after) where
       plan : Plan
       plan = record { files = files; before = before; after = after }
 
@@ -125,15 +139,15 @@ module _ (words : List Name) (c : Contents) (files : FileNames) (meant : meaning
       writes_by A (WriteFault slot) left h = ⊎_elim (λ old. inl (state left (place_of slot) old)) (λ now. inr (state left (place_of slot + 1) now)) h
       writes_by A Memory left h = inr (h.0, state left h.0 h.1)
 
-      pub writes_told : (A : Type 0) (new : Bytes) (stop : Stop) (r : Result Bool Stop) (left : Option Contents) → r ≡ Err stop → new ≡ texts_of after → WritesAll {A = A} c files new (Err stop) left → Synchronises words c r left
+      pub writes_told : (A : Type 0) (new : Texts) (stop : Stop) (r : Result Bool Stop) (left : Option Contents) → r ≡ Err stop → new ≡ texts_of after → WritesAll {A = A} c files new (Err stop) left → Synchronises words c r left
       writes_told A new stop r left is texts h =
           let R : Result Bool Stop → Type 0 = λ s. Synchronises words c s left in
-          let W : Bytes → Type 0 = λ b. WritesAll {A = A} c files b (Err stop) left in
+          let W : Texts → Type 0 = λ b. WritesAll {A = A} c files b (Err stop) left in
           subst R (sym is) (writes_by A stop left (subst W texts h))
 
-      pub done_told : (new : Bytes) (conflict : Bool) (left : Option Contents) → new ≡ texts_of after → conflict ≡ in_conflict after.archive → left ≡ Some (written c files new 3) → IsDone words c conflict left
+      pub done_told : (new : Texts) (conflict : Bool) (left : Option Contents) → new ≡ texts_of after → conflict ≡ in_conflict after.archive → left ≡ Some (written c files new 3) → IsDone words c conflict left
       unfolding plan state
-      done_told new conflict left texts tells is = record { state = state left 3 (is ∙ ap (λ (b : Bytes). Some (written c files b 3)) texts); tells = sym tells }
+      done_told new conflict left texts tells is = record { state = state left 3 (is ∙ ap (λ (b : Texts). Some (written c files b 3)) texts); tells = sym tells }
 
 writes_cause_by : (A : Type 0) (words : List Name) (files : FileNames) (before mid after : List Failure) (stop : Stop) → meaning words ≡ Ok files → Extends before mid → StopsWriting {A = A} (λ at. HasRisen Replace (name_of files at) mid after) (Err stop) → HasStopCause {A = Bool} words before after (Err stop)
 writes_cause_by A words files before mid after (Refused refusal) meant more h = absurd h

@@ -7,7 +7,7 @@ use Rattle.hm_command.specs.declared.ending.Slot.TheVariants.{Archive, Left, Rig
 use Rattle.hm_command.specs.declared.ending.Stop.{Stop}
 use Rattle.hm_command.specs.declared.ending.Stop.TheVariants.{Refused, ReadFault, WriteFault, Memory}
 use Rattle.hm_command.specs.Words.{FileNames}
-use Rattle.hm_run.specs.Verdict.{Bytes, written}
+use Rattle.hm_run.specs.Verdict.{Texts, written}
 use Rattle.hm_run.specs.Writing.{place_of, StopsWriting, WritesOne, WritesAll}
 
 cause_by : (A B : Type 0) (P Q : Slot → Type 0) (stop : Stop) → ((slot : Slot) → P slot → Q slot) → StopsWriting {A = A} P (Err stop) → StopsWriting {A = B} Q (Err stop)
@@ -24,7 +24,7 @@ pub cause_last : {A : Type 0} (P Q : Slot → Type 0) (r : Result A Stop) → ((
 cause_last P Q (Ok x) f h = tt
 cause_last {A} P Q (Err stop) f h = cause_by A A P Q stop f h
 
-module _ (c : Contents) (files : FileNames) (new : Bytes) where
+module _ (c : Contents) (files : FileNames) (new : Texts) where
   -- a write that leads from the state before its slot to the next
   stops_by : (A B : Type 0) (at : Slot) (name : Name) (bytes : List ℕ) (stop : Stop) (left : Option Contents) → written c files new (place_of at + 1) ≡ replaced (written c files new (place_of at)) name bytes → WritesOne {A = A} at (written c files new (place_of at)) name bytes (Err stop) left → WritesAll {A = B} c files new (Err stop) left
   stops_by A B at name bytes (Refused refusal) left leads h = absurd h

@@ -8,7 +8,7 @@ use Rattle.hm_outside.specs.declared.outside.Kind.{Kind}
 use Rattle.hm_outside.specs.declared.outside.Kind.TheVariants.{Load, Replace}
 use Rattle.hm_command.specs.declared.ending.Slot.{Slot}
 use Rattle.hm_command.specs.declared.ending.Refusal.{Refusal}
-use Rattle.hm_command.specs.declared.ending.Refusal.TheVariants.{Usage, Missing, NotYet}
+use Rattle.hm_command.specs.declared.ending.Refusal.TheVariants.{Usage, SameName, Missing, TooLarge, BadSchema, BadArchive, BadReplica}
 use Rattle.hm_command.specs.declared.ending.Stop.{Stop}
 use Rattle.hm_command.specs.declared.ending.Stop.TheVariants.{Refused, ReadFault, WriteFault, Memory}
 use Rattle.hm_command.specs.Words.{FileNames, name_of, meaning}
@@ -26,11 +26,15 @@ pub record HasFailed (kind : Kind) (slot : Slot) (words : List Name) (before aft
   pub meant : meaning words ≡ Ok files
   pub risen : HasRisen kind (name_of files slot) before after
 
--- the usage line comes exactly where the words mean nothing, and no other refusal does
+-- a refusal of the words is the one that their meaning says, and every other one comes where they mean something
 abbrev pub IsMeant : List Name → Refusal → Type 0
 IsMeant words Usage = meaning words ≡ Err Usage
+IsMeant words (SameName one two) = meaning words ≡ Err (SameName one two)
 IsMeant words (Missing slot) = HasMeaning words
-IsMeant words (NotYet slot) = HasMeaning words
+IsMeant words (TooLarge slot) = HasMeaning words
+IsMeant words (BadSchema line) = HasMeaning words
+IsMeant words (BadArchive fault) = HasMeaning words
+IsMeant words (BadReplica slot fault) = HasMeaning words
 
 -- what is known of a stop and of an end, whatever the store tells
 abbrev pub HasStopCause : {A : Type 0} → List Name → List Failure → List Failure → Result A Stop → Type 0

@@ -4,6 +4,8 @@ use Rattle.hm_tree.specs.Names.{Name}
 use Rattle.hm_outside.specs.Contents.{Contents}
 use Rattle.hm_outside.specs.Failures.{Extends}
 use Rattle.hm_outside.specs.declared.outside.Failure.{Failure}
+use Rattle.hm_tree.specs.States.{state}
+use Rattle.hm_schema.specs.Membership.{IsMember}
 use Rattle.hm_safety.specs.Safety.{IsSafe}
 use Rattle.hm_reconcile.specs.Settling.{views}
 use Rattle.hm_command.specs.declared.ending.Refusal.{Refusal}
@@ -11,7 +13,7 @@ use Rattle.hm_command.specs.declared.ending.Stop.{Stop}
 use Rattle.hm_command.specs.declared.ending.Stop.TheVariants.{Refused, ReadFault, WriteFault, Memory}
 use Rattle.hm_command.specs.declared.ending.Ending.{Ending}
 use Rattle.hm_command.specs.declared.ending.Ending.TheVariants.{Stopped, PutFault, Done}
-use Rattle.hm_command.specs.Lines.{output_of, report_line, refusal_status}
+use Rattle.hm_command.specs.Lines.{output_of, refusal_status}
 use Rattle.hm_run.specs.Causes.{HasMeaning, HasStopCause, Synchronises, IsDone}
 use Rattle.hm_run.specs.Seen.{WhereTold}
 use Rattle.hm_run.specs.Verdict.{Plan, Verdict, stop_state, in_conflict}
@@ -49,8 +51,8 @@ Puts (Stopped (Refused refusal)) w before after out = PutsLine (output_of (Stopp
 Puts (Stopped (ReadFault slot)) w before after out = PutsLine (output_of (Stopped (ReadFault slot))) w before after out
 Puts (Stopped (WriteFault slot)) w before after out = PutsLine (output_of (Stopped (WriteFault slot))) w before after out
 Puts (Stopped Memory) w before after out = out ≡ Some w
-Puts (PutFault conflict) w before after out = PutsPart (report_line conflict) w out
-Puts (Done conflict) w before after out = out ≡ Some (w ++ report_line conflict)
+Puts (PutFault conflict) w before after out = PutsPart (output_of (PutFault conflict)) w out
+Puts (Done conflict) w before after out = out ≡ Some (w ++ output_of (Done conflict))
 
 -- a run of these words ends so
 pub record EndsAs (ending : Ending) (words : List Name) (before after : Outside) : Type 0 where
@@ -82,12 +84,14 @@ pub data Finishes (given : Ending) (before after : ℕ) (ending : Ending) : Type
 abbrev pub conflict_status : Plan → ℕ
 conflict_status plan = cond (in_conflict plan.after.archive) 1 0
 
--- the store has the three new texts, and what they hold is a safe result of what was read
+-- the store has the three new texts; what they hold is a safe result of what was read, and both replicas are members
 pub record IsSynchronised (words : List Name) (c : Contents) (status : ℕ) (left : Option Contents) : Type 0 where
   pub plan : Plan
   pub planned : Verdict c words (Ok plan)
   pub new : left ≡ Some (stop_state c plan 3)
   pub safe : IsSafe (views plan.before.archive plan.before.left plan.before.right) (views plan.after.archive plan.after.left plan.after.right)
+  pub member_left : IsMember plan.before.schema plan.before.schema.root (state (Some plan.after.left))
+  pub member_right : IsMember plan.before.schema plan.before.schema.root (state (Some plan.after.right))
   pub tells : status ≡ conflict_status plan
 
 -- where there is a plan and nothing outside fails, it is carried out, unless memory runs out

@@ -3,24 +3,24 @@ use Rattle.std.specs.Prelude.{◌≡◌, ℕ, List, Option, Some, Vec, Result, O
 use Rattle.std.specs.declared.alloc.Global.{Global}
 use Rattle.hm_command.specs.declared.ending.Slot.{Slot}
 use Rattle.hm_command.specs.declared.ending.Refusal.{Refusal}
-use Rattle.hm_command.specs.declared.ending.Refusal.TheVariants.{Usage, Missing, NotYet}
+use Rattle.hm_command.specs.declared.ending.Refusal.TheVariants.{Usage, SameName, Missing, TooLarge, BadSchema, BadArchive, BadReplica}
 use Rattle.hm_command.specs.declared.ending.Stop.{Stop}
 use Rattle.hm_command.specs.declared.ending.Stop.TheVariants.{Refused, ReadFault, WriteFault, Memory}
 use Rattle.hm_run.specs.declared.load.Loads.{Loads}
 use Rattle.hm_run.specs.declared.read.Inputs.{Inputs}
 use Rattle.hm_reconcile.specs.declared.Outcome.{Outcome}
-use Rattle.hm_run.specs.Verdict.{Bytes, Trees}
+use Rattle.hm_run.specs.Verdict.{Bytes, Trees, Synced}
 
 abbrev pub bytes_of : Vec ℕ Global → List ℕ
 bytes_of v = v.items
 
 abbrev pub loads_of : Loads → Bytes
-loads_of l = record { archive = l.archive.items; left = l.left.items; right = l.right.items }
+loads_of l = record { schema = l.schema.items; archive = l.archive.items; left = l.left.items; right = l.right.items }
 
 abbrev pub inputs_of : Inputs → Trees
-inputs_of i = record { archive = i.archive; left = i.left; right = i.right }
+inputs_of i = record { schema = i.schema; archive = i.archive; left = i.left; right = i.right }
 
-abbrev pub outcome_of : Outcome → Trees
+abbrev pub outcome_of : Outcome → Synced
 outcome_of o = record { archive = o.archive; left = o.left; right = o.right }
 
 abbrev pub itself : {A : Type 0} → A → A
@@ -41,8 +41,12 @@ Follows seen (Err Memory) step = Unit {0}
 -- a refusal that comes of what the files hold, and not of the words
 abbrev pub IsOfFiles : Refusal → Type 0
 IsOfFiles Usage = ⊥
+IsOfFiles (SameName one two) = ⊥
 IsOfFiles (Missing slot) = Unit {0}
-IsOfFiles (NotYet slot) = Unit {0}
+IsOfFiles (TooLarge slot) = Unit {0}
+IsOfFiles (BadSchema line) = Unit {0}
+IsOfFiles (BadArchive fault) = Unit {0}
+IsOfFiles (BadReplica slot fault) = Unit {0}
 
 -- a read fault comes only with this cause, and a write fault never
 abbrev pub StopsReading : {A : Type 0} → (Slot → Type 0) → Result A Stop → Type 0

@@ -1,19 +1,29 @@
 -- What a run over these contents is to do: the first refusal in the order of the checks, or a plan.
-use Rattle.std.specs.Prelude.{◌≡◌, ◌⊎◌, ℕ, zero, suc, ◌<◌, ◌≤◌, Bool, true, false, List, [], length, Option, Some, None, Result, Ok, Err}
+use Rattle.std.specs.Prelude.{◌≡◌, ℕ, zero, suc, ◌<◌, ◌≤◌, Bool, true, false, List, [], length, Option, Some, None, Result, Ok, Err, IsUtf8}
+use Rattle.std.specs.Str.Lossy.{utf8_valid_len}
 use Rattle.hm_tree.specs.Names.{Name}
 use Rattle.hm_tree.specs.Nodes.{Tree}
 use Rattle.hm_tree.specs.Archives.{Archive}
-use Rattle.hm_tree.specs.States.{state}
+use Rattle.hm_tree.specs.States.{Path, state}
 use Rattle.hm_tree.specs.declared.archive.State.{State}
 use Rattle.hm_tree.specs.declared.archive.State.TheVariants as state_of
-use Rattle.hm_tree_text.specs.Text.{IsTreeText, IsArchiveText, tree_text, archive_text}
+use Rattle.hm_tree_text.specs.Text.{tree_text, archive_text}
+use Rattle.hm_tree_text.specs.Files.{IsTreeText, IsArchiveText}
+use Rattle.hm_tree_text.specs.Faults.{TreeFaults, ArchiveFaults}
+use Rattle.hm_tree_text.specs.declared.fault.TextFault.TheVariants.{BadTree, TooDeep}
+use Rattle.hm_schema.specs.Values.{SchemaValue}
+use Rattle.hm_schema.specs.Membership.{IsMember, IsFirstOutside}
+use Rattle.hm_schema_text.specs.SchemaFiles.{IsSchemaFile}
+use Rattle.hm_schema_text.specs.BadLines.{IsFirstBadLine}
 use Rattle.hm_safety.specs.Safety.{IsSafe}
 use Rattle.hm_reconcile.specs.Settling.{views, Settles}
 use Rattle.hm_outside.specs.Contents.{Contents, held, replaced}
 use Rattle.hm_command.specs.declared.ending.Slot.{Slot}
 use Rattle.hm_command.specs.declared.ending.Slot.TheVariants as slot
+use Rattle.hm_command.specs.declared.ending.ArchiveFault.TheVariants as archive_fault
+use Rattle.hm_command.specs.declared.ending.ReplicaFault.TheVariants as replica_fault
 use Rattle.hm_command.specs.declared.ending.Refusal.{Refusal}
-use Rattle.hm_command.specs.declared.ending.Refusal.TheVariants.{Missing, NotYet}
+use Rattle.hm_command.specs.declared.ending.Refusal.TheVariants.{Missing, TooLarge, BadSchema, BadArchive, BadReplica}
 use Rattle.hm_command.specs.Words.{FileNames, meaning}
 use Rattle.hm_run.specs.Steps.{Then}
 
@@ -25,62 +35,84 @@ limit = 16777216
 
 pub data Loads : Slot → Option (List ℕ) → Result (List ℕ) Refusal → Type 0 where
   loaded : {at : Slot} {bytes : List ℕ} → length bytes ≤ limit → Loads at (Some bytes) (Ok bytes)
-  too_large : {at : Slot} {bytes : List ℕ} → limit < length bytes → Loads at (Some bytes) (Err (NotYet at))
+  too_large : {at : Slot} {bytes : List ℕ} → limit < length bytes → Loads at (Some bytes) (Err (TooLarge at))
   no_archive : Loads slot.Archive None (Ok [])
+  no_schema : Loads slot.Schema None (Err (Missing slot.Schema))
   no_left : Loads slot.Left None (Err (Missing slot.Left))
   no_right : Loads slot.Right None (Err (Missing slot.Right))
 
--- the bytes of the three files; an archive that is absent has none
+-- the bytes of the four files; an archive that is absent has none
 pub record Bytes : Type 0 where
+  pub schema : List ℕ
   pub archive : List ℕ
   pub left : List ℕ
   pub right : List ℕ
 
 unfoldable pub LoadsAll : Contents → FileNames → Result Bytes Refusal → Type 0
 LoadsAll c files =
+    Then (Loads slot.Schema (held c files.schema)) (λ s.
     Then (Loads slot.Archive (held c files.archive)) (λ o.
     Then (Loads slot.Left (held c files.left)) (λ a.
     Then (Loads slot.Right (held c files.right)) (λ b r.
-    r ≡ Ok (record { archive = o; left = a; right = b }))))
+    r ≡ Ok (record { schema = s; archive = o; left = a; right = b })))))
 
 -- ---- reading: the values that the bytes are the texts of
 
+pub data ReadsSchema (bytes : List ℕ) : Result SchemaValue Refusal → Type 0 where
+  schema_of : {s : SchemaValue} → IsSchemaFile bytes s → ReadsSchema bytes (Ok s)
+  bad_line : {line : ℕ} → IsFirstBadLine bytes line → ReadsSchema bytes (Err (BadSchema line))
+
 pub data ReadsArchive (bytes : List ℕ) : Result Archive Refusal → Type 0 where
-  archive_text_of : {o : Archive} → IsArchiveText o bytes → ReadsArchive bytes (Ok o)
-  no_archive_text : ((o : Archive) → ¬ (IsArchiveText o bytes)) → ReadsArchive bytes (Err (NotYet slot.Archive))
+  archive_of : {o : Archive} → IsArchiveText o bytes → ReadsArchive bytes (Ok o)
+  bad_archive : {at : ℕ} → ArchiveFaults bytes (BadTree at) → ReadsArchive bytes (Err (BadArchive (archive_fault.At at)))
+  deep_archive : ArchiveFaults bytes TooDeep → ReadsArchive bytes (Err (BadArchive archive_fault.Deep))
 
-pub data ReadsReplica (at : Slot) (bytes : List ℕ) : Result Tree Refusal → Type 0 where
-  tree_text_of : {t : Tree} → IsTreeText t bytes → ReadsReplica at bytes (Ok t)
-  no_tree_text : ((t : Tree) → ¬ (IsTreeText t bytes)) → ReadsReplica at bytes (Err (NotYet at))
+-- a replica is UTF-8, the text of a tree, and a member of the schema
+pub data ReadsReplica (s : SchemaValue) (at : Slot) (bytes : List ℕ) : Result Tree Refusal → Type 0 where
+  replica_of : {t : Tree} → IsUtf8 bytes → IsTreeText t bytes → IsMember s s.root (state (Some t)) → ReadsReplica s at bytes (Ok t)
+  no_utf8 : ¬ (IsUtf8 bytes) → ReadsReplica s at bytes (Err (BadReplica at (replica_fault.NotUtf8 (utf8_valid_len bytes))))
+  bad_item : {place : ℕ} → IsUtf8 bytes → TreeFaults bytes (BadTree place) → ReadsReplica s at bytes (Err (BadReplica at (replica_fault.BadItem place)))
+  too_deep : IsUtf8 bytes → TreeFaults bytes TooDeep → ReadsReplica s at bytes (Err (BadReplica at (replica_fault.TooDeep 1001)))
+  outside : {t : Tree} {p : Path} → IsUtf8 bytes → IsTreeText t bytes → IsFirstOutside s s.root (state (Some t)) p → ReadsReplica s at bytes (Err (BadReplica at (replica_fault.Outside p)))
 
--- an archive and two replicas
+-- a schema, an archive and two replicas
 pub record Trees : Type 0 where
+  pub schema : SchemaValue
   pub archive : Archive
   pub left : Tree
   pub right : Tree
 
 unfoldable pub ReadsAll : Bytes → Result Trees Refusal → Type 0
 ReadsAll bytes =
+    Then (ReadsSchema bytes.schema) (λ s.
     Then (ReadsArchive bytes.archive) (λ o.
-    Then (ReadsReplica slot.Left bytes.left) (λ a.
-    Then (ReadsReplica slot.Right bytes.right) (λ b r.
-    r ≡ Ok (record { archive = o; left = a; right = b }))))
+    Then (ReadsReplica s slot.Left bytes.left) (λ a.
+    Then (ReadsReplica s slot.Right bytes.right) (λ b r.
+    r ≡ Ok (record { schema = s; archive = o; left = a; right = b })))))
 
 -- ---- reconciling
 
--- these become those, and that is safe
-pub record Becomes (before after : Trees) : Type 0 where
+-- an archive and two replicas
+pub record Synced : Type 0 where
+  pub archive : Archive
+  pub left : Tree
+  pub right : Tree
+
+-- what was read becomes this: safe, and both replicas members of the schema
+pub record Becomes (before : Trees) (after : Synced) : Type 0 where
   pub settles : Settles before.archive before.left before.right after.archive after.left after.right
   pub safe : IsSafe (views before.archive before.left before.right) (views after.archive after.left after.right)
+  pub member_left : IsMember before.schema before.schema.root (state (Some after.left))
+  pub member_right : IsMember before.schema before.schema.root (state (Some after.right))
 
 -- the names of the files, what was read of them, and what they are to become
 pub record Plan : Type 0 where
   pub files : FileNames
   pub before : Trees
-  pub after : Trees
+  pub after : Synced
 
 pub data Plans (files : FileNames) (before : Trees) : Result Plan Refusal → Type 0 where
-  planned : {after : Trees} → Becomes before after → Plans files before (Ok (record { files = files; before = before; after = after }))
+  planned : {after : Synced} → Becomes before after → Plans files before (Ok (record { files = files; before = before; after = after }))
 
 -- ---- the verdict: words, loads, texts, and the plan
 
@@ -103,11 +135,16 @@ in_conflict o = is_marked_state (state o [])
 -- ---- the contents that a plan comes to
 
 -- the texts of an archive and two replicas
-abbrev pub texts_of : Trees → Bytes
+pub record Texts : Type 0 where
+  pub archive : List ℕ
+  pub left : List ℕ
+  pub right : List ℕ
+
+abbrev pub texts_of : Synced → Texts
 texts_of t = record { archive = archive_text t.archive; left = tree_text t.left; right = tree_text t.right }
 
 -- the contents with the new bytes in the first n of left, right and archive
-abbrev pub written : Contents → FileNames → Bytes → ℕ → Contents
+abbrev pub written : Contents → FileNames → Texts → ℕ → Contents
 written c files new zero = c
 written c files new (suc zero) = replaced c files.left new.left
 written c files new (suc (suc zero)) = replaced (replaced c files.left new.left) files.right new.right

@@ -3,14 +3,15 @@ use Rattle.std.specs.Prelude.{◌≡◌, ◌⊎◌, ℕ, ◌+◌, List, Option, 
 use Rattle.hm_tree.specs.Names.{Name}
 use Rattle.hm_outside.specs.Contents.{Contents, replaced}
 use Rattle.hm_command.specs.declared.ending.Slot.{Slot}
-use Rattle.hm_command.specs.declared.ending.Slot.TheVariants.{Archive, Left, Right}
+use Rattle.hm_command.specs.declared.ending.Slot.TheVariants.{Schema, Archive, Left, Right}
 use Rattle.hm_command.specs.declared.ending.Stop.{Stop}
 use Rattle.hm_command.specs.declared.ending.Stop.TheVariants.{Refused, ReadFault, WriteFault, Memory}
 use Rattle.hm_command.specs.Words.{FileNames}
-use Rattle.hm_run.specs.Verdict.{Bytes, written}
+use Rattle.hm_run.specs.Verdict.{Texts, written}
 
--- how many files are new before this one
+-- how many files are new before this one; the schema is never written
 abbrev pub place_of : Slot → ℕ
+place_of Schema = 0
 place_of Left = 0
 place_of Right = 1
 place_of Archive = 2
@@ -32,7 +33,7 @@ WritesOne at c name bytes (Err (WriteFault slot)) left = (slot ≡ at) × ((left
 WritesOne at c name bytes (Err Memory) left = left ≡ Some c
 
 -- what the three writes leave: a fault at a file leaves it old or new
-abbrev pub WritesAll : {A : Type 0} → Contents → FileNames → Bytes → Result A Stop → Option Contents → Type 0
+abbrev pub WritesAll : {A : Type 0} → Contents → FileNames → Texts → Result A Stop → Option Contents → Type 0
 WritesAll c files new (Ok x) left = left ≡ Some (written c files new 3)
 WritesAll c files new (Err (Refused refusal)) left = ⊥
 WritesAll c files new (Err (ReadFault slot)) left = ⊥

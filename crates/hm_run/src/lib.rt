@@ -5,9 +5,8 @@ mod load;
 mod make;
 mod read;
 mod sync;
+#[cfg(test)]
+mod tests;
 mod write;
 
 pub use sync::run;
-
-#[cfg(test)]
-mod tests;

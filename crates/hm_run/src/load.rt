@@ -1,4 +1,4 @@
-//! Loading the three files.
+//! Loading the four files.
 ghost use Rattle.std.specs.Prelude.{◌≡◌, None};
 ghost use Rattle.hm_outside.specs.Contents.{held};
 ghost use Rattle.hm_outside.specs.Failures.{Extends, HasRisen};
@@ -16,9 +16,10 @@ use std::alloc::Global;
 // The greatest number of bytes of a file.
 const LIMIT: usize = 16_777_216;
 
-/// The bytes of the three files; an archive that is absent has none.
+/// The bytes of the four files; an archive that is absent has none.
 #[derive(Drop)]
 pub struct Loads {
+    pub schema: Vec<u8>,
     pub archive: Vec<u8>,
     pub left: Vec<u8>,
     pub right: Vec<u8>,
@@ -32,6 +33,7 @@ fn absent(alloc: Global, slot: Slot) -> Result<Vec<u8>, Stop>
 {
     match slot {
         Slot::Archive => Ok(Vec::new(alloc)),
+        Slot::Schema => Err(Stop::Refused(Refusal::Missing(Slot::Schema))),
         Slot::Left => Err(Stop::Refused(Refusal::Missing(Slot::Left))),
         Slot::Right => Err(Stop::Refused(Refusal::Missing(Slot::Right))),
     }
@@ -50,24 +52,26 @@ fn load_one<S: Store>(
 {
     match store.load(name, LIMIT) {
         Loaded::Bytes(bytes) => Ok(bytes),
-        Loaded::Large => Err(Stop::Refused(Refusal::NotYet(slot))),
+        Loaded::Large => Err(Stop::Refused(Refusal::TooLarge(slot))),
         Loaded::Absent => absent(alloc, slot),
         Loaded::Failed => Err(Stop::ReadFault(slot)),
         Loaded::Memory => Err(Stop::Memory),
     }
 }
 
-/// The bytes of the three files, or the first stop.
+/// The bytes of the four files, or the first stop.
 pub fn load_all<S: Store>(alloc: Global, store: &mut S, files: Files<'_>) -> Result<Loads, Stop>
     ensures contents { S.contents store.new ≡ S.contents store.old }
     ensures failed { Extends (S.failed store.old) (S.failed store.new) }
     ensures cause { StopsReading (λ at. HasRisen Load (name_of (names files.entry) at) (S.failed store.old) (S.failed store.new)) result }
     ensures told { WhereTold (S.contents store.old) (λ c. Follows loads_of result (LoadsAll c (names files.entry))) }
 {
+    let schema = load_one(alloc, store, Slot::Schema, files.schema)?;
     let archive = load_one(alloc, store, Slot::Archive, files.archive)?;
     let left = load_one(alloc, store, Slot::Left, files.left)?;
     let right = load_one(alloc, store, Slot::Right, files.right)?;
     Ok(Loads {
+        schema,
         archive,
         left,
         right,

@@ -1,9 +1,8 @@
 //! Making the new files.
 ghost use Rattle.std.specs.Prelude.{◌≡◌, IfOk};
-ghost use Rattle.hm_tree_text.specs.Text.{IsSpelledSoFar};
 ghost use Rattle.hm_run.specs.Seen.{inputs_of, outcome_of};
 ghost use Rattle.hm_run.specs.Verdict.{Becomes, texts_of, in_conflict};
-ghost use Rattle.hm_run.specs.Making.{new_bytes, IsMade};
+ghost use Rattle.hm_run.specs.Making.{new_bytes, AreMembers, IsMade};
 
 use crate::read::Inputs;
 use hm_reconcile::{Outcome, reconcile};
@@ -30,7 +29,6 @@ fn is_in_conflict(archive: &Archive) -> bool
 }
 
 fn spell(alloc: Global, outcome: &Outcome) -> Result<NewFiles, Memory>
-    requires { IsSpelledSoFar outcome.now.archive }
     ensures texts { IfOk result (λ made. new_bytes made ≡ texts_of (outcome_of outcome.now)) }
     ensures tells { IfOk result (λ made. made.conflict ≡ in_conflict outcome.now.archive) }
 {
@@ -44,6 +42,7 @@ fn spell(alloc: Global, outcome: &Outcome) -> Result<NewFiles, Memory>
 
 /// The new files of what was read.
 pub fn make(alloc: Global, inputs: &Inputs) -> Result<NewFiles, Memory>
+    requires { AreMembers (inputs_of inputs.now) }
     ensures { IfOk result (IsMade (inputs_of inputs.now)) }
 {
     let outcome = reconcile(alloc, &inputs.archive, &inputs.left, &inputs.right)?;

@@ -49,7 +49,7 @@ fn finish<K: Sink>(alloc: Global, ending: Ending, out: &mut K) -> Ending
     if let Ending::Stopped(Stop::Memory) = ending {
         return ending;
     }
-    let Ok(output) = output_of(alloc, ending) else {
+    let Ok(output) = output_of(alloc, &ending) else {
         return Ending::Stopped(Stop::Memory);
     };
     match out.put(&output) {
@@ -86,5 +86,6 @@ pub fn run<S: Store, K: Sink>(alloc: Global, words: &[Name], store: &mut S, out:
     ensures complete { S.failed store.new ≡ S.failed store.old → K.faults out.new ≡ K.faults out.old → WhereTold (S.contents store.old) (λ c. IsComplete words.now c result (S.contents store.new)) }
 {
     let given = ending_of(synchronise(alloc, words, store));
-    status_of(finish(alloc, given, out))
+    let ending = finish(alloc, given, out);
+    status_of(&ending)
 }

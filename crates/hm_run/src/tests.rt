@@ -7,7 +7,7 @@ use std::alloc::Global;
 use std::process::Abort;
 use std::test::Fail;
 
-// A run over three files, in the order archive, left, right: what they hold before and after it, and what it says.
+// A run over an archive and two replicas, in this order: what they hold before and after it, and what it says.
 struct Case {
     before: [Option<&'static str>; 3],
     after: [Option<&'static str>; 3],
@@ -16,6 +16,16 @@ struct Case {
 }
 
 const FILES: [&str; 3] = ["o", "a", "b"];
+
+// Every tree is a member.
+const EVERY: &str = "harmony schema 1\nroot R\nnode R\n  other any R\n  shape + 0..\n";
+
+// Members have one name at the root, and nothing below it.
+const ONE: &str = "harmony schema 1\nroot R\nnode R\n  other any Empty\n  shape + 1..1\n";
+
+// Members have at most two of three names.
+const TWO: &str =
+    "harmony schema 1\nroot R\nnode R\n  edge x Empty\n  edge y Empty\n  edge z Empty\n  shape ? x y\n  shape ? x z\n  shape ? y z\n";
 
 const AGREED: [Case; 6] = [
     Case {
@@ -85,31 +95,41 @@ const IN_CONFLICT: [Case; 3] = [
     },
 ];
 
-const REFUSED: [Case; 6] = [
+const REFUSED: [Case; 8] = [
     Case {
-        before: [
-            Some("{\"A\"}\n"),
-            Some("{\"b\",\"a\"}\n"),
-            Some("{\"C\"}\n"),
-        ],
-        after: [
-            Some("{\"A\"}\n"),
-            Some("{\"b\",\"a\"}\n"),
-            Some("{\"C\"}\n"),
-        ],
-        output: "harmony: NotYet A\n",
+        before: [Some("{\"a\"}"), Some("{}\n"), Some("{}\n")],
+        after: [Some("{\"a\"}"), Some("{}\n"), Some("{}\n")],
+        output: "harmony: BadArchive at 5\n",
         status: 3,
     },
     Case {
-        before: [Some("{\"A\":!}\n"), Some("{}"), Some("{\"C\"}\n")],
-        after: [Some("{\"A\":!}\n"), Some("{}"), Some("{\"C\"}\n")],
-        output: "harmony: NotYet archive\n",
+        before: [Some("{\"b\",\"a\"}\n"), Some("{}\n"), Some("{}\n")],
+        after: [Some("{\"b\",\"a\"}\n"), Some("{}\n"), Some("{}\n")],
+        output: "harmony: BadArchive at 6\n",
         status: 3,
     },
     Case {
-        before: [Some("{}\n"), Some("{}\n"), Some("!\n")],
-        after: [Some("{}\n"), Some("{}\n"), Some("!\n")],
-        output: "harmony: NotYet B\n",
+        before: [Some("{\"a\":{}}\n"), Some("{\n"), Some("{}\n")],
+        after: [Some("{\"a\":{}}\n"), Some("{\n"), Some("{}\n")],
+        output: "harmony: BadArchive at 6\n",
+        status: 3,
+    },
+    Case {
+        before: [Some("{}\n"), Some("{\"b\",\"a\"}\n"), Some("{\"C\"}\n")],
+        after: [Some("{}\n"), Some("{\"b\",\"a\"}\n"), Some("{\"C\"}\n")],
+        output: "harmony: BadReplica A BadItem 6\n",
+        status: 3,
+    },
+    Case {
+        before: [None, Some(""), Some("{}\n")],
+        after: [None, Some(""), Some("{}\n")],
+        output: "harmony: BadReplica A BadItem 0\n",
+        status: 3,
+    },
+    Case {
+        before: [Some("{\"A\":!}\n"), Some("{}\n"), Some("!\n")],
+        after: [Some("{\"A\":!}\n"), Some("{}\n"), Some("!\n")],
+        output: "harmony: BadReplica B BadItem 0\n",
         status: 3,
     },
     Case {
@@ -124,10 +144,56 @@ const REFUSED: [Case; 6] = [
         output: "harmony: Missing B\n",
         status: 3,
     },
+];
+
+const OUTSIDE_ONE: [Case; 3] = [
     Case {
-        before: [None, Some(""), Some("{}\n")],
-        after: [None, Some(""), Some("{}\n")],
-        output: "harmony: NotYet A\n",
+        before: [
+            Some("{\"A\"}\n"),
+            Some("{\"B\"}\n"),
+            Some("{\"C\",\"D\"}\n"),
+        ],
+        after: [
+            Some("{\"A\"}\n"),
+            Some("{\"B\"}\n"),
+            Some("{\"C\",\"D\"}\n"),
+        ],
+        output: "harmony: BadReplica B Outside /\n",
+        status: 3,
+    },
+    Case {
+        before: [
+            Some("{\"A\"}\n"),
+            Some("{\"B\":{\"x\"}}\n"),
+            Some("{\"C\"}\n"),
+        ],
+        after: [
+            Some("{\"A\"}\n"),
+            Some("{\"B\":{\"x\"}}\n"),
+            Some("{\"C\"}\n"),
+        ],
+        output: "harmony: BadReplica A Outside /\"B\"\n",
+        status: 3,
+    },
+    Case {
+        before: [Some("{\"A\"}\n"), Some("{}\n"), Some("{\"C\",\"D\"}\n")],
+        after: [Some("{\"A\"}\n"), Some("{}\n"), Some("{\"C\",\"D\"}\n")],
+        output: "harmony: BadReplica A Outside /\n",
+        status: 3,
+    },
+];
+
+const OUTSIDE_TWO: [Case; 2] = [
+    Case {
+        before: [None, Some("{\"x\",\"y\",\"z\"}\n"), Some("{}\n")],
+        after: [None, Some("{\"x\",\"y\",\"z\"}\n"), Some("{}\n")],
+        output: "harmony: BadReplica A Outside /\n",
+        status: 3,
+    },
+    Case {
+        before: [None, Some("{\"x\",\"y\"}\n"), Some("{\"w\"}\n")],
+        after: [None, Some("{\"x\",\"y\"}\n"), Some("{\"w\"}\n")],
+        output: "harmony: BadReplica B Outside /\n",
         status: 3,
     },
 ];
@@ -163,15 +229,16 @@ fn expect_held(
     }
 }
 
-fn expect_run(rt: &impl Abort, alloc: Global, case: &Case) -> Result<(), Fail> {
+fn expect_run(rt: &impl Abort, alloc: Global, schema: &str, case: &Case) -> Result<(), Fail> {
     let files = names_of(alloc, FILES.as_slice())?;
     let mut store = MemStore::empty(alloc);
+    hold(&mut store, &Name::from_text(alloc, "s")?, schema)?;
     for (name, text) in files.iter().zip(&case.before) {
         if let Some(text) = text {
             hold(&mut store, name, text)?;
         }
     }
-    let words = names_of(alloc, ["sync", "o", "a", "b"].as_slice())?;
+    let words = names_of(alloc, ["sync", "s", "o", "a", "b"].as_slice())?;
     let mut out = MemSink::empty(alloc);
     let status = run(alloc, &words, &mut store, &mut out);
     assert_eq!(rt; status, case.status);
@@ -182,49 +249,134 @@ fn expect_run(rt: &impl Abort, alloc: Global, case: &Case) -> Result<(), Fail> {
     Ok(())
 }
 
-#[test]
-fn replicas_agree(rt: HostRuntime) -> Result<(), Fail> {
-    for case in &AGREED {
-        expect_run(&rt, rt.alloc(), case)?;
+fn expect_runs(rt: &impl Abort, alloc: Global, schema: &str, cases: &[Case]) -> Result<(), Fail> {
+    for case in cases {
+        expect_run(rt, alloc, schema, case)?;
     }
     Ok(())
+}
+
+#[test]
+fn replicas_agree(rt: HostRuntime) -> Result<(), Fail> {
+    expect_runs(&rt, rt.alloc(), EVERY, &AGREED)
 }
 
 #[test]
 fn a_conflict_stops_at_the_root(rt: HostRuntime) -> Result<(), Fail> {
-    for case in &IN_CONFLICT {
-        expect_run(&rt, rt.alloc(), case)?;
-    }
-    Ok(())
+    expect_runs(&rt, rt.alloc(), EVERY, &IN_CONFLICT)
 }
 
 #[test]
 fn refused_files_stay(rt: HostRuntime) -> Result<(), Fail> {
-    for case in &REFUSED {
-        expect_run(&rt, rt.alloc(), case)?;
+    expect_runs(&rt, rt.alloc(), EVERY, &REFUSED)
+}
+
+#[test]
+fn replicas_outside_the_schema_stay(rt: HostRuntime) -> Result<(), Fail> {
+    let alloc = rt.alloc();
+    expect_runs(&rt, alloc, ONE, &OUTSIDE_ONE)?;
+    expect_runs(&rt, alloc, TWO, &OUTSIDE_TWO)
+}
+
+// What a run over these words and files puts out and answers.
+fn expect_refused(
+    rt: &impl Abort,
+    alloc: Global,
+    texts: &[&str],
+    held: &[(&str, &str)],
+    output: &str,
+    status: u8,
+) -> Result<(), Fail> {
+    let words = names_of(alloc, texts)?;
+    let mut store = MemStore::empty(alloc);
+    for (name, text) in held {
+        hold(&mut store, &Name::from_text(alloc, name)?, text)?;
     }
+    let mut out = MemSink::empty(alloc);
+    assert_eq!(rt; run(alloc, &words, &mut store, &mut out), status);
+    assert_eq!(rt; out.bytes(), output.as_bytes());
     Ok(())
 }
 
+#[test]
+fn bad_schemas(rt: HostRuntime) -> Result<(), Fail> {
+    let alloc = rt.alloc();
+    let words = ["sync", "s", "o", "a", "b"];
+    let other = [("s", "harmony schema 2\n"), ("a", "{}\n"), ("b", "{}\n")];
+    expect_refused(&rt, alloc, &words, &other, "harmony: BadSchema 1\n", 3)?;
+    let torn = [
+        ("s", "harmony schema 1\nroot R\nnode R\n"),
+        ("a", "{\n"),
+        ("b", "{}\n"),
+    ];
+    expect_refused(&rt, alloc, &words, &torn, "harmony: BadSchema 3\n", 3)?;
+    expect_refused(&rt, alloc, &words, &[], "harmony: Missing schema\n", 3)
+}
+
+#[test]
+fn names_that_are_equal(rt: HostRuntime) -> Result<(), Fail> {
+    let alloc = rt.alloc();
+    let replicas = ["sync", "s", "o", "f", "f"];
+    expect_refused(&rt, alloc, &replicas, &[], "harmony: SameName A B\n", 3)?;
+    let all = ["sync", "f", "f", "f", "f"];
+    expect_refused(
+        &rt,
+        alloc,
+        &all,
+        &[],
+        "harmony: SameName schema archive\n",
+        3,
+    )
+}
+
 fn expect_usage(rt: &impl Abort, alloc: Global, texts: &[&str]) -> Result<(), Fail> {
-    let words = names_of(alloc, texts)?;
-    let mut store = MemStore::empty(alloc);
-    let mut out = MemSink::empty(alloc);
-    assert_eq!(rt; run(alloc, &words, &mut store, &mut out), 2);
-    assert_eq!(rt;
-        out.bytes(),
-        b"usage: harmony sync ARCHIVE A B\n".as_slice()
-    );
-    Ok(())
+    let line = "usage: harmony sync SCHEMA ARCHIVE A B\n";
+    expect_refused(rt, alloc, texts, &[], line, 2)
 }
 
 #[test]
 fn words_without_meaning(rt: HostRuntime) -> Result<(), Fail> {
     let alloc = rt.alloc();
     expect_usage(&rt, alloc, [].as_slice())?;
-    expect_usage(&rt, alloc, ["sync", "o", "a"].as_slice())?;
-    expect_usage(&rt, alloc, ["sync", "o", "a", "b", "c"].as_slice())?;
-    expect_usage(&rt, alloc, ["plan", "o", "a", "b"].as_slice())?;
-    expect_usage(&rt, alloc, ["sync", "o", "-a", "b"].as_slice())?;
-    expect_usage(&rt, alloc, ["sync", "o", "a", "a"].as_slice())
+    expect_usage(&rt, alloc, ["sync", "s", "o", "a"].as_slice())?;
+    expect_usage(&rt, alloc, ["sync", "s", "o", "a", "b", "c"].as_slice())?;
+    expect_usage(&rt, alloc, ["plan", "s", "o", "a", "b"].as_slice())?;
+    expect_usage(&rt, alloc, ["sync", "s", "o", "-a", "b"].as_slice())
+}
+
+// So many opening braces, each with a name.
+fn braces(alloc: Global, number: usize) -> Result<Vec<u8>, Fail> {
+    let mut text = Vec::new(alloc);
+    for _ in 0..number {
+        text.extend_from_slice(b"{\"a\":")?;
+    }
+    Ok(text)
+}
+
+#[test]
+fn what_is_too_deep(rt: HostRuntime) -> Result<(), Fail> {
+    let alloc = rt.alloc();
+    let words = ["sync", "s", "o", "a", "b"];
+    let deep = braces(alloc, 1001)?;
+    let Ok(deep) = std::str::from_utf8(&deep) else {
+        return Err("not held")?;
+    };
+    let archive = [("s", EVERY), ("o", deep), ("a", "{}\n"), ("b", "{}\n")];
+    expect_refused(
+        &rt,
+        alloc,
+        &words,
+        &archive,
+        "harmony: BadArchive deep\n",
+        3,
+    )?;
+    let replica = [("s", EVERY), ("a", "{}\n"), ("b", deep)];
+    expect_refused(
+        &rt,
+        alloc,
+        &words,
+        &replica,
+        "harmony: BadReplica B TooDeep 1001\n",
+        3,
+    )
 }

@@ -122,3 +122,13 @@ bob_has_tel = record { shape = edge bob (edge tel bare bare) bare; sound = tt }
 clashes : Clash (before (holds bob) nothing bob_has_tel) (bob ∷ [])
 unfolding edges edges_of is_marked name_cmp
 clashes = inr (record { has = refl; lacks = refl; known = λ e. (let f : Present ≡ Missing = e in let no : ⊥ = cc in no); news = (tel ∷ [], refl, λ e. (let f : Missing ≡ Present = e in let no : ⊥ = cc in no)) })
+
+-- a side that still has Bob as he was clashes with no deletion
+clashes_not : ¬ (Clash (before (holds bob) nothing (leaf bob)) (bob ∷ []))
+unfolding edges edges_of is_marked name_cmp
+clashes_not (inl lost) = let e : Missing ≡ Present = lost.has in let no : ⊥ = cc in no
+clashes_not (inr lost) = as_he_was lost.news.0 lost.news.1 lost.news.2
+  where
+    as_he_was : (r : Path) → state (Some (leaf bob)) (bob ∷ r) ≡ Present → state (holds bob) (bob ∷ r) ≢ Present → ⊥
+    as_he_was [] has none = none refl
+    as_he_was (k ∷ r) has none = let e : Missing ≡ Present = has in let no : ⊥ = cc in no

@@ -149,9 +149,3 @@ twin_same t one two c d a b e = record {
 
 pub same_twin : (t : Tree) (one two : Name) (c d : Tree) → below one t ≡ Some c → below two t ≡ Some d → IsTwin (view t) one two → c ≡ d
 same_twin t one two c d a b twin = same_tree c d (λ p. sym (ap (λ v. v p) (view_below t one c a)) ∙ twin.alike p ∙ ap (λ v. v p) (view_below t two d b))
-
-pub twin_one : (t : Tree) (one two : Name) → IsTwin (view t) one two → is_some (below one t) ≡ true
-twin_one t one two twin = below_has t one [] twin.has_one
-
-pub twin_two : (t : Tree) (one two : Name) → IsTwin (view t) one two → is_some (below two t) ≡ true
-twin_two t one two twin = below_has t two [] twin.has_two

@@ -27,7 +27,7 @@ pub record IsCounted (p : EntryValue → Bool) (es : List EntryValue) (n : ℕ) 
   pub counted : p entry ≡ true
   pub before : count_by p (take place es) ≡ n
 
-count_cons : (p : EntryValue → Bool) (e : EntryValue) (es : List EntryValue) (b : Bool) → p e ≡ b → count_by p (e ∷ es) ≡ cond b 1 0 + count_by p es
+pub count_cons : (p : EntryValue → Bool) (e : EntryValue) (es : List EntryValue) (b : Bool) → p e ≡ b → count_by p (e ∷ es) ≡ cond b 1 0 + count_by p es
 count_cons p e es b h = sum_by-cons (λ x. cond (p x) 1 0) e es ∙ ap (λ (z : Bool). cond z 1 0 + count_by p es) h
 
 -- each number below the count is that of a line
@@ -54,7 +54,7 @@ counted p (e ∷ es) n h = go (λ m. counted p es m) (p e) refl n h
 
 -- ---- the place of a node
 
-before_it : (es : List EntryValue) (i j : ℕ) (e : EntryValue) → slice_get es i ≡ Some e → i < j → Contains (take j es) e
+pub before_it : (es : List EntryValue) (i j : ℕ) (e : EntryValue) → slice_get es i ≡ Some e → i < j → Contains (take j es) e
 before_it [] i j e h below = let f : ⊥ = cc in absurd f
 before_it (d ∷ es) i zero e h below = absurd (omega arith)
 before_it (d ∷ es) zero (suc j) e h below = (0, omega arith, same)
@@ -67,14 +67,14 @@ module _ (es : List EntryValue) (none : HasNoBadLine es) where
   not_twice : (w : Name) (i j : ℕ) → Says es i (node w) → Says es j (node w) → ¬ (i < j)
   not_twice w i j h k below = none j (declared_twice k (before_it es i j (says (node w)) h below))
 
-  place_once : (w : Name) (a b : ℕ) → IsPlaceOf es w a → IsPlaceOf es w b → a ≡ b
+  pub place_once : (w : Name) (a b : ℕ) → IsPlaceOf es w a → IsPlaceOf es w b → a ≡ b
   place_once w _ _ (declared i h) (declared j k) = ap (nodes_before es) (omega (arith, not_twice w i j h k, not_twice w j i k h))
   place_once _ _ _ (declared i h) empty = absurd (none i (declares_empty h))
   place_once _ _ _ empty (declared j k) = absurd (none j (declares_empty k))
   place_once _ _ _ empty empty = refl
 
   -- the second line names the root
-  root_line : 2 ≤ count_by is_counted es → (i : ℕ) × (w : Name) × Says es i (root w)
+  pub root_line : 2 ≤ count_by is_counted es → (i : ℕ) × (w : Name) × Says es i (root w)
   root_line two =
       let c = counted is_counted es 1 (omega arith) in
       by c.place c.entry c.is c.counted c.before
@@ -116,7 +116,7 @@ module _ (es lines : List EntryValue) (n m : NodeValue) (h : IsNodeOf es lines n
 abbrev NamesIt : EntryValue → Type 0
 NamesIt e = (x : ItemValue) × (e ≡ says x) × (named x ≡ Some (codes "Empty"))
 
-it_or : (o : Option Name) → (o ≡ Some (codes "Empty")) ⊎ ((o ≡ Some (codes "Empty")) → ⊥)
+pub it_or : (o : Option Name) → (o ≡ Some (codes "Empty")) ⊎ ((o ≡ Some (codes "Empty")) → ⊥)
 it_or None = inr (λ h. let f : ⊥ = cc in f)
 it_or (Some w) = go (pointwise eqb w (codes "Empty")) refl
   where
@@ -133,7 +133,7 @@ names_it_or (says x) = go (it_or (named x))
     go (inl y) = inl (x, refl, y)
     go (inr n) = inr (λ h. let e = h.1 in let same : x ≡ h.0 = cc in n (ap named same ∙ h.2))
 
-nat_cases : (p n : ℕ) → (p < n) ⊎ (n ≤ p)
+pub nat_cases : (p n : ℕ) → (p < n) ⊎ (n ≤ p)
 nat_cases p zero = inr (omega arith)
 nat_cases zero (suc n) = inl (omega arith)
 nat_cases (suc p) (suc n) = go (nat_cases p n)
@@ -142,7 +142,7 @@ nat_cases (suc p) (suc n) = go (nat_cases p n)
     go (inl h) = inl (omega arith)
     go (inr h) = inr (omega arith)
 
-names_empty_or : (es : List EntryValue) → NamesEmpty es ⊎ (NamesEmpty es → ⊥)
+pub names_empty_or : (es : List EntryValue) → NamesEmpty es ⊎ (NamesEmpty es → ⊥)
 names_empty_or [] = inr (λ h. let l = h.1.1 in omega arith)
 names_empty_or (e ∷ es) = go (names_it_or e) (names_empty_or es)
   where
@@ -172,14 +172,14 @@ node_line es i (says (edge k w)) is told = let f : ⊥ = cc in absurd f
 node_line es i (says (other c w)) is told = let f : ⊥ = cc in absurd f
 node_line es i (says (shape s)) is told = let f : ⊥ = cc in absurd f
 
-one_of : (es : List EntryValue) (s : SchemaValue) → IsSchemaOf es s → (p : ℕ) (n : NodeValue) → slice_get s.nodes p ≡ Some n → IsOneOf es p n
+pub one_of : (es : List EntryValue) (s : SchemaValue) → IsSchemaOf es s → (p : ℕ) (n : NodeValue) → slice_get s.nodes p ≡ Some n → IsOneOf es p n
 one_of es s h p n is = go (names_empty_or es) (nat_cases p (count_by begins_node es))
   where
     line : p < count_by begins_node es → IsOneOf es p n
     line below =
         let c = counted begins_node es p below in
         let l = node_line es c.place c.entry c.is c.counted in
-        let m = h.nodes c.place l.0 l.1 in
+        let m = h.nodes.lines c.place l.0 l.1 in
         let both : Some m.0 ≡ Some n = sym m.1 ∙ ap (slice_get s.nodes) c.before ∙ is in
         let same : m.0 ≡ n = cc in
         of_line c.place l.0 l.1 c.before (subst (IsNodeOf es (behind es c.place)) same m.2)
@@ -187,14 +187,14 @@ one_of es s h p n is = go (names_empty_or es) (nat_cases p (count_by begins_node
     go : NamesEmpty es ⊎ (NamesEmpty es → ⊥) → (p < count_by begins_node es) ⊎ (count_by begins_node es ≤ p) → IsOneOf es p n
     go named (inl below) = line below
     go (inl named) (inr above) =
-        let long = h.long named in
+        let long = h.nodes.long named in
         let within = slice_get_within s.nodes p n is in
         let place : p ≡ count_by begins_node es = omega arith in
-        let both : Some n ≡ Some empty_node = sym is ∙ ap (slice_get s.nodes) place ∙ h.empty named in
+        let both : Some n ≡ Some empty_node = sym is ∙ ap (slice_get s.nodes) place ∙ h.nodes.empty named in
         let same : n ≡ empty_node = cc in
         last named place same
     go (inr not_named) (inr above) =
-        let short = h.short not_named in
+        let short = h.nodes.short not_named in
         let within = slice_get_within s.nodes p n is in
         absurd (omega arith)
 
@@ -211,16 +211,16 @@ same_list (x ∷ xs) (y ∷ ys) l h =
 module _ (es : List EntryValue) (s t : SchemaValue) (h : IsSchemaOf es s) (k : IsSchemaOf es t) where
   kept : (p : ℕ) (n : NodeValue) → IsOneOf es p n → slice_get t.nodes p ≡ Some n
   kept p n (of_line i w is before one) =
-      let m = k.nodes i w is in
+      let m = k.nodes.lines i w is in
       ap (slice_get t.nodes) (sym before) ∙ m.1 ∙ ap Some (node_once es (behind es i) m.0 n m.2 one)
-  kept p n (last named place is) = ap (slice_get t.nodes) place ∙ k.empty named ∙ ap Some (sym is)
+  kept p n (last named place is) = ap (slice_get t.nodes) place ∙ k.nodes.empty named ∙ ap Some (sym is)
 
   same_length : length s.nodes ≡ length t.nodes
   same_length = go (names_empty_or es)
     where
       go : NamesEmpty es ⊎ (NamesEmpty es → ⊥) → length s.nodes ≡ length t.nodes
-      go (inl named) = h.long named ∙ sym (k.long named)
-      go (inr not_named) = h.short not_named ∙ sym (k.short not_named)
+      go (inl named) = h.nodes.long named ∙ sym (k.nodes.long named)
+      go (inr not_named) = h.nodes.short not_named ∙ sym (k.nodes.short not_named)
 
   pub same_nodes : s.nodes ≡ t.nodes
   same_nodes = same_list s.nodes t.nodes same_length (λ p n is. kept p n (one_of es s h p n is))

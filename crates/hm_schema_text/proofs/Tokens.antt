@@ -3,6 +3,7 @@ use Rattle.std.proofs.Common.{◌≡◌, ◌≢◌, ◌⊎◌, inl, inr, ⊎_eli
 use Rattle.std.specs.Prelude.{◌==◌, IsUtf8, IfOk}
 use Rattle.std.specs.List.{prefix_len, list_all}
 use Rattle.std.proofs.lemmas.List.{take-append-drop, length-take, length-drop}
+use mathlib.Core.List.{append-nil}
 use mathlib.Core.Bool.{true≢false}
 use Rattle.std.proofs.lemmas.Bool.Decides.{nat_tests}
 use Rattle.hm_tree.specs.Names.{Name}
@@ -108,12 +109,8 @@ token_no_space (Quoted n) x rest h e =
 token_no_space Question x rest h e = let byte : 63 ≡ 32 = cc in apart 63 32 refl byte
 token_no_space Plus x rest h e = let byte : 43 ≡ 32 = cc in apart 43 32 refl byte
 
-append_nothing : (xs : List ℕ) → xs ++ [] ≡ xs
-append_nothing [] = refl
-append_nothing (x ∷ xs) = ap (λ l. x ∷ l) (append_nothing xs)
-
 pub spaced_no_space : (ts : List Token) (line rest : List ℕ) → Spaced ts line → line ≢ 32 ∷ rest
-spaced_no_space _ _ rest (alone {t} h) e = token_no_space t [] rest h (append_nothing (token_text t) ∙ e)
+spaced_no_space _ _ rest (alone {t} h) e = token_no_space t [] rest h (append-nil (token_text t) ∙ e)
 spaced_no_space _ _ rest (before {t} {ts} {gap} {rest = behind} h g s) e = token_no_space t (gap ++ behind) rest h e
 
 -- the spaces behind a token, and what stands behind these, are determined
@@ -148,12 +145,12 @@ spaces_left gap rest g none =
 -- some bytes are tokens in one way alone
 pub spaced_one : (ts us : List Token) (line other : List ℕ) → line ≡ other → Spaced ts line → Spaced us other → ts ≡ us
 spaced_one _ _ _ _ e (alone {t} h) (alone {t = u} k) =
-    ap (λ (z : Token). z ∷ []) (one_token t u [] [] h k (ends_stop t [] tt) (ends_stop u [] tt) (append_nothing (token_text t) ∙ e ∙ sym (append_nothing (token_text u)))).0
+    ap (λ (z : Token). z ∷ []) (one_token t u [] [] h k (ends_stop t [] tt) (ends_stop u [] tt) (append-nil (token_text t) ∙ e ∙ sym (append-nil (token_text u)))).0
 spaced_one _ _ _ _ e (alone {t} h) (before {t = u} {ts} {gap} {rest} k g s) =
-    let same = one_token t u [] (gap ++ rest) h k (ends_stop t [] tt) (ends_stop u _ (spaces_end gap rest g)) (append_nothing (token_text t) ∙ e) in
+    let same = one_token t u [] (gap ++ rest) h k (ends_stop t [] tt) (ends_stop u _ (spaces_end gap rest g)) (append-nil (token_text t) ∙ e) in
     absurd (spaces_left gap rest g (sym same.1))
 spaced_one _ _ _ _ e (before {t} {ts} {gap} {rest} h g s) (alone {t = u} k) =
-    let same = one_token t u (gap ++ rest) [] h k (ends_stop t _ (spaces_end gap rest g)) (ends_stop u [] tt) (e ∙ sym (append_nothing (token_text u))) in
+    let same = one_token t u (gap ++ rest) [] h k (ends_stop t _ (spaces_end gap rest g)) (ends_stop u [] tt) (e ∙ sym (append-nil (token_text u))) in
     absurd (spaces_left gap rest g same.1)
 spaced_one _ _ _ _ e (before {t} {ts} {gap} {rest} h g s) (before {t = u} {ts = us} {gap = gap2} {rest = rest2} k g2 s2) =
     let same = one_token t u (gap ++ rest) (gap2 ++ rest2) h k (ends_stop t _ (spaces_end gap rest g)) (ends_stop u _ (spaces_end gap2 rest2 g2)) e in
@@ -168,9 +165,6 @@ pub record IsRead (line : List ℕ) (read : List Token) (rest : List ℕ) : Type
   pub whole : (ts : List Token) → Spaced ts rest → Spaced (read ++ ts) line
   pub left : (ts : List Token) → Spaced ts line → (more : List Token) × (ts ≡ read ++ more) × Spaced more rest
 
-pub nothing_read : (line : List ℕ) → IsRead line [] line
-nothing_read line = record { whole = λ ts h. h; left = λ ts h. (ts, refl, h) }
-
 module _ (rest : List ℕ) (t : Token) (n : ℕ) (is : IsToken t) (front : take n rest ≡ token_text t) (stop : Stops t (drop n rest)) where
   split : rest ≡ token_text t ++ drop n rest
   split = sym (take-append-drop n rest) ∙ ap (λ l. l ++ drop n rest) front
@@ -181,7 +175,7 @@ module _ (rest : List ℕ) (t : Token) (n : ℕ) (is : IsToken t) (front : take 
     where
       by : (ts : List Token) (line : List ℕ) → line ≡ rest → Spaced ts line → ((ts ≡ t ∷ []) × (drop n rest ≡ [])) ⊎ ((more : List Token) × (gap behind : List ℕ) × (ts ≡ t ∷ more) × (drop n rest ≡ gap ++ behind) × AreSpaces gap × Spaced more behind)
       by _ _ e (alone {t = u} h) =
-          let same = one_token u t [] (drop n rest) h is (ends_stop u [] tt) stop (append_nothing (token_text u) ∙ e ∙ split) in
+          let same = one_token u t [] (drop n rest) h is (ends_stop u [] tt) stop (append-nil (token_text u) ∙ e ∙ split) in
           inl (ap (λ (z : Token). z ∷ []) same.0, sym same.1)
       by _ _ e (before {t = u} {ts} {gap} {rest = behind} h g s) =
           let at = spaces_some gap g in
@@ -192,7 +186,7 @@ module _ (rest : List ℕ) (t : Token) (n : ℕ) (is : IsToken t) (front : take 
   -- the rest is this token
   pub last_read : (line : List ℕ) (read : List Token) → IsRead line read rest → drop n rest ≡ [] → Spaced (read ++ t ∷ []) line
   last_read line read h e =
-      let whole : rest ≡ token_text t = split ∙ ap (λ l. token_text t ++ l) e ∙ append_nothing (token_text t) in
+      let whole : rest ≡ token_text t = split ∙ ap (λ l. token_text t ++ l) e ∙ append-nil (token_text t) in
       h.whole (t ∷ []) (subst (Spaced (t ∷ [])) (sym whole) (alone is))
 
   -- neither the end nor a space stands behind it
@@ -232,7 +226,7 @@ no_token line read rest h none ts s =
     by l.0 rest refl l.2
   where
     by : (ts : List Token) (bytes : List ℕ) → bytes ≡ rest → Spaced ts bytes → ⊥
-    by _ _ e (alone {t} k) = none t [] k tt (sym e ∙ sym (append_nothing (token_text t)))
+    by _ _ e (alone {t} k) = none t [] k tt (sym e ∙ sym (append-nil (token_text t)))
     by _ _ e (before {t} {ts} {gap} {rest = behind} k g s) =
         let at = spaces_some gap g in
         let ends : EndsToken (gap ++ behind) = subst (λ (z : List ℕ). EndsToken (z ++ behind)) (sym at.1) refl in

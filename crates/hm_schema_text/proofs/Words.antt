@@ -59,14 +59,6 @@ begins_at (b ∷ bs) h = h b bs refl
 pub begins_back : (bs : List ℕ) → begins_word bs ≡ false → (c : ℕ) (rest : List ℕ) → bs ≡ c ∷ rest → is_word_byte c ≡ false
 begins_back bs h c rest e = sym (ap begins_word e) ∙ h
 
-pub begins_none : (bs : List ℕ) → prefix_len is_word_byte bs ≡ 0 → begins_word bs ≡ false
-begins_none [] e = refl
-begins_none (b ∷ bs) e = go (is_word_byte b) refl
-  where
-    go : (t : Bool) → is_word_byte b ≡ t → is_word_byte b ≡ false
-    go true q = let s : prefix_len is_word_byte (b ∷ bs) ≡ suc (prefix_len is_word_byte bs) = run_at is_word_byte b bs true q in absurd (omega arith)
-    go false q = q
-
 and_first : (x y : Bool) → (x && y) ≡ true → x ≡ true
 and_first true y h = refl
 and_first false y h = absurd (true≢false (sym h))

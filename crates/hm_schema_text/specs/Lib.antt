@@ -4,4 +4,9 @@ pub mod Counts
 pub mod Items
 pub mod Entries
 pub mod BadLines
+pub mod Firsts
+pub mod Sections
+pub mod Counting
 pub mod SchemaFiles
+pub mod Building
+pub mod Judging

@@ -10,7 +10,9 @@ use Rattle.hm_schema.specs.declared.node.Shape.{Shape}
 use Rattle.hm_schema.specs.Values.{NodeValue, SchemaValue}
 use Rattle.hm_schema_text.specs.Items.{ItemValue, ShapeValue, header, root, node, edge, other, shape}
 use Rattle.hm_schema_text.specs.Entries.{EntryValue, skipped, unknown, says, IsFile}
-use Rattle.hm_schema_text.specs.BadLines.{Says, named, begins_node, is_counted, nodes_before, behind, HasNoBadLine}
+use Rattle.hm_schema_text.specs.BadLines.{Says, named, begins_node, is_counted, nodes_before, behind, HasNoBadLine, IsFirstBadLine}
+use Rattle.hm_schema_text.specs.declared.fault.SchemaFault.{SchemaFault}
+use Rattle.hm_schema_text.specs.declared.fault.SchemaFault.TheVariants.{BadSchema, Memory}
 
 -- the place of a node: that of its line among the node lines, and for `Empty` the one behind them
 pub data IsPlaceOf (es : List EntryValue) : Name → ℕ → Type 0 where
@@ -52,12 +54,19 @@ abbrev pub NamesEmpty : List EntryValue → Type 0
 NamesEmpty es = (x : ItemValue) × Contains es (says x) × (named x ≡ Some (codes "Empty"))
 
 -- a node for each node line, in their order, and behind them `Empty` where it is named
+pub record AreNodesOf (es : List EntryValue) (nodes : List NodeValue) : Type 0 where
+  pub lines : (i : ℕ) (w : Name) → Says es i (node w) → (n : NodeValue) × (slice_get nodes (nodes_before es i) ≡ Some n) × IsNodeOf es (behind es i) n
+  pub empty : NamesEmpty es → slice_get nodes (count_by begins_node es) ≡ Some empty_node
+  pub long : NamesEmpty es → length nodes ≡ count_by begins_node es + 1
+  pub short : ¬ (NamesEmpty es) → length nodes ≡ count_by begins_node es
+
+-- the node that each root line names
+abbrev pub IsRootOf : List EntryValue → NodeId → Type 0
+IsRootOf es id = (i : ℕ) (w : Name) → Says es i (root w) → IsPlaceOf es w id.place
+
 pub record IsSchemaOf (es : List EntryValue) (s : SchemaValue) : Type 0 where
-  pub nodes : (i : ℕ) (w : Name) → Says es i (node w) → (n : NodeValue) × (slice_get s.nodes (nodes_before es i) ≡ Some n) × IsNodeOf es (behind es i) n
-  pub empty : NamesEmpty es → slice_get s.nodes (count_by begins_node es) ≡ Some empty_node
-  pub long : NamesEmpty es → length s.nodes ≡ count_by begins_node es + 1
-  pub short : ¬ (NamesEmpty es) → length s.nodes ≡ count_by begins_node es
-  pub root : (i : ℕ) (w : Name) → Says es i (root w) → IsPlaceOf es w s.root.place
+  pub nodes : AreNodesOf es s.nodes
+  pub root : IsRootOf es s.root
 
 -- a file is of a schema
 pub record IsSchemaFile (bytes : List ℕ) (s : SchemaValue) : Type 0 where
@@ -66,3 +75,8 @@ pub record IsSchemaFile (bytes : List ℕ) (s : SchemaValue) : Type 0 where
   pub sound : HasNoBadLine entries
   pub head : 2 ≤ count_by is_counted entries
   pub schema : IsSchemaOf entries s
+
+-- what is wrong with a file; of want of memory nothing is said
+abbrev pub FaultsAt : List ℕ → SchemaFault → Type 0
+FaultsAt bytes (BadSchema line) = IsFirstBadLine bytes line
+FaultsAt bytes Memory = Unit {0}

@@ -59,6 +59,3 @@ lower_all bs i lower le so =
     let fold = folding-ascii bs ascii in
     let is : (lower ≡ true) ↔ (map to_ascii_lowercase bs ≡ bs) = rw all at so.is in
     (λ h. fold ∙ is.0 h, λ h. is.1 (sym fold ∙ h))
-
-pub not_ascii : (bs : List ℕ) (i : ℕ) → 127 < get_or bs i 0 → IsAscii bs → ⊥
-not_ascii bs i high ascii = let low = ascii i in omega arith

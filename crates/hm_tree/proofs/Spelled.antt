@@ -27,9 +27,6 @@ module _ (bs : List ℕ) (i : ℕ) (text : List ℕ) (read : take i bs ≡ escap
     take-add i n bs ∙ (λ j. read j ++ e j) ∙ sym (escaped_push text b),
   )
 
-  pub read_end : (rest : List ℕ) → drop i bs ≡ 34 ∷ rest → take (i + 1) bs ≡ escaped text ++ 34 ∷ []
-  read_end rest e = take-add i 1 bs ∙ (λ j. read j ++ take 1 (e j))
-
   -- where neither a byte's spelling nor a quote follows, no spelling of a name stands there
   pub read_none : ((b : ℕ) (x : List ℕ) → drop i bs ≢ spelled_byte b ++ x) → ((x : List ℕ) → drop i bs ≢ 34 ∷ x) → (name rest : List ℕ) → bs ≢ escaped name ++ 34 ∷ rest
   read_none no_byte no_quote name rest e =

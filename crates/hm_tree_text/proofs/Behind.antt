@@ -1,6 +1,8 @@
 -- Names that are greater than all names of edges.
-use Rattle.std.proofs.Common.{◌≡◌, suc, ◌-◌, Bool, T, List, [], ◌∷◌, ◌++◌, length, Some, None, slice_get, refl, sym, ap, subst, ◌∙◌, arith}
-use Rattle.std.specs.Ordering.{is_lt}
+use Rattle.std.proofs.Common.{◌≡◌, ℕ, zero, suc, ◌<◌, ◌↔◌, ◌-◌, Bool, T, List, [], ◌∷◌, ◌++◌, length, get_or, Some, None, slice_get, refl, sym, ap, subst, ◌∙◌, arith}
+use Rattle.std.specs.Ordering.{is_lt, nat_cmp, ordering_then}
+use Rattle.std.specs.Cmp.{nat_cmp_is}
+use Rattle.std.specs.Cmp.Lexicographic.{slice_cmp}
 use Rattle.std.specs.declared.cmp.Ordering.{Ordering}
 use Rattle.std.specs.declared.cmp.Ordering.TheVariants.{Less, Equal, Greater}
 use Rattle.std.specs.FinMap.{is_sorted, find, put}
@@ -8,7 +10,9 @@ use Rattle.hm_tree.specs.Names.{Name, name_cmp}
 use Rattle.hm_tree.specs.Nodes.{Node, edges, node, with_edge, both, first, second, below_all}
 use Rattle.hm_tree.specs.NodeLaws.{edges-node, edges_sorted}
 use Rattle.hm_tree.proofs.Sorted.{name_total, back_less}
-use Rattle.hm_tree_text.specs.Reading.{is_behind}
+use Rattle.std.specs.Str.{IsUtf8}
+use Rattle.std.proofs.lemmas.Str.{IsUtf8-from_ascii, IsUtf8-append}
+use Rattle.hm_tree_text.specs.Reading.{is_behind, IsAfter}
 
 is_less : (o : Ordering) → T (is_lt o) → o ≡ Less
 is_less Less p = refl
@@ -63,3 +67,36 @@ pub edges-with_last : {m : Bool} (n : Name) (c t : Node m) → T (is_behind n (e
 edges-with_last n c t h =
     let e = put_behind n c (edges t) h in
     ap (λ es. edges (node es)) e ∙ edges-node (edges t ++ (n, c) ∷ []) (sorted_behind n c (edges t) (edges_sorted t) h)
+
+module _ {X : Type 0} where
+  -- a name is greater than all exactly where it is greater than the last
+  pub behind_after : (n : Name) (es : List (Name × X)) (k : Name) (x : X) → T (is_sorted name_cmp es) → slice_get es (length es - 1) ≡ Some (k, x) → T (is_behind n es) ↔ IsAfter (Some k) n
+  behind_after n es k x h at = (last_behind n es k x at, behind_last n es k x h at)
+
+  -- what is greater than a name is greater than all that it is greater than
+  pub behind_more : (n k : Name) (es : List (Name × X)) → T (is_behind n es) → name_cmp n k ≡ Less → T (is_behind k es)
+  behind_more n k [] h less = tt
+  behind_more n k (e ∷ es) h less = both _ _ (less_is _ (name_total.trans e.0 n k (is_less _ (first _ _ h)) less)) (behind_more n k es (second _ _ h) less)
+
+-- a name goes on to a greater one
+abbrev pub longer : Name → Name
+longer n = n ++ 97 ∷ []
+
+pub longer_greater : (n : Name) → name_cmp n (longer n) ≡ Less
+unfolding name_cmp
+longer_greater n = by n
+  where
+    by : (n : Name) → slice_cmp nat_cmp n (n ++ 97 ∷ []) ≡ Less
+    by [] = refl
+    by (b ∷ n) = ap (λ o. ordering_then o (slice_cmp nat_cmp n (n ++ 97 ∷ []))) (sym (nat_cmp_is b b Equal refl)) ∙ by n
+
+pub longer_text : (n : Name) → IsUtf8 n → IsUtf8 (longer n)
+longer_text n u = IsUtf8-append n (97 ∷ []) u (IsUtf8-from_ascii (97 ∷ []) ascii)
+  where
+    ascii : (i : ℕ) → get_or (97 ∷ []) i 0 < 128
+    ascii zero = omega arith
+    ascii (suc i) = by i
+      where
+        by : (i : ℕ) → get_or [] i 0 < 128
+        by zero = omega arith
+        by (suc i) = omega arith

@@ -1,100 +1,107 @@
 -- What is read of a node, edge by edge.
-use Rattle.std.proofs.Common.{◌≡◌, ℕ, ◌+◌, ◌-◌, ◌<◌, ◌≤◌, Bool, true, false, T, List, [], ◌∷◌, ◌++◌, length, drop, refl, sym, ap, subst, ◌∙◌, append_assoc, arith}
+use Rattle.std.proofs.Common.{◌≡◌, ℕ, ◌+◌, ◌<◌, ◌≤◌, Bool, true, false, T, List, [], ◌∷◌, ◌++◌, length, drop, Some, sym, ap, subst, ◌∙◌, arith, inl, inr}
 use Rattle.std.specs.List.{AllByRecursion}
 use Rattle.hm_tree.specs.Names.{Name}
-use Rattle.hm_tree.specs.Nodes.{Shape, bare, mark, edge, depth_of, Tree, edges, joined, with_edge, depth, empty}
-use Rattle.hm_tree.specs.NodeLaws.{edges_sorted, tree_unmarked}
-use Rattle.std.specs.FinMap.{is_sorted}
-use Rattle.hm_tree.specs.Names.{name_cmp}
-use Rattle.hm_tree_text.specs.Text.{whole, text, IsPlain, IsPlainShape}
-use Rattle.hm_tree_text.specs.Reading.{StandsAt, Fits, edge_text, separator, is_behind}
-use Rattle.hm_tree_text.proofs.Spelling.{edge_apart, tails}
-use Rattle.hm_tree_text.proofs.Listed.{edges_empty, commas, is_more, shape_joined, whole_joined, commas_last, whole_last, FitsEdge, fits_from_edges, edges_from_fits, all_last, NextEdge, remaining}
-use Rattle.hm_tree_text.proofs.Behind.{edges-with_last, behind_sorted}
+use Rattle.hm_tree.specs.Nodes.{Node, edges, with_edge, empty, is_marked, depth, deepest}
+use Rattle.hm_tree.specs.NodeLaws.{edges_sorted, depth-edges, is_marked-node}
+use Rattle.hm_tree.specs.Archives.{Archive, with_archive}
+use Rattle.hm_tree_text.specs.declared.fault.TextFault.{TextFault}
+use Rattle.hm_tree_text.specs.declared.fault.TextFault.TheVariants.{BadTree, TooDeep, Memory}
+use Rattle.hm_tree_text.specs.Text.{HasTextNames, edge_text, separator, inside, commas}
+use Rattle.hm_tree_text.specs.Reading.{StandsAt, is_behind, edges_in, IsEdge, IsInside, BeginsWith, IsEdgeRead, IsInsideRead}
+use Rattle.hm_tree_text.specs.Failing.{Fails, OpensInside, OpensEdge}
+use Rattle.hm_tree_text.proofs.Parts.{fault_behind}
+use Rattle.hm_tree_text.proofs.Behind.{edges-with_last}
+use Rattle.hm_tree_text.proofs.Listed.{Edges, edges_empty, empty_unmarked, commas_last, inside_last, IsTextEdge, names_from_edges, edges_from_names, all_last}
+use Rattle.hm_tree_text.proofs.Forms.{edge_inside, inside_edge, empty_names}
+use Rattle.hm_tree_text.proofs.Deep.{deep_edge, edge_deep}
 
-pub shape_empty : (empty {m = false}).shape ≡ bare
-unfolding empty
-shape_empty = refl
+-- what was read of a node since its brace: the edges so far, each with a comma behind it
+pub record Gathered (m : Bool) (room : ℕ) (bytes : List ℕ) (start : ℕ) (value : Archive) (end : ℕ) : Type 0 where
+  pub node : Node true
+  pub is : value ≡ Some node
+  pub unmarked : is_marked node ≡ false
+  pub names : HasTextNames m node.shape
+  pub shallow : deepest (edges node) ≤ room + 1
+  pub stands : StandsAt bytes start (commas (edges node)) end
 
-pub fits_empty : (room : ℕ) → Fits room empty
-unfolding empty depth
-fits_empty room = record { plain = tt; shallow = omega arith }
+module _ (m : Bool) (room : ℕ) (bytes : List ℕ) (start : ℕ) where
+  pub gathered_none : (value : Archive) → value ≡ Some empty → start ≤ length bytes → Gathered m room bytes start value start
+  gathered_none value is le = record {
+    node = empty;
+    is = is;
+    unmarked = empty_unmarked;
+    names = empty_names m;
+    shallow = let d = ap (λ (es : Edges). deepest es) edges_empty in omega arith;
+    stands = record { spelled = ap (λ (es : Edges). commas es ++ drop start bytes) (sym edges_empty); within = le };
+  }
 
--- what was read of a node since its opening brace: the edges so far, each with a comma behind it
-pub record Gathered (room : ℕ) (bytes : List ℕ) (start : ℕ) (t : Tree) (end : ℕ) : Type 0 where
-  pub spelled : drop start bytes ≡ 123 ∷ (commas (edges t) ++ drop end bytes)
-  pub fits : AllByRecursion (FitsEdge room) (edges t)
-  pub within : end ≤ length bytes
+  module _ (value : Archive) (end : ℕ) (g : Gathered m room bytes start value end) where
+    pub gathered_edges : edges_in value ≡ edges g.node
+    gathered_edges = ap edges_in g.is
 
-pub gathered_none : (room : ℕ) (bytes : List ℕ) (start : ℕ) (t : Tree) → t ≡ empty → StandsAt bytes start (123 ∷ []) (start + 1) → Gathered room bytes start t (start + 1)
-gathered_none room bytes start t e h =
-    let none = ap edges e ∙ edges_empty false in
-    record {
-      spelled = rw none h.spelled;
-      fits = rw none tt;
-      within = h.within;
-    }
+    module _ (name : Name) (added : Archive) (more : Bool) (next : ℕ) (e : IsEdgeRead m room (edges_in value) bytes end name added more next) (new : Archive) (is : new ≡ with_archive name added value) where
+      with_new : Node true
+      with_new = with_edge name e.child g.node
 
-module _ (room : ℕ) (bytes : List ℕ) (start : ℕ) (t : Tree) (end : ℕ) (g : Gathered room bytes start t end) where
-  module _ (room_left : 0 < room) (n : Name) (c : Tree) (plain : IsPlain n) (fits : Fits (room - 1) c) (rises : T (is_behind n (edges t))) (u : Tree) (new : u ≡ with_edge n c t) (next : ℕ) where
-    edges_new : edges u ≡ edges t ++ (n, c) ∷ []
-    edges_new = ap edges new ∙ edges-with_last n c t rises
+      new_is : new ≡ Some with_new
+      unfolding with_new
+      new_is = is ∙ (λ i. with_archive name (e.read.is i) (g.is i))
 
-    fits_new : AllByRecursion (FitsEdge room) (edges u)
-    fits_new = rw edges_new (all_last room (edges t) (n, c) g.fits (record { plain = plain; child = fits.plain; shallow = let s = fits.shallow in omega arith }))
+      edges_new : edges with_new ≡ edges g.node ++ (name, e.child) ∷ []
+      unfolding with_new
+      edges_new = edges-with_last name e.child g.node (subst (λ es. T (is_behind name es)) gathered_edges e.after)
 
-    pub gathered_more : StandsAt bytes end (edge_text n c.shape ++ separator true ∷ []) next → Gathered room bytes start u next
-    gathered_more h = record {
-      spelled = g.spelled ∙ ap (λ l. 123 ∷ l) (ap (λ l. commas (edges t) ++ l) h.spelled ∙ sym (commas_last (edges t) (n, c) (drop next bytes)) ∙ ap (λ es. commas es ++ drop next bytes) (sym edges_new));
-      fits = fits_new;
-      within = h.within;
-    }
+      unmarked_new : is_marked with_new ≡ false
+      unfolding with_new
+      unmarked_new = is_marked-node _
 
-    pub gathered_all : StandsAt bytes end (edge_text n c.shape ++ separator false ∷ []) next → StandsAt bytes start (text whole u.shape) next
-    gathered_all h = record {
-      spelled = g.spelled ∙ ap (λ l. 123 ∷ (commas (edges t) ++ l)) h.spelled ∙ sym (whole_last (edges t) (n, c) (drop next bytes)) ∙ ap (λ s. text whole s ++ drop next bytes) (ap joined (sym edges_new) ∙ sym (shape_joined u (tree_unmarked u)));
-      within = h.within;
-    }
+      names_new : HasTextNames m with_new.shape
+      names_new = names_from_edges m with_new unmarked_new (subst (AllByRecursion (IsTextEdge m)) (sym edges_new) (all_last m (edges g.node) (name, e.child) (edges_from_names m g.node g.names) (record { is_text = e.is_text; names = e.read.names })))
 
-    pub fits_all : Fits room u
-    fits_all = fits_from_edges room u fits_new
+      deepest_last : (es : Edges) (c : Node true) (n : ℕ) → deepest es ≤ n → depth c + 1 ≤ n → deepest (es ++ (name, c) ∷ []) ≤ n
+      deepest_last [] c n h d = omega arith
+      deepest_last (f ∷ es) c n h d = let l = deepest_last es c n (omega arith) d in omega arith
 
-  module _ (opens : StandsAt bytes start (123 ∷ []) (start + 1)) (some : (rest : List ℕ) → drop (start + 1) bytes ≡ 125 ∷ rest → ⊥) (u : Tree) (rest : List ℕ) (fits : Fits room u) (is : drop start bytes ≡ text whole u.shape ++ rest) where
-    -- a node that stands there has a further edge
-    pub next_edge : NextEdge room (edges t) (edges u) (drop end bytes) rest
-    unfolding joined
-    next_edge = by (edges u) (shape_joined u (tree_unmarked u)) (edges_from_fits room u fits)
-      where
-        by : (es : List (Name × Tree)) → u.shape ≡ joined es → AllByRecursion (FitsEdge room) es → NextEdge room (edges t) es (drop end bytes) rest
-        by [] s h = absurd (some rest (tails 123 123 _ _ (sym opens.spelled ∙ is ∙ ap (λ v. text whole v ++ rest) s)))
-        by (f ∷ fs) s h = remaining room (drop end bytes) rest (edges t) f fs g.fits h (tails 123 123 _ _ (sym g.spelled ∙ is ∙ ap (λ v. text whole v ++ rest) s ∙ ap (λ l. l ++ rest) (whole_joined f fs)))
+      shallow_new : deepest (edges with_new) ≤ room + 1
+      shallow_new = subst (λ (es : Edges). deepest es ≤ room + 1) (sym edges_new) (deepest_last (edges g.node) e.child (room + 1) g.shallow (let s = e.read.shallow in omega arith))
 
-    -- so an edge can be read
-    pub no_edge : ((n : Name) (c : Tree) (more : Bool) (x : List ℕ) → IsPlain n → Fits (room - 1) c → drop end bytes ≡ edge_text n c.shape ++ separator more ∷ x → ⊥) → ⊥
-    no_edge bad =
-        let e = next_edge in
-        bad e.next.0 e.next.1 (is_more e.more) _ e.fits.plain (record { plain = e.fits.child; shallow = let s = e.fits.shallow in omega arith }) e.spelled
+      pub gathered_more : more ≡ true → Gathered m room bytes start new next
+      gathered_more comma = record {
+        node = with_new;
+        is = new_is;
+        unmarked = unmarked_new;
+        names = names_new;
+        shallow = shallow_new;
+        stands = record {
+          spelled = g.stands.spelled ∙ ap (λ l. commas (edges g.node) ++ l) (e.stands.spelled ∙ ap (λ b. (edge_text name e.child.shape ++ separator b ∷ []) ++ drop next bytes) comma) ∙ sym (commas_last (edges g.node) (name, e.child) (drop next bytes)) ∙ ap (λ (es : Edges). commas es ++ drop next bytes) (sym edges_new);
+          within = e.stands.within;
+        };
+      }
 
-    -- and its name is greater than those before it
-    pub next_behind : (n : Name) (c : Tree) (more : Bool) (next : ℕ) → IsPlain n → Fits (room - 1) c → StandsAt bytes end (edge_text n c.shape ++ separator more ∷ []) next → T (is_behind n (edges t))
-    next_behind n c more next plain child h =
-        let e = next_edge in
-        let same = edge_apart e.next.0 n e.next.1 c (is_more e.more) more _ (drop next bytes) e.fits.plain plain e.fits.child child.plain (sym e.spelled ∙ h.spelled ∙ append_assoc (edge_text n c.shape) (separator more ∷ []) (drop next bytes)) in
-        let sorted : T (is_sorted name_cmp (edges t ++ e.next ∷ e.more)) = subst (λ es. T (is_sorted name_cmp es)) e.among (edges_sorted u) in
-        subst (λ k. T (is_behind k (edges t))) same.0 (behind_sorted e.next.0 e.next.1 (edges t) e.more sorted)
+      some_edges : (es : Edges) (f : Name × Node true) → 0 < length (es ++ f ∷ [])
+      some_edges [] f = omega arith
+      some_edges (d ∷ es) f = omega arith
 
--- without room there is no edge
-pub no_room : (u : Tree) (rest bytes : List ℕ) (start : ℕ) → Fits 0 u → StandsAt bytes start (123 ∷ []) (start + 1) → drop start bytes ≡ text whole u.shape ++ rest → drop (start + 1) bytes ≡ 125 ∷ rest
-unfolding depth
-no_room u rest bytes start fits opens is = by u.shape fits.plain fits.shallow is
-  where
-    by : (s : Shape) → IsPlainShape s → depth_of s ≤ 0 → drop start bytes ≡ text whole s ++ rest → drop (start + 1) bytes ≡ 125 ∷ rest
-    by bare p d e = tails 123 123 _ _ (sym opens.spelled ∙ e)
-    by mark p d e = absurd p
-    by (edge n c r) p d e = absurd (omega arith)
+      pub gathered_all : more ≡ false → IsInsideRead m (room + 1) bytes start new next
+      gathered_all brace = record {
+        node = with_new;
+        read = record { is = new_is; names = names_new; shallow = let d = depth-edges with_new in let s = shallow_new in omega arith };
+        some = subst (λ (es : Edges). 0 < length es) (sym edges_new) (some_edges (edges g.node) (name, e.child));
+        stands = record {
+          spelled = g.stands.spelled ∙ ap (λ l. commas (edges g.node) ++ l) (e.stands.spelled ∙ ap (λ b. (edge_text name e.child.shape ++ separator b ∷ []) ++ drop next bytes) brace) ∙ inside_last (edges g.node) (name, e.child) (drop next bytes) ∙ ap (λ (es : Edges). inside es ++ drop next bytes) (sym edges_new);
+          within = e.stands.within;
+        };
+      }
 
--- each tree opens with a brace
-pub opens_whole : (s : Shape) (rest : List ℕ) → IsPlainShape s → (x : List ℕ) × (text whole s ++ rest ≡ 123 ∷ x)
-opens_whole bare rest p = (_, refl)
-opens_whole mark rest p = absurd p
-opens_whole (edge n c r) rest p = (_, refl)
+    -- where no edge follows, the node doesn't go on
+    pub edge_fails : start ≤ length bytes → (fault : TextFault) → Fails (IsEdge m (edges_in value)) (OpensEdge m room (edges_in value)) bytes end fault → Fails (IsInside m) (OpensInside m room) bytes start fault
+    edge_fails le (BadTree at) h =
+        let f = subst (λ es. Fails (IsEdge m es) (OpensEdge m room es) bytes end (BadTree at)) gathered_edges h in (
+          fault_behind (IsEdge m (edges g.node)) (IsInside m) (λ _. Unit {0}) (commas (edges g.node)) (edge_inside m (edges g.node) (edges_sorted g.node) (edges_from_names m g.node g.names)) (λ y _. inside_edge m (edges g.node) y) bytes start end at le g.stands tt (λ _ _ _ _ _. tt) f.0,
+          λ d. elim (deep_edge m room (edges g.node) (drop end bytes) g.shallow (subst (BeginsWith (OpensInside m room)) g.stands.spelled d)) [ inl o ↦ f.1 o | inr e ↦ f.0.longest.none e ],
+        )
+    edge_fails le TooDeep h =
+        let f = subst (λ es. Fails (IsEdge m es) (OpensEdge m room es) bytes end TooDeep) gathered_edges h in
+        subst (BeginsWith (OpensInside m room)) (sym g.stands.spelled) (edge_deep m room g.node g.names (drop end bytes) f)
+    edge_fails le Memory h = tt

@@ -1,72 +1,137 @@
--- One text for each value, and one value for each text.
-use Rattle.std.proofs.Common.{◌≡◌, List, ℕ, [], ◌++◌, refl, sym, ap, ◌∙◌, Some}
+-- One text for each value, one value for each text, and one reading of all bytes.
+use Rattle.std.proofs.Common.{◌≡◌, ℕ, ◌≤◌, Bool, true, false, List, [], ◌∷◌, ◌++◌, refl, sym, ap, ◌∙◌, Some, None, arith}
 use Rattle.std.specs.Prelude.{codes}
-use Rattle.hm_tree.specs.Nodes.{Shape, bare, mark, edge, Tree, marked}
+use Rattle.hm_tree.specs.Nodes.{Shape, bare, mark, edge, Node, Tree, depth, marked}
 use Rattle.hm_tree.specs.NodeLaws.{same_node}
-use Rattle.hm_tree.specs.Archives.{Archive, recorded}
-use Rattle.hm_tree_text.specs.Text.{whole, text, line_feed, tree_text, archive_text, IsPlainShape, IsTreeText, IsArchiveText, at_missing, at_mark, at_tree, IsSpelledSoFar, is_missing, is_mark_alone, is_tree}
-use Rattle.hm_tree_text.proofs.Spelling.{apart}
+use Rattle.hm_tree.specs.Archives.{Archive, recorded, depth-recorded}
+use Rattle.hm_tree_text.specs.declared.fault.TextFault.{TextFault}
+use Rattle.hm_tree_text.specs.declared.fault.TextFault.TheVariants.{BadTree, TooDeep, Memory}
+use Rattle.hm_tree_text.specs.Text.{whole, text, line_feed, tree_text, archive_text, HasTextNames}
+use Rattle.hm_tree_text.specs.Files.{IsTreeFile, IsArchiveFile, IsTreeText, IsArchiveText}
+use Rattle.hm_tree_text.specs.Opening.{IsTooDeep}
+use Rattle.hm_tree_text.specs.Faults.{Faults, TreeFaults, ArchiveFaults}
+use Rattle.hm_tree_text.proofs.Spelling.{apart, heads, open_mark}
+use Rattle.hm_tree_text.proofs.Deep.{opens_brace, shallow_whole}
 
--- bytes are the text of one tree
+-- ---- one value for each text
+
+-- a tree is known by its text
+pub tree_text_one : (t u : Tree) → tree_text t ≡ tree_text u → t ≡ u
+tree_text_one t u e = same_node t u (apart whole t.shape u.shape line_feed line_feed (λ _. tt) (λ _. tt) e).0
+
+whole_something : (s : Shape) → text whole s ++ line_feed ≡ [] → ⊥
+whole_something bare e = cc
+whole_something mark e = cc
+whole_something (edge n c r) e = cc
+
+-- an archive is known by its text
+pub archive_text_one : (o a : Archive) → archive_text o ≡ archive_text a → o ≡ a
+archive_text_one None None e = refl
+archive_text_one None (Some u) e = absurd (whole_something u.shape (sym e))
+archive_text_one (Some t) None e = absurd (whole_something t.shape e)
+archive_text_one (Some t) (Some u) e = ap (λ (n : Node true). Some n) (same_node t u (apart whole t.shape u.shape line_feed line_feed (λ _. tt) (λ _. tt) e).0)
+
+-- bytes are the text of one tree, and of one archive
 pub tree_once : (t u : Tree) (bytes : List ℕ) → IsTreeText t bytes → IsTreeText u bytes → t ≡ u
-tree_once t u bytes a b = same_node t u (apart whole t.shape u.shape line_feed line_feed a.plain b.plain (λ _. tt) (λ _. tt) (sym a.spelled ∙ b.spelled)).0
+tree_once t u bytes a b = tree_text_one t u (sym a.spelled ∙ b.spelled)
 
-whole_no_mark : (s : Shape) → IsPlainShape s → codes "!" ++ line_feed ≡ text whole s ++ line_feed → ⊥
-whole_no_mark bare p e = cc
+pub archive_once : (o a : Archive) (bytes : List ℕ) → IsArchiveText o bytes → IsArchiveText a bytes → o ≡ a
+archive_once o a bytes h k = archive_text_one o a (sym h.spelled ∙ k.spelled)
+
+-- ---- texts are files
+
+pub tree_text_file : (t : Tree) (bytes : List ℕ) → IsTreeText t bytes → IsTreeFile bytes
+tree_text_file t bytes h = (t, h.names, h.spelled)
+
+pub archive_text_file : (o : Archive) (bytes : List ℕ) → IsArchiveText o bytes → IsArchiveFile bytes
+archive_text_file o bytes h = (o, h.names, h.spelled)
+
+-- ---- one reading of all bytes
+
+too_deep_whole : (m : Bool) (n : Node true) (bytes : List ℕ) → bytes ≡ text whole n.shape ++ line_feed → depth n ≤ 1000 → ¬ (IsTooDeep m bytes)
+too_deep_whole m n bytes is shallow d =
+    shallow_whole m 1001 (omega arith) n (omega arith) line_feed (record { part = d.0; rest = d.1; is_form = d.2; is = sym is ∙ d.3 })
+
+-- what is read isn't too deep
+pub tree_text_shallow : (t : Tree) (bytes : List ℕ) → IsTreeText t bytes → ¬ (IsTooDeep false bytes)
+unfolding recorded
+tree_text_shallow t bytes h = too_deep_whole false (recorded t) bytes h.spelled (let s = h.shallow in let d = depth-recorded t in omega arith)
+
+nothing_shallow : (m : Bool) (bytes : List ℕ) → bytes ≡ [] → ¬ (IsTooDeep m bytes)
+nothing_shallow m bytes e d =
+    let o = opens_brace m 1001 d.0 d.2 in
+    let is : [] ≡ 123 ∷ (o.0 ++ d.1) = sym e ∙ d.3 ∙ ap (λ l. l ++ d.1) o.1 in
+    cc
+
+pub archive_text_shallow : (o : Archive) (bytes : List ℕ) → IsArchiveText o bytes → ¬ (IsTooDeep true bytes)
+archive_text_shallow None bytes h = nothing_shallow true bytes h.spelled
+archive_text_shallow (Some t) bytes h = too_deep_whole true t bytes h.spelled h.shallow
+
+-- where the bytes are a text, want of memory is the one fault
+text_no_fault : (m : Bool) (File : List ℕ → Type 0) (bytes : List ℕ) → ¬ (IsTooDeep m bytes) → File bytes → (fault : TextFault) → Faults m File bytes fault → fault ≡ Memory
+text_no_fault m File bytes shallow file (BadTree at) h = absurd (h.no_file file)
+text_no_fault m File bytes shallow file TooDeep h = absurd (shallow h)
+text_no_fault m File bytes shallow file Memory h = refl
+
+pub tree_text_reads : (t : Tree) (bytes : List ℕ) → IsTreeText t bytes → (fault : TextFault) → TreeFaults bytes fault → fault ≡ Memory
+tree_text_reads t bytes h = text_no_fault false IsTreeFile bytes (tree_text_shallow t bytes h) (tree_text_file t bytes h)
+
+pub archive_text_reads : (o : Archive) (bytes : List ℕ) → IsArchiveText o bytes → (fault : TextFault) → ArchiveFaults bytes fault → fault ≡ Memory
+archive_text_reads o bytes h = text_no_fault true IsArchiveFile bytes (archive_text_shallow o bytes h) (archive_text_file o bytes h)
+
+-- bytes have one fault other than want of memory, at one place
+fault_once : (m : Bool) (File : List ℕ → Type 0) (bytes : List ℕ) (one other : TextFault) → Faults m File bytes one → Faults m File bytes other → (one ≡ Memory → ⊥) → (other ≡ Memory → ⊥) → one ≡ other
+fault_once m File bytes (BadTree at) (BadTree place) h k a b =
+    let le = k.place.longest at h.place.within h.place.begun in
+    let ge = h.place.longest place k.place.within k.place.begun in
+    let same : at ≡ place = omega arith in
+    ap BadTree same
+fault_once m File bytes (BadTree at) TooDeep h k a b = absurd (h.not_deep k)
+fault_once m File bytes (BadTree at) Memory h k a b = absurd (b refl)
+fault_once m File bytes TooDeep (BadTree at) h k a b = absurd (k.not_deep h)
+fault_once m File bytes TooDeep TooDeep h k a b = refl
+fault_once m File bytes TooDeep Memory h k a b = absurd (b refl)
+fault_once m File bytes Memory other h k a b = absurd (a refl)
+
+pub tree_fault_once : (bytes : List ℕ) (one other : TextFault) → TreeFaults bytes one → TreeFaults bytes other → (one ≡ Memory → ⊥) → (other ≡ Memory → ⊥) → one ≡ other
+tree_fault_once = fault_once false IsTreeFile
+
+pub archive_fault_once : (bytes : List ℕ) (one other : TextFault) → ArchiveFaults bytes one → ArchiveFaults bytes other → (one ≡ Memory → ⊥) → (other ≡ Memory → ⊥) → one ≡ other
+archive_fault_once = fault_once true IsArchiveFile
+
+-- ---- trees and archives
+
+whole_no_mark : (s : Shape) → HasTextNames false s → codes "!" ++ line_feed ≡ text whole s ++ line_feed → ⊥
+whole_no_mark bare p e = heads 123 33 _ _ (sym e) open_mark
 whole_no_mark mark p e = p
-whole_no_mark (edge n c r) p e = cc
+whole_no_mark (edge n c r) p e = heads 123 33 _ _ (sym e) open_mark
 
-whole_something : (s : Shape) → IsPlainShape s → [] ≡ text whole s ++ line_feed → ⊥
-whole_something bare p e = cc
-whole_something mark p e = p
-whole_something (edge n c r) p e = cc
+-- a mark is no file of a tree, and neither are no bytes
+pub mark_no_tree : IsTreeFile (codes "!" ++ line_feed) → ⊥
+mark_no_tree f = whole_no_mark f.0.shape f.1 f.2
 
--- a mark is no text of a tree
-pub mark_no_tree : (t : Tree) → IsTreeText t (codes "!" ++ line_feed) → ⊥
-mark_no_tree t h = whole_no_mark t.shape h.plain h.spelled
+pub nothing_no_tree : IsTreeFile [] → ⊥
+nothing_no_tree f = whole_something f.0.shape (sym f.2)
 
--- without bytes there is no text of a tree
-pub nothing_no_tree : (t : Tree) → IsTreeText t [] → ⊥
-nothing_no_tree t h = whole_something t.shape h.plain h.spelled
-
--- what a tree is in an archive has the tree's text
+-- what is recorded of a tree has the tree's text
 pub archive_text-recorded : (t : Tree) → archive_text (Some (recorded t)) ≡ tree_text t
 unfolding recorded
 archive_text-recorded t = refl
 
-archive_text-marked : archive_text (Some marked) ≡ codes "!" ++ line_feed
+pub archive_text-marked : archive_text (Some marked) ≡ codes "!" ++ line_feed
 unfolding marked
 archive_text-marked = refl
 
--- an archive has one text
-pub archive_text_is : (o : Archive) (bytes : List ℕ) → IsArchiveText o bytes → bytes ≡ archive_text o
-archive_text_is o bytes (at_missing e b) = b ∙ sym (ap archive_text e)
-archive_text_is o bytes (at_mark e b) = b ∙ sym archive_text-marked ∙ sym (ap archive_text e)
-archive_text_is o bytes (at_tree t e h) = h.spelled ∙ sym (archive_text-recorded t) ∙ sym (ap archive_text e)
+more_names : (s : Shape) → HasTextNames false s → HasTextNames true s
+more_names bare n = tt
+more_names mark n = absurd n
+more_names (edge k c r) n = (n.0, more_names c n.1, more_names r n.2)
 
-mark_no_other : (t : Tree) (bytes : List ℕ) → bytes ≡ codes "!" ++ line_feed → IsTreeText t bytes → ⊥
-mark_no_other t bytes e h = whole_no_mark t.shape h.plain (sym e ∙ h.spelled)
-
-nothing_no_other : (t : Tree) (bytes : List ℕ) → bytes ≡ [] → IsTreeText t bytes → ⊥
-nothing_no_other t bytes e h = whole_something t.shape h.plain (sym e ∙ h.spelled)
-
-nothing_no_mark : (bytes : List ℕ) → bytes ≡ [] → bytes ≡ codes "!" ++ line_feed → ⊥
-nothing_no_mark bytes a b = cc
-
--- bytes are the text of one archive
-pub archive_once : (o a : Archive) (bytes : List ℕ) → IsArchiveText o bytes → IsArchiveText a bytes → o ≡ a
-archive_once o a bytes (at_missing e b) (at_missing f c) = e ∙ sym f
-archive_once o a bytes (at_missing e b) (at_mark f c) = absurd (nothing_no_mark bytes b c)
-archive_once o a bytes (at_missing e b) (at_tree u f k) = absurd (nothing_no_other u bytes b k)
-archive_once o a bytes (at_mark e b) (at_missing f c) = absurd (nothing_no_mark bytes c b)
-archive_once o a bytes (at_mark e b) (at_mark f c) = e ∙ sym f
-archive_once o a bytes (at_mark e b) (at_tree u f k) = absurd (mark_no_other u bytes b k)
-archive_once o a bytes (at_tree t e h) (at_missing f c) = absurd (nothing_no_other t bytes c h)
-archive_once o a bytes (at_tree t e h) (at_mark f c) = absurd (mark_no_other t bytes c h)
-archive_once o a bytes (at_tree t e h) (at_tree u f k) = e ∙ ap (λ v. Some (recorded v)) (tree_once t u bytes h k) ∙ sym f
-
--- an archive that was read can be written
-pub spelled_so_far : (o : Archive) (bytes : List ℕ) → IsArchiveText o bytes → IsSpelledSoFar o
-spelled_so_far o bytes (at_missing e b) = is_missing e
-spelled_so_far o bytes (at_mark e b) = is_mark_alone e
-spelled_so_far o bytes (at_tree t e h) = is_tree t e
+-- so what is read as a tree is read as an archive too
+pub recorded_text : (t : Tree) (bytes : List ℕ) → IsTreeText t bytes → IsArchiveText (Some (recorded t)) bytes
+unfolding recorded
+recorded_text t bytes h = record {
+  spelled = h.spelled;
+  names = more_names t.shape h.names;
+  shallow = let s = h.shallow in let d = depth-recorded t in omega arith;
+}

@@ -1,9 +1,17 @@
 pub mod Spelling
 pub mod Laws
 mod Places
+mod Parts
 mod Behind
 mod Listed
-mod Quotes
+mod Deep
+mod Forms
 mod Gathering
-mod Below
 mod Putting
+mod Adding
+mod Reached
+mod Whole
+mod Utf8
+mod Completing
+mod Sharing
+mod Walking

@@ -1,133 +1,196 @@
 -- The text of a node by the list of its edges.
-use Rattle.std.proofs.Common.{◌≡◌, ℕ, ◌<◌, ◌≤◌, Bool, true, false, List, [], ◌∷◌, ◌++◌, refl, sym, ap, ◌∙◌, append_assoc, arith}
+use Rattle.std.proofs.Common.{◌≡◌, ℕ, Bool, true, false, T, List, [], ◌∷◌, ◌++◌, length, refl, sym, ap, subst, ◌∙◌, append_assoc, arith}
 use Rattle.std.specs.List.{AllByRecursion}
+use Rattle.std.specs.Str.{IsUtf8}
+use mathlib.Core.Bool.{true≢false}
 use Rattle.hm_tree.specs.Names.{Name}
-use Rattle.hm_tree.specs.Nodes.{Node, Tree, edges, node, joined, is_marked, depth, deepest, empty}
-use Rattle.hm_tree.specs.NodeLaws.{node-edges, node-nil, edges-node, edges_sorted, shape_checked, depth-edges, tree_unmarked}
-use Rattle.hm_tree_text.specs.Text.{quoted, whole, below, further, text, IsPlain, IsPlainShape}
-use Rattle.hm_tree_text.specs.Reading.{edge_text, separator, Fits}
+use Rattle.hm_tree.specs.Nodes.{Shape, bare, mark, edge, Node, edges, node, empty, joined, is_mark, is_marked}
+use Rattle.hm_tree.specs.NodeLaws.{same_node, node-edges, node-nil, edges-node, edges_sorted, edges-marked, shape_checked}
+use Rattle.hm_tree.specs.Spelling.{spelled}
+use Rattle.hm_tree_text.specs.Text.{whole, below, further, text, HasTextNames, edge_text, separator, is_more, inside, commas}
+use Rattle.hm_tree_text.specs.Reading.{is_behind}
 use Rattle.hm_tree_text.proofs.Spelling.{edge_apart}
 
-pub edges_empty : (m : Bool) → edges (empty {m = m}) ≡ []
-edges_empty m = ap edges (sym (node-nil [] refl)) ∙ edges-node [] tt
+abbrev pub Edges : Type 0
+Edges = List (Name × Node true)
 
-module _ {m : Bool} where
-  abbrev pub is_more : List (Name × Node m) → Bool
-  is_more [] = false
-  is_more (e ∷ es) = true
+further_joined : (es : Edges) → text further (joined es) ≡ separator (is_more es) ∷ inside es
+unfolding joined
+further_joined [] = refl
+further_joined (e ∷ es) = ap (λ l. 44 ∷ l) (ap (λ l. spelled e.0 ++ (text below e.1.shape ++ l)) (further_joined es) ∙ sym (append_assoc (spelled e.0) (text below e.1.shape) (separator (is_more es) ∷ inside es)))
 
-  -- each edge with what stands behind it
-  abbrev pub inside : List (Name × Node m) → List ℕ
-  inside [] = []
-  inside (e ∷ es) = edge_text e.0 e.1.shape ++ separator (is_more es) ∷ inside es
+whole_joined : (e : Name × Node true) (es : Edges) → text whole (joined (e ∷ es)) ≡ 123 ∷ inside (e ∷ es)
+unfolding joined
+whole_joined e es = ap (λ l. 123 ∷ l) (ap (λ l. spelled e.0 ++ (text below e.1.shape ++ l)) (further_joined es) ∙ sym (append_assoc (spelled e.0) (text below e.1.shape) (separator (is_more es) ∷ inside es)))
 
-  -- each edge with a comma behind it
-  abbrev pub commas : List (Name × Node m) → List ℕ
-  commas [] = []
-  commas (e ∷ es) = edge_text e.0 e.1.shape ++ 44 ∷ commas es
+pub shape_joined : (t : Node true) → is_marked t ≡ false → t.shape ≡ joined (edges t)
+unfolding node
+shape_joined t u = sym (ap (λ (n : Node true). n.shape) (node-edges t u)) ∙ shape_checked (edges t) _ refl (edges_sorted t)
 
-  further_joined : (es : List (Name × Node m)) → text further (joined es) ≡ separator (is_more es) ∷ inside es
-  unfolding joined
-  further_joined [] = refl
-  further_joined (e ∷ es) = ap (λ l. 44 ∷ l) (ap (λ l. quoted e.0 ++ (text below e.1.shape ++ l)) (further_joined es) ∙ sym (append_assoc (quoted e.0) (text below e.1.shape) (separator (is_more es) ∷ inside es)))
+-- ---- the node without edges
 
-  pub whole_joined : (e : Name × Node m) (es : List (Name × Node m)) → text whole (joined (e ∷ es)) ≡ 123 ∷ inside (e ∷ es)
-  unfolding joined
-  whole_joined e es = ap (λ l. 123 ∷ l) (ap (λ l. quoted e.0 ++ (text below e.1.shape ++ l)) (further_joined es) ∙ sym (append_assoc (quoted e.0) (text below e.1.shape) (separator (is_more es) ∷ inside es)))
+pub edges_empty : edges (empty {m = true}) ≡ []
+edges_empty = ap edges (sym (node-nil [] refl)) ∙ edges-node [] tt
 
-  pub below_joined : (e : Name × Node m) (es : List (Name × Node m)) → text below (joined (e ∷ es)) ≡ 58 ∷ text whole (joined (e ∷ es))
-  unfolding joined
-  below_joined e es = refl
+pub shape_empty : (empty {m = true}).shape ≡ bare
+unfolding empty
+shape_empty = refl
 
-  pub shape_joined : (t : Node m) → is_marked t ≡ false → t.shape ≡ joined (edges t)
-  unfolding node
-  shape_joined t u = sym (ap (λ (n : Node m). n.shape) (node-edges t u)) ∙ shape_checked (edges t) _ refl (edges_sorted t)
+pub empty_unmarked : is_marked (empty {m = true}) ≡ false
+unfolding empty is_marked
+empty_unmarked = refl
 
-  -- an edge behind the others
-  pub commas_last : (es : List (Name × Node m)) (e : Name × Node m) (x : List ℕ) → commas (es ++ e ∷ []) ++ x ≡ commas es ++ ((edge_text e.0 e.1.shape ++ 44 ∷ []) ++ x)
-  commas_last [] e x = refl
-  commas_last (f ∷ es) e x =
-      append_assoc (edge_text f.0 f.1.shape) (44 ∷ commas (es ++ e ∷ [])) x
-      ∙ ap (λ l. edge_text f.0 f.1.shape ++ 44 ∷ l) (commas_last es e x)
-      ∙ sym (append_assoc (edge_text f.0 f.1.shape) (44 ∷ commas es) _)
+nothing : {X : Type 0} (xs : List X) → length xs ≡ 0 → xs ≡ []
+nothing [] e = refl
+nothing (x ∷ xs) e = absurd (omega arith)
 
-  is_more_append : (es : List (Name × Node m)) (e : Name × Node m) → is_more (es ++ e ∷ []) ≡ true
-  is_more_append [] e = refl
-  is_more_append (f ∷ es) e = refl
+joined_nothing : (es : Edges) → es ≡ [] → joined es ≡ bare
+unfolding joined
+joined_nothing es e = ap joined e
 
-  -- with its last edge a node is whole
-  closing : (es : List (Name × Node m)) (e : Name × Node m) (x : List ℕ) → commas es ++ ((edge_text e.0 e.1.shape ++ 125 ∷ []) ++ x) ≡ inside (es ++ e ∷ []) ++ x
-  closing [] e x = refl
-  closing (f ∷ es) e x =
-      append_assoc (edge_text f.0 f.1.shape) (44 ∷ commas es) _
-      ∙ ap (λ l. edge_text f.0 f.1.shape ++ 44 ∷ l) (closing es e x)
-      ∙ ap (λ b. edge_text f.0 f.1.shape ++ separator b ∷ (inside (es ++ e ∷ []) ++ x)) (sym (is_more_append es e))
-      ∙ sym (append_assoc (edge_text f.0 f.1.shape) (separator (is_more (es ++ e ∷ [])) ∷ inside (es ++ e ∷ [])) x)
-
-module _ {m : Bool} where
-  -- a whole node by its edges, the last of which stands apart
-  pub whole_last : (es : List (Name × Node m)) (e : Name × Node m) (x : List ℕ) → text whole (joined (es ++ e ∷ [])) ++ x ≡ 123 ∷ (commas es ++ ((edge_text e.0 e.1.shape ++ 125 ∷ []) ++ x))
-  whole_last es e x = ap (λ l. l ++ x) (whole_some es e) ∙ ap (λ l. 123 ∷ l) (sym (closing es e x))
+module _ (t : Node true) where
+  -- a mark has no edges
+  pub unmarked : (length (edges t) ≡ 0 → ⊥) → is_marked t ≡ false
+  unmarked some = by (is_marked t) refl
     where
-      whole_some : (es : List (Name × Node m)) (e : Name × Node m) → text whole (joined (es ++ e ∷ [])) ≡ 123 ∷ inside (es ++ e ∷ [])
-      whole_some [] e = whole_joined e []
-      whole_some (f ∷ es) e = whole_joined f (es ++ e ∷ [])
+      by : (b : Bool) → is_marked t ≡ b → is_marked t ≡ false
+      by false e = e
+      by true e = absurd (some (ap length (edges-marked t e)))
 
--- an edge of plain names, with a child that is less deep than the room
-pub record FitsEdge (room : ℕ) (e : Name × Tree) : Type 0 where
-  pub plain : IsPlain e.0
-  pub child : IsPlainShape e.1.shape
-  pub shallow : depth e.1 < room
+  pub shape_none : is_marked t ≡ false → length (edges t) ≡ 0 → t.shape ≡ bare
+  shape_none u e = shape_joined t u ∙ joined_nothing (edges t) (nothing (edges t) e)
 
-module _ (room : ℕ) where
-  plain_joined : (es : List (Name × Tree)) → AllByRecursion (FitsEdge room) es → IsPlainShape (joined es)
+  pub none_shape : t.shape ≡ bare → length (edges t) ≡ 0
+  none_shape e = ap (λ (u : Node true). length (edges u)) (same_node t empty (e ∙ sym shape_empty)) ∙ ap length edges_empty
+
+  pub shape_mark : is_marked t ≡ true → t.shape ≡ mark
+  unfolding is_marked
+  shape_mark e = by t.shape e
+    where
+      by : (s : Shape) → is_mark s ≡ true → s ≡ mark
+      by bare e = absurd (true≢false (sym e))
+      by mark e = refl
+      by (edge n c r) e = absurd (true≢false (sym e))
+
+  pub whole_none : is_marked t ≡ false → length (edges t) ≡ 0 → text whole t.shape ≡ 123 ∷ 125 ∷ []
+  whole_none m e = ap (text whole) (shape_none m e)
+
+  pub whole_mark : is_marked t ≡ true → text whole t.shape ≡ 33 ∷ []
+  whole_mark m = ap (text whole) (shape_mark m)
+
+  pub whole_some : (length (edges t) ≡ 0 → ⊥) → text whole t.shape ≡ 123 ∷ inside (edges t)
+  whole_some some = ap (text whole) (shape_joined t (unmarked some)) ∙ by (edges t) some
+    where
+      by : (es : Edges) → (length es ≡ 0 → ⊥) → text whole (joined es) ≡ 123 ∷ inside es
+      by [] h = absurd (h refl)
+      by (e ∷ es) h = whole_joined e es
+
+-- behind a name a node that isn't bare stands behind a colon
+pub below_full : (s : Shape) → (s ≡ bare → ⊥) → text below s ≡ 58 ∷ text whole s
+below_full bare some = absurd (some refl)
+below_full mark some = refl
+below_full (edge n c r) some = refl
+
+-- what isn't bare and opens with a brace has edges
+pub has_edges : (t : Node true) (x y : List ℕ) → (t.shape ≡ bare → ⊥) → text whole t.shape ++ y ≡ 123 ∷ x → length (edges t) ≡ 0 → ⊥
+has_edges t x y some e none = by (is_marked t) refl
+  where
+    by : (b : Bool) → is_marked t ≡ b → ⊥
+    by false m = some (shape_none t m none)
+    by true m =
+        let is : ◌≡◌ {A = List ℕ} (33 ∷ y) (123 ∷ x) = ap (λ l. l ++ y) (sym (whole_mark t m)) ∙ e in
+        let no : ◌≡◌ {A = ℕ} 33 123 = cc in
+        omega arith
+
+-- ---- edges one behind the other
+
+commas_more : (es : Edges) (e : Name × Node true) (x : List ℕ) → commas (es ++ e ∷ []) ++ x ≡ commas es ++ ((edge_text e.0 e.1.shape ++ 44 ∷ []) ++ x)
+commas_more [] e x = refl
+commas_more (f ∷ es) e x =
+    append_assoc (edge_text f.0 f.1.shape) (44 ∷ commas (es ++ e ∷ [])) x
+    ∙ ap (λ l. edge_text f.0 f.1.shape ++ 44 ∷ l) (commas_more es e x)
+    ∙ sym (append_assoc (edge_text f.0 f.1.shape) (44 ∷ commas es) _)
+
+is_more_append : (es : Edges) (e : Name × Node true) → is_more (es ++ e ∷ []) ≡ true
+is_more_append [] e = refl
+is_more_append (f ∷ es) e = refl
+
+-- with its last edge a node is whole
+closing : (es : Edges) (e : Name × Node true) (x : List ℕ) → commas es ++ ((edge_text e.0 e.1.shape ++ 125 ∷ []) ++ x) ≡ inside (es ++ e ∷ []) ++ x
+closing [] e x = refl
+closing (f ∷ es) e x =
+    append_assoc (edge_text f.0 f.1.shape) (44 ∷ commas es) _
+    ∙ ap (λ l. edge_text f.0 f.1.shape ++ 44 ∷ l) (closing es e x)
+    ∙ ap (λ b. edge_text f.0 f.1.shape ++ separator b ∷ (inside (es ++ e ∷ []) ++ x)) (sym (is_more_append es e))
+    ∙ sym (append_assoc (edge_text f.0 f.1.shape) (separator (is_more (es ++ e ∷ [])) ∷ inside (es ++ e ∷ [])) x)
+
+pub commas_last : (es : Edges) (e : Name × Node true) (x : List ℕ) → commas (es ++ e ∷ []) ++ x ≡ commas es ++ ((edge_text e.0 e.1.shape ++ 44 ∷ []) ++ x)
+commas_last es e x = commas_more es e x
+
+pub inside_last : (es : Edges) (e : Name × Node true) (x : List ℕ) → commas es ++ ((edge_text e.0 e.1.shape ++ 125 ∷ []) ++ x) ≡ inside (es ++ e ∷ []) ++ x
+inside_last es e x = closing es e x
+
+-- behind the first edges of a node another one comes
+pub record NextEdge (es fs : Edges) (bytes rest : List ℕ) : Type 0 where
+  pub next : Name × Node true
+  pub more : Edges
+  pub among : fs ≡ es ++ next ∷ more
+  pub spelled : bytes ≡ edge_text next.0 next.1.shape ++ separator (is_more more) ∷ (inside more ++ rest)
+
+module _ (x rest : List ℕ) where
+  pub remaining : (es : Edges) (f : Name × Node true) (fs : Edges) → commas es ++ x ≡ inside (f ∷ fs) ++ rest → NextEdge es (f ∷ fs) x rest
+  remaining [] f fs e = record { next = f; more = fs; among = refl; spelled = e ∙ append_assoc (edge_text f.0 f.1.shape) (separator (is_more fs) ∷ inside fs) rest }
+  remaining (d ∷ es) f fs e = by (λ k ks es_is. remaining es k ks es_is) fs e
+    where
+      first : (fs : Edges) → commas (d ∷ es) ++ x ≡ inside (f ∷ fs) ++ rest → (d.0 ≡ f.0) × (d.1 ≡ f.1) × (true ≡ is_more fs) × (commas es ++ x ≡ inside fs ++ rest)
+      first fs e = edge_apart d.0 f.0 d.1 f.1 true (is_more fs) _ _ (sym (append_assoc (edge_text d.0 d.1.shape) (44 ∷ commas es) x) ∙ e ∙ append_assoc (edge_text f.0 f.1.shape) (separator (is_more fs) ∷ inside fs) rest)
+
+      by : ((k : Name × Node true) (ks : Edges) → commas es ++ x ≡ inside (k ∷ ks) ++ rest → NextEdge es (k ∷ ks) x rest) → (fs : Edges) → commas (d ∷ es) ++ x ≡ inside (f ∷ fs) ++ rest → NextEdge (d ∷ es) (f ∷ fs) x rest
+      by again [] e = let one = first [] e in let no : ⊥ = cc (one.2) in absurd no
+      by again (k ∷ fs) e =
+          let one = first (k ∷ fs) e in
+          let then = again k fs one.3 in
+          record { next = then.next; more = then.more; among = λ i. (sym one.0 i, sym one.1 i) ∷ then.among i; spelled = then.spelled }
+
+-- ---- names
+
+-- an edge whose names are texts
+pub record IsTextEdge (m : Bool) (e : Name × Node true) : Type 0 where
+  pub is_text : IsUtf8 e.0
+  pub names : HasTextNames m e.1.shape
+
+module _ (m : Bool) where
+  names_joined : (es : Edges) → AllByRecursion (IsTextEdge m) es → HasTextNames m (joined es)
   unfolding joined
-  plain_joined [] h = tt
-  plain_joined (e ∷ es) h = (h.0.plain, h.0.child, plain_joined es h.1)
+  names_joined [] h = tt
+  names_joined (e ∷ es) h = (h.0.is_text, h.0.names, names_joined es h.1)
 
-  deepest_fits : (es : List (Name × Tree)) → AllByRecursion (FitsEdge room) es → deepest es ≤ room
-  deepest_fits [] h = omega arith
-  deepest_fits (e ∷ es) h = let a = h.0.shallow in let b = deepest_fits es h.1 in omega arith
-
-  edges_fit : (es : List (Name × Tree)) → IsPlainShape (joined es) → deepest es ≤ room → AllByRecursion (FitsEdge room) es
+  joined_names : (es : Edges) → HasTextNames m (joined es) → AllByRecursion (IsTextEdge m) es
   unfolding joined
-  edges_fit [] p d = tt
-  edges_fit (e ∷ es) p d = (record { plain = p.0; child = p.1; shallow = omega arith }, edges_fit es p.2 (omega arith))
+  joined_names [] h = tt
+  joined_names (e ∷ es) h = (record { is_text = h.0; names = h.1 }, joined_names es h.2)
 
-  pub fits_from_edges : (t : Tree) → AllByRecursion (FitsEdge room) (edges t) → Fits room t
-  fits_from_edges t h = record {
-    plain = rw (shape_joined t (tree_unmarked t)) (plain_joined (edges t) h);
-    shallow = let a = deepest_fits (edges t) h in let b = depth-edges t in omega arith;
-  }
+  pub names_from_edges : (t : Node true) → is_marked t ≡ false → AllByRecursion (IsTextEdge m) (edges t) → HasTextNames m t.shape
+  names_from_edges t u h = subst (HasTextNames m) (sym (shape_joined t u)) (names_joined (edges t) h)
 
-  pub edges_from_fits : (t : Tree) → Fits room t → AllByRecursion (FitsEdge room) (edges t)
-  edges_from_fits t h =
-      let p : IsPlainShape (joined (edges t)) = rw (shape_joined t (tree_unmarked t)) at h.plain in
-      edges_fit (edges t) p (let a = h.shallow in let b = depth-edges t in omega arith)
+  pub edges_from_names : (t : Node true) → HasTextNames m t.shape → AllByRecursion (IsTextEdge m) (edges t)
+  edges_from_names t h = by (is_marked t) refl
+    where
+      by : (b : Bool) → is_marked t ≡ b → AllByRecursion (IsTextEdge m) (edges t)
+      by false u = joined_names (edges t) (subst (HasTextNames m) (shape_joined t u) h)
+      by true u = subst (AllByRecursion (IsTextEdge m)) (sym (edges-marked t u)) tt
 
-  pub all_last : (es : List (Name × Tree)) (e : Name × Tree) → AllByRecursion (FitsEdge room) es → FitsEdge room e → AllByRecursion (FitsEdge room) (es ++ e ∷ [])
+  pub all_last : (es : Edges) (e : Name × Node true) → AllByRecursion (IsTextEdge m) es → IsTextEdge m e → AllByRecursion (IsTextEdge m) (es ++ e ∷ [])
   all_last [] e h here = (here, tt)
   all_last (f ∷ es) e h here = (h.0, all_last es e h.1 here)
 
--- behind the first edges of a node another one comes
-pub record NextEdge (room : ℕ) (es fs : List (Name × Tree)) (bytes rest : List ℕ) : Type 0 where
-  pub next : Name × Tree
-  pub more : List (Name × Tree)
-  pub among : fs ≡ es ++ next ∷ more
-  pub fits : FitsEdge room next
-  pub spelled : bytes ≡ edge_text next.0 next.1.shape ++ separator (is_more more) ∷ (inside more ++ rest)
+  pub all_among : (es : Edges) (e : Name × Node true) (more : Edges) → AllByRecursion (IsTextEdge m) (es ++ e ∷ more) → IsTextEdge m e
+  all_among [] e more h = h.0
+  all_among (f ∷ es) e more h = all_among es e more h.1
 
-module _ (room : ℕ) (x rest : List ℕ) where
-  pub remaining : (es : List (Name × Tree)) (f : Name × Tree) (fs : List (Name × Tree)) → AllByRecursion (FitsEdge room) es → AllByRecursion (FitsEdge room) (f ∷ fs) → commas es ++ x ≡ inside (f ∷ fs) ++ rest → NextEdge room es (f ∷ fs) x rest
-  remaining [] f fs g h e = record { next = f; more = fs; among = refl; fits = h.0; spelled = e ∙ append_assoc (edge_text f.0 f.1.shape) (separator (is_more fs) ∷ inside fs) rest }
-  remaining (d ∷ es) f fs g h e = by (λ k ks gs hs es_is. remaining es k ks gs hs es_is) fs h e
-    where
-      first : (fs : List (Name × Tree)) → AllByRecursion (FitsEdge room) (f ∷ fs) → commas (d ∷ es) ++ x ≡ inside (f ∷ fs) ++ rest → (d.0 ≡ f.0) × (d.1 ≡ f.1) × (true ≡ is_more fs) × (commas es ++ x ≡ inside fs ++ rest)
-      first fs h e = edge_apart d.0 f.0 d.1 f.1 true (is_more fs) _ _ g.0.plain h.0.plain g.0.child h.0.child (sym (append_assoc (edge_text d.0 d.1.shape) (44 ∷ commas es) x) ∙ e ∙ append_assoc (edge_text f.0 f.1.shape) (separator (is_more fs) ∷ inside fs) rest)
+pub nil_behind : {X : Type 0} (n : Name) (es : List (Name × X)) → length es ≡ 0 → T (is_behind n es)
+nil_behind n [] e = tt
+nil_behind n (d ∷ es) e = absurd (omega arith)
 
-      by : ((k : Name × Tree) (ks : List (Name × Tree)) → AllByRecursion (FitsEdge room) es → AllByRecursion (FitsEdge room) (k ∷ ks) → commas es ++ x ≡ inside (k ∷ ks) ++ rest → NextEdge room es (k ∷ ks) x rest) → (fs : List (Name × Tree)) → AllByRecursion (FitsEdge room) (f ∷ fs) → commas (d ∷ es) ++ x ≡ inside (f ∷ fs) ++ rest → NextEdge room (d ∷ es) (f ∷ fs) x rest
-      by again [] h e = let one = first [] h e in let no : ⊥ = cc (one.2) in absurd no
-      by again (k ∷ fs) h e =
-          let one = first (k ∷ fs) h e in
-          let then = again k fs g.1 h.1 one.3 in
-          record { next = then.next; more = then.more; among = λ i. (sym one.0 i, sym one.1 i) ∷ then.among i; fits = then.fits; spelled = then.spelled }
+pub bare_unmarked : (t : Node true) → t.shape ≡ bare → is_marked t ≡ true → ⊥
+bare_unmarked t none m = let no : bare ≡ mark = sym none ∙ shape_mark t m in cc

@@ -1,6 +1,5 @@
 -- Places in the bytes, and the texts that stand there.
-use Rattle.std.proofs.Common.{◌≡◌, ℕ, ◌+◌, ◌≤◌, List, [], ◌∷◌, ◌++◌, length, drop, refl, sym, ap, ◌∙◌, append_assoc, arith, length-append, length-drop}
-use Rattle.hm_tree_text.specs.Text.{line_feed}
+use Rattle.std.proofs.Common.{◌≡◌, ℕ, ◌+◌, ◌≤◌, List, ◌++◌, length, drop, sym, ap, ◌∙◌, append_assoc, arith, length-append, length-drop}
 use Rattle.hm_tree_text.specs.Reading.{StandsAt}
 
 -- what stands behind a text
@@ -19,14 +18,3 @@ joins bytes one two start middle end g h = record {
   spelled = g.spelled ∙ ap (λ l. one ++ l) h.spelled ∙ sym (append_assoc one two (drop end bytes));
   within = h.within;
 }
-
-pub none : {X : Type 0} (xs : List X) → length xs ≡ 0 → xs ≡ []
-none [] e = refl
-none (x ∷ xs) e = absurd (omega arith)
-
--- a line feed at the end
-pub last_there : (bytes : List ℕ) (start : ℕ) → StandsAt bytes start line_feed (start + 1) → start + 1 ≡ length bytes → drop start bytes ≡ line_feed
-last_there bytes start h e = h.spelled ∙ ap (λ l. 10 ∷ l) (none (drop (start + 1) bytes) (let l = length-drop (start + 1) bytes in omega arith))
-
-pub last_only : (bytes : List ℕ) (start : ℕ) → start + 1 ≤ length bytes → drop start bytes ≡ line_feed → start + 1 ≡ length bytes
-last_only bytes start le e = let l = ap length e in let d = length-drop start bytes in omega arith

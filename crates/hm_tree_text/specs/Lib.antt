@@ -1,3 +1,10 @@
 pub mod Text
+pub mod Files
+pub mod Begun
+pub mod Opening
+pub mod Faults
 pub mod Reading
+pub mod Failing
+pub mod Characters
+pub mod NameRest
 pub mod Writing

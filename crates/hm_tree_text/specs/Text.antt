@@ -1,17 +1,12 @@
 -- The text of trees and archives, one for each value:
 --     tree = "{" "}" / full          full = "{" edge *( "," edge ) "}"
---     edge = name [ ":" full ]       name = DQUOTE *( %x20-21 / %x23-5B / %x5D-7E ) DQUOTE
--- A file is a tree and a line feed. An archive is nothing where its root is missing, a "!" where its root is marked,
--- and else a tree; a line feed stands behind the two.
-use Rattle.std.specs.Prelude.{◌≡◌, ◌≢◌, ℕ, ◌≤◌, List, [], ◌∷◌, ◌++◌, Some, None, codes}
-use Rattle.std.specs.List.{AllByRecursion}
+--     edge = name [ ":" full ]
+-- In an archive a "!" may stand in place of a tree, and in place of what stands behind a ":".
+use Rattle.std.specs.Prelude.{ℕ, Bool, true, false, T, List, [], ◌∷◌, ◌++◌, Some, None, codes, IsUtf8}
+use Rattle.hm_tree.specs.Spelling.{spelled}
 use Rattle.hm_tree.specs.Names.{Name}
-use Rattle.hm_tree.specs.Nodes.{Shape, bare, mark, edge, Tree, depth, marked}
-use Rattle.hm_tree.specs.Archives.{Archive, recorded}
-
--- a name between its quotes
-abbrev pub quoted : Name → List ℕ
-quoted name = codes "\"" ++ (name ++ codes "\"")
+use Rattle.hm_tree.specs.Nodes.{Shape, bare, mark, edge, Node, Tree}
+use Rattle.hm_tree.specs.Archives.{Archive}
 
 -- where a text stands: in place of a whole tree, behind a name, or behind an edge
 pub data Position : Type 0 where
@@ -19,8 +14,7 @@ pub data Position : Type 0 where
   below : Position
   further : Position
 
--- what is written where there is no edge, where there is a mark, and before an edge.
--- No mark is written behind a name so far; and none stands in place of further edges.
+-- what is written where there is no edge, in place of a mark, and before an edge; no mark stands behind an edge
 abbrev pub none : Position → List ℕ
 none whole = codes "{}"
 none below = []
@@ -28,24 +22,23 @@ none further = codes "}"
 
 abbrev pub exclaimed : Position → List ℕ
 exclaimed whole = codes "!"
-exclaimed below = []
-exclaimed further = codes "}"
+exclaimed below = codes ":!"
+exclaimed further = codes "!"
 
 abbrev pub before : Position → List ℕ
 before whole = codes "{"
 before below = codes ":{"
 before further = codes ","
 
--- the text of a node at its position
 abbrev pub text : Position → Shape → List ℕ
 text p bare = none p
 text p mark = exclaimed p
-text p (edge name child more) = before p ++ (quoted name ++ (text below child ++ text further more))
+text p (edge name child more) = before p ++ (spelled name ++ (text below child ++ text further more))
 
 abbrev pub line_feed : List ℕ
 line_feed = 10 ∷ []
 
--- the file of a tree, and that of an archive
+-- the file of a tree, and that of an archive: nothing where its root is missing
 abbrev pub tree_text : Tree → List ℕ
 tree_text t = text whole t.shape ++ line_feed
 
@@ -53,38 +46,33 @@ abbrev pub archive_text : Archive → List ℕ
 archive_text None = []
 archive_text (Some t) = text whole t.shape ++ line_feed
 
--- ---- which values have a text
+-- all names are texts, and a mark stands only where m allows it
+abbrev pub HasTextNames : Bool → Shape → Type 0
+HasTextNames m bare = Unit {0}
+HasTextNames m mark = T m
+HasTextNames m (edge name child more) = IsUtf8 name × HasTextNames m child × HasTextNames m more
 
--- a character that stands for itself in a name: printable ASCII, and neither a quote nor a backslash
-pub record IsPlainByte (b : ℕ) : Type 0 where
-  pub low : 32 ≤ b
-  pub high : b ≤ 126
-  pub no_quote : b ≢ 34
-  pub no_backslash : b ≢ 92
+-- ---- the text of a node by its edges
 
-abbrev pub IsPlain : Name → Type 0
-IsPlain name = AllByRecursion IsPlainByte name
+-- a name with what stands behind it
+abbrev pub edge_text : Name → Shape → List ℕ
+edge_text name child = spelled name ++ text below child
 
--- all names are plain, and there is no mark
-abbrev pub IsPlainShape : Shape → Type 0
-IsPlainShape bare = Unit {0}
-IsPlainShape mark = ⊥
-IsPlainShape (edge name child more) = IsPlain name × IsPlainShape child × IsPlainShape more
+-- what stands behind an edge: whether there are more
+abbrev pub separator : Bool → ℕ
+separator true = 44
+separator false = 125
 
--- the bytes are the file of a tree: its names are plain, and at most 1,000 edges lie one below another
-pub record IsTreeText (t : Tree) (bytes : List ℕ) : Type 0 where
-  pub spelled : bytes ≡ tree_text t
-  pub plain : IsPlainShape t.shape
-  pub shallow : depth t ≤ 1000
+abbrev pub is_more : {X : Type 0} → List X → Bool
+is_more [] = false
+is_more (x ∷ xs) = true
 
--- the bytes are the file of an archive
-pub data IsArchiveText (o : Archive) (bytes : List ℕ) : Type 0 where
-  at_missing : o ≡ None → bytes ≡ [] → IsArchiveText o bytes
-  at_mark : o ≡ Some marked → bytes ≡ codes "!" ++ line_feed → IsArchiveText o bytes
-  at_tree : (t : Tree) → o ≡ Some (recorded t) → IsTreeText t bytes → IsArchiveText o bytes
+-- each edge with what stands behind it
+abbrev pub inside : {m : Bool} → List (Name × Node m) → List ℕ
+inside [] = []
+inside (e ∷ es) = edge_text e.0 e.1.shape ++ separator (is_more es) ∷ inside es
 
--- an archive that has a text so far: a mark stands at its root alone
-pub data IsSpelledSoFar (o : Archive) : Type 0 where
-  is_missing : o ≡ None → IsSpelledSoFar o
-  is_mark_alone : o ≡ Some marked → IsSpelledSoFar o
-  is_tree : (t : Tree) → o ≡ Some (recorded t) → IsSpelledSoFar o
+-- each edge with a comma behind it
+abbrev pub commas : {m : Bool} → List (Name × Node m) → List ℕ
+commas [] = []
+commas (e ∷ es) = edge_text e.0 e.1.shape ++ 44 ∷ commas es

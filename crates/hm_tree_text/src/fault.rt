@@ -8,8 +8,14 @@ use hm_tree::Memory;
 #[derive(Clone, Copy, Debug, PartialEq, Eq, thiserror::Error)]
 pub enum TextFault {
     /// The bytes are no text of a value of the type that was asked for.
-    #[error("this is no text of a tree")]
-    BadTree,
+    #[error("no text goes on so at byte {at}")]
+    BadTree {
+        /// The length of the longest beginning that some text has.
+        at: usize,
+    },
+    /// More than 1,000 braces are open at a place up to which the bytes are a beginning of some text.
+    #[error("more than 1,000 braces are open")]
+    TooDeep,
     /// There was no memory.
     #[error("there was no memory")]
     Memory,

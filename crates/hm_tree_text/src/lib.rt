@@ -2,18 +2,23 @@
 //!
 //! ```text
 //! file     = tree LF
-//! archive  = (nothing) / "!" LF / tree LF
+//! archive  = (nothing) / place LF
 //! tree     = "{" "}" / full
 //! full     = "{" edge *( "," edge ) "}"
 //! edge     = name [ ":" full ]
-//! name     = DQUOTE *( %x20-21 / %x23-5B / %x5D-7E ) DQUOTE
 //! ```
 //!
-//! The names under one node stand in ascending order of their bytes, each once, and at most 1,000 edges lie one below
-//! another. So each value has one text.
+//! In an archive `place` is a tree or `!`, and what stands behind `:` is a full tree, whose edges are of this kind
+//! again, or `!`. A name is UTF-8 text between quotes, spelled as `hm_tree::append_spelled` does. The names under one
+//! node stand in ascending order of their bytes, each once. So each value has one text; one is read where at most
+//! 1,000 edges lie one below another.
 #![tactic(auto)]
 
+mod built;
+mod character;
 mod fault;
+mod name_fault;
+mod place;
 mod reader;
 mod writer;
 

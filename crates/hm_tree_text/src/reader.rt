@@ -1,102 +1,125 @@
 //! Reading: a place in the borrowed bytes, and a function for each form of the grammar.
-ghost use Rattle.std.specs.Prelude.{◌≡◌, ◌↔◌, ℕ, ◌+◌, ◌<◌, ◌≤◌, Bool, List, [], ◌∷◌, ◌++◌, T, IsTrue, IfOk, length, drop, slice_index};
-ghost use Rattle.hm_tree.specs.Archives.{Archive as ArchiveValue};
-ghost use Rattle.hm_tree.specs.Names.{Name as NameValue};
-ghost use Rattle.hm_tree.specs.Nodes.{Tree as TreeValue, bare, edges};
-ghost use Rattle.hm_tree_text.specs.Text.{IsTreeText, IsArchiveText, IsPlain, IsPlainByte, quoted, text, whole, below, line_feed};
-ghost use Rattle.hm_tree_text.specs.Reading.{StandsAt, Fits, edge_text, separator, is_behind};
+ghost use Rattle.std.specs.Prelude.{◌≡◌, ◌↔◌, ℕ, ◌+◌, ◌<◌, ◌≤◌, true, false, List, [], ◌∷◌, ◌++◌, T, IsTrue, IfOk, IfErr, IsUtf8, length, drop, Option, Some, MatchOption, option_copied};
+ghost use Rattle.hm_tree.specs.Nodes.{marked};
+ghost use Rattle.hm_tree.specs.Spelling.{spelled};
+ghost use Rattle.hm_tree_text.specs.Files.{IsTreeText, IsArchiveText};
+ghost use Rattle.hm_tree_text.specs.Faults.{Faults, TreeFaults, ArchiveFaults};
+ghost use Rattle.hm_tree_text.specs.Opening.{Opens};
+ghost use Rattle.hm_tree_text.specs.Reading.{StandsAt, IsAfter, edges_in, IsName, IsEdge, IsBelow, IsInside, IsWhole, IsFile, IsInsideRead, IsBelowRead, IsWholeRead, IsEdgeRead, IsFileRead, BeginsWith};
+ghost use Rattle.hm_tree_text.specs.Failing.{OpensInside, OpensBelow, OpensEdge, Fails, FailsAlone};
 
+use crate::built::Built;
 use crate::fault::TextFault;
-use hm_tree::{Archive, Name, Tree};
+use crate::name_fault::name_fault;
+use crate::place::is_at;
+use hm_tree::{Archive, Memory, Name, Tree, unspell_name};
 use std::alloc::Global;
-use std::cmp::Ordering;
 
-// How many edges may lie one below another.
+// How many braces may be open.
 const DEEPEST: usize = 1000;
 
 // An edge as it was read, whether more come behind it, and the place behind its comma or brace.
 #[derive(Drop)]
-struct Edge {
+struct Edge<B> {
     name: Name,
-    child: Tree,
+    child: B,
     more: bool,
     end: usize,
 }
 
-/// The tree that the bytes are the text of, all of them. `BadTree` where they are the text of none.
+/// The tree that the bytes are the file of. `TooDeep` where a beginning of a file that they begin with leaves more
+/// than 1,000 braces open; else, where they are no file, `BadTree` with the length of their longest part with which a
+/// file begins.
 pub fn read_tree(alloc: Global, bytes: &[u8]) -> Result<Tree, TextFault>
     ensures text { IfOk result (λ tree. IsTreeText tree bytes.now) }
-    ensures bad { result ≡ Err TextFault.BadTree → (tree : TreeValue) → ¬ IsTreeText tree bytes.now }
+    ensures fault { IfErr result (TreeFaults bytes.now) }
 {
-    let (tree, end) = read_whole(alloc, bytes, 0, DEEPEST)?;
-    if !is_last(bytes, end) {
-        return Err(TextFault::BadTree);
-    }
-    Ok(tree)
+    read_file(alloc, bytes)
 }
 
-/// The archive that the bytes are the text of, all of them: no bytes where it is missing at the root, `!` and a line
-/// feed where it is marked there, and else a tree's text. `BadTree` where they are the text of none.
+/// The archive that the bytes are the file of: no bytes at all where it is missing at the root. It fails as
+/// `read_tree` does.
 pub fn read_archive(alloc: Global, bytes: &[u8]) -> Result<Archive, TextFault>
     ensures text { IfOk result (λ archive. IsArchiveText archive bytes.now) }
-    ensures bad { result ≡ Err TextFault.BadTree → (archive : ArchiveValue) → ¬ IsArchiveText archive bytes.now }
+    ensures fault { IfErr result (ArchiveFaults bytes.now) }
 {
-    match bytes {
-        [] => Ok(Archive::missing(alloc)),
-        b"!\n" => Ok(Archive::marked(alloc)),
-        _ => {
-            let tree = read_tree(alloc, bytes)?;
-            Ok(Archive::of_tree(&tree)?)
-        }
+    if bytes.is_empty() {
+        return Ok(Archive::missing(alloc));
     }
+    read_file(alloc, bytes)
 }
 
-// The tree at a place, if it has room for its depth, and the place behind it.
+// A whole tree and the line feed behind it, which are all bytes.
+fn read_file<B: Built>(alloc: Global, bytes: &[u8]) -> Result<B, TextFault>
+    ensures text { IfOk result (λ read. IsFileRead B.marks (B.value read) bytes.now) }
+    ensures fault { IfErr result (Faults B.marks (IsFile B.marks) bytes.now) }
+{
+    let (value, end) = read_whole(alloc, bytes)?;
+    if !is_at(bytes, end, b'\n') {
+        return Err(TextFault::BadTree { at: end });
+    }
+    if end + 1 < bytes.len() {
+        return Err(TextFault::BadTree { at: end + 1 });
+    }
+    Ok(value)
+}
+
+// The tree or mark at the front, and the place behind it.
+fn read_whole<B: Built>(alloc: Global, bytes: &[u8]) -> Result<(B, usize), TextFault>
+    ensures text { IfOk result (λ read. IsWholeRead B.marks 1000 bytes.now (B.value read.0) read.1) }
+    ensures fault { IfErr result (Fails (IsWhole B.marks) (Opens B.marks 1001) bytes.now 0) }
+{
+    if let Some(mark) = read_mark(alloc, bytes, 0) {
+        return Ok((mark, 1));
+    }
+    if !is_at(bytes, 0, b'{') {
+        return Err(TextFault::BadTree { at: 0 });
+    }
+    if is_at(bytes, 1, b'}') {
+        return Ok((B::empty(alloc), 2));
+    }
+    read_inside(alloc, bytes, 1, DEEPEST - 1)
+}
+
+// The edges of a node behind its brace, to the other brace and the place behind it; room is how many further braces
+// may be open below.
 #[cycle(reading)]
-fn read_whole(
+fn read_inside<B: Built>(
     alloc: Global,
     bytes: &[u8],
     at: usize,
     room: usize,
-) -> Result<(Tree, usize), TextFault>
+) -> Result<(B, usize), TextFault>
     requires { at ≤ length bytes.now }
-    ensures text { IfOk result (λ read. StandsAt bytes.now at (text whole read.0.shape) read.1) }
-    ensures fits { IfOk result (λ read. Fits room read.0) }
-    ensures bad { result ≡ Err TextFault.BadTree → (tree : TreeValue) (rest : List ℕ) → Fits room tree → ¬ (drop at bytes.now ≡ text whole tree.shape ++ rest) }
+    ensures text { IfOk result (λ read. IsInsideRead B.marks (room + 1) bytes.now at (B.value read.0) read.1) }
+    ensures fault { IfErr result (Fails (IsInside B.marks) (OpensInside B.marks room) bytes.now at) }
 {
-    if !is_at(bytes, at, b'{') {
-        return Err(TextFault::BadTree);
-    }
-    let mut tree = Tree::empty(alloc);
-    if is_at(bytes, at + 1, b'}') {
-        return Ok((tree, at + 2));
-    }
-    if room == 0 {
-        return Err(TextFault::BadTree);
-    }
-    let mut end = at + 1;
+    let mut node = B::empty(alloc);
+    let mut end = at;
     loop {
-        let edge = read_edge(alloc, bytes, end, room - 1)?;
-        if !is_greatest(&tree, &edge.name) {
-            return Err(TextFault::BadTree);
-        }
-        tree.insert(edge.name, edge.child)?;
+        let edge = read_edge(alloc, bytes, end, room, &node)?;
+        node.add(edge.name, edge.child)?;
         end = edge.end;
         if !edge.more {
-            return Ok((tree, end));
+            return Ok((node, end));
         }
     }
 }
 
-// The edge at a place, with the comma or the brace behind it.
+// The edge at a place, whose name comes behind those of a node, with the comma or the brace behind it.
 #[cycle(reading)]
-fn read_edge(alloc: Global, bytes: &[u8], at: usize, room: usize) -> Result<Edge, TextFault>
+fn read_edge<B: Built>(
+    alloc: Global,
+    bytes: &[u8],
+    at: usize,
+    room: usize,
+    before: &B,
+) -> Result<Edge<B>, TextFault>
     requires { at ≤ length bytes.now }
-    ensures text { IfOk result (λ edge. StandsAt bytes.now at (edge_text edge.name edge.child.shape ++ separator edge.more ∷ []) edge.end) }
-    ensures fits { IfOk result (λ edge. IsPlain edge.name × Fits room edge.child) }
-    ensures bad { result ≡ Err TextFault.BadTree → (name : NameValue) (child : TreeValue) (more : Bool) (rest : List ℕ) → IsPlain name → Fits room child → ¬ (drop at bytes.now ≡ edge_text name child.shape ++ separator more ∷ rest) }
+    ensures text { IfOk result (λ edge. IsEdgeRead B.marks room (edges_in (B.value before.now)) bytes.now at edge.name (B.value edge.child) edge.more edge.end) }
+    ensures fault { IfErr result (Fails (IsEdge B.marks (edges_in (B.value before.now))) (OpensEdge B.marks room (edges_in (B.value before.now))) bytes.now at) }
 {
-    let (name, behind) = read_name(alloc, bytes, at)?;
+    let (name, behind) = read_name(alloc, bytes, at, before.greatest())?;
     let (child, last) = read_below(alloc, bytes, behind, room)?;
     if is_at(bytes, last, b',') {
         Ok(Edge {
@@ -113,100 +136,95 @@ fn read_edge(alloc: Global, bytes: &[u8], at: usize, room: usize) -> Result<Edge
             end: last + 1,
         })
     } else {
-        Err(TextFault::BadTree)
+        Err(TextFault::BadTree { at: last })
     }
 }
 
-// What stands behind a name: nothing, or a colon and a tree with edges.
+// What stands behind a name: nothing, or a colon and a mark or a node with edges.
 #[cycle(reading)]
-fn read_below(
+fn read_below<B: Built>(
     alloc: Global,
     bytes: &[u8],
     at: usize,
     room: usize,
-) -> Result<(Tree, usize), TextFault>
+) -> Result<(B, usize), TextFault>
     requires { at ≤ length bytes.now }
-    ensures text { IfOk result (λ read. StandsAt bytes.now at (text below read.0.shape) read.1) }
-    ensures fits { IfOk result (λ read. Fits room read.0) }
-    ensures alone { IfOk result (λ read. read.0.shape ≡ bare → (rest : List ℕ) → ¬ (drop at bytes.now ≡ 58 ∷ rest)) }
-    ensures bad { result ≡ Err TextFault.BadTree → (tree : TreeValue) (more : Bool) (rest : List ℕ) → Fits room tree → ¬ (drop at bytes.now ≡ text below tree.shape ++ separator more ∷ rest) }
+    ensures text { IfOk result (λ read. IsBelowRead B.marks room bytes.now at (B.value read.0) read.1) }
+    ensures fault { IfErr result (Fails (IsBelow B.marks) (OpensBelow B.marks room) bytes.now at) }
 {
     if !is_at(bytes, at, b':') {
-        return Ok((Tree::empty(alloc), at));
+        return Ok((B::empty(alloc), at));
     }
-    let (tree, end) = read_whole(alloc, bytes, at + 1, room)?;
-    if tree.count() == 0 {
-        return Err(TextFault::BadTree);
+    if let Some(mark) = read_mark(alloc, bytes, at + 1) {
+        return Ok((mark, at + 2));
     }
-    Ok((tree, end))
+    if !is_at(bytes, at + 1, b'{') {
+        return Err(TextFault::BadTree { at: at + 1 });
+    }
+    if room == 0 {
+        return Err(TextFault::TooDeep);
+    }
+    read_inside(alloc, bytes, at + 2, room - 1)
 }
 
-// The name at a place, and the place behind its second quote.
-fn read_name(alloc: Global, bytes: &[u8], at: usize) -> Result<(Name, usize), TextFault>
+// The mark at a place, if there is one where marks may stand.
+fn read_mark<B: Built>(alloc: Global, bytes: &[u8], at: usize) -> Option<B>
+    ensures { MatchOption result (B.marks ≡ true → (rest : List ℕ) → ¬ (drop at bytes.now ≡ 33 ∷ rest)) (λ mark. (B.marks ≡ true) × (B.value mark ≡ Some marked) × StandsAt bytes.now at (33 ∷ []) (at + 1)) }
+{
+    if is_at(bytes, at, b'!') {
+        B::mark(alloc)
+    } else {
+        None
+    }
+}
+
+// The name at a place, which comes behind the last one, and the place behind its second quote.
+fn read_name(
+    alloc: Global,
+    bytes: &[u8],
+    at: usize,
+    last: Option<&Name>,
+) -> Result<(Name, usize), TextFault>
     requires { at ≤ length bytes.now }
-    ensures text { IfOk result (λ read. StandsAt bytes.now at (quoted read.0) read.1) }
-    ensures plain { IfOk result (λ read. IsPlain read.0) }
-    ensures bad { result ≡ Err TextFault.BadTree → (name : NameValue) (rest : List ℕ) → IsPlain name → ¬ (drop at bytes.now ≡ quoted name ++ rest) }
+    ensures stands { IfOk result (λ read. StandsAt bytes.now at (spelled read.0) read.1) }
+    ensures text { IfOk result (λ read. IsUtf8 read.0) }
+    ensures after { IfOk result (λ read. IsAfter (option_copied last.entry) read.0) }
+    ensures fault { IfErr result (FailsAlone (IsName (option_copied last.entry)) bytes.now at) }
 {
-    if !is_at(bytes, at, b'"') {
-        return Err(TextFault::BadTree);
+    let rest = &bytes[at..];
+    match name_after(alloc, rest, last)? {
+        Some((name, length)) => Ok((name, at + length)),
+        None => Err(TextFault::BadTree {
+            at: at + name_fault(rest, last),
+        }),
     }
-    let rest = &bytes[at + 1..];
-    let length = plain_length(rest);
-    if !is_at(rest, length, b'"') {
-        return Err(TextFault::BadTree);
-    }
-    let Ok(text) = std::str::from_utf8(&rest[..length]) else {
-        return Err(TextFault::BadTree);
+}
+
+// The name at the front, if it comes behind the last one, and the length of its spelling.
+fn name_after(
+    alloc: Global,
+    bytes: &[u8],
+    last: Option<&Name>,
+) -> Result<Option<(Name, usize)>, Memory>
+    ensures { IfOk result (λ found. MatchOption found (¬ (BeginsWith (IsName (option_copied last.entry)) bytes.now)) (λ read. IsUtf8 read.0 × IsAfter (option_copied last.entry) read.0 × StandsAt bytes.now 0 (spelled read.0) read.1)) }
+{
+    let Some((name, length)) = unspell_name(alloc, bytes)? else {
+        return Ok(None);
     };
-    let name = Name::from_text(alloc, text)?;
-    Ok((name, at + length + 2))
-}
-
-// How many plain characters the bytes begin with.
-fn plain_length(bytes: &[u8]) -> usize
-    ensures within { result ≤ length bytes.now }
-    ensures plain { (i : ℕ) → i < result → IsPlainByte (slice_index bytes.now i) }
-    ensures end { result < length bytes.now → ¬ IsPlainByte (slice_index bytes.now result) }
-{
-    for (i, byte) in bytes.iter().enumerate() {
-        if !is_plain(*byte) {
-            return i;
-        }
+    if is_after(last, name.text()) {
+        Ok(Some((name, length)))
+    } else {
+        Ok(None)
     }
-    bytes.len()
 }
 
-// Whether a character stands for itself in a name.
-fn is_plain(byte: u8) -> bool
-    ensures { IsTrue result ↔ IsPlainByte byte }
+// Whether a name comes behind the last one.
+#[tactic(auto, unfolding(hm_tree::specs::Names::name_cmp))]
+fn is_after(last: Option<&Name>, name: &str) -> bool
+    ensures { IsTrue result ↔ IsAfter (option_copied last.entry) name.now }
 {
-    matches!(byte, 0x20..=0x21 | 0x23..=0x5b | 0x5d..=0x7e)
-}
-
-// Whether a name is greater than all names of a tree.
-fn is_greatest(tree: &Tree, name: &Name) -> bool
-    ensures { IsTrue result ↔ T (is_behind name.now (edges tree.now)) }
-{
-    let count = tree.count();
-    if count == 0 {
-        return true;
+    match last {
+        Some(last) => last.text().cmp(&name).is_lt(),
+        None => true,
     }
-    let (last, _) = tree.edge(count - 1);
-    matches!(last.order(name), Ordering::Less)
-}
-
-// Whether a byte stands at a place.
-fn is_at(bytes: &[u8], at: usize, byte: u8) -> bool
-    ensures there { IsTrue result → StandsAt bytes.now at (byte ∷ []) (at + 1) }
-    ensures only { (rest : List ℕ) → drop at bytes.now ≡ byte ∷ rest → IsTrue result }
-{
-    at < bytes.len() && bytes[at] == byte
-}
-
-// Whether a line feed stands at a place, and nothing behind it.
-fn is_last(bytes: &[u8], at: usize) -> bool
-    ensures { IsTrue result ↔ (drop at bytes.now ≡ line_feed) }
-{
-    is_at(bytes, at, b'\n') && at + 1 == bytes.len()
 }

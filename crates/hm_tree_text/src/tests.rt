@@ -1,4 +1,4 @@
-//! Texts, read and written back, and bytes that are no text.
+//! Texts, read and written back, and the places at which other bytes are no text.
 use super::*;
 use hm_tree::State;
 use std::alloc::Global;
@@ -9,18 +9,35 @@ fn reads_back(rt: &impl Abort, alloc: Global, text: &[u8]) -> Result<(), Fail> {
     let tree = read_tree(alloc, text)?;
     let written = write_tree(alloc, &tree)?;
     assert_eq!(rt; written.as_slice(), text);
+    archive_reads_back(rt, alloc, text)
+}
+
+fn archive_reads_back(rt: &impl Abort, alloc: Global, text: &[u8]) -> Result<(), Fail> {
     let archive = read_archive(alloc, text)?;
     let written = write_archive(alloc, &archive)?;
     assert_eq!(rt; written.as_slice(), text);
     Ok(())
 }
 
-fn is_refused(alloc: Global, text: &[u8]) -> bool {
-    matches!(read_tree(alloc, text), Err(TextFault::BadTree))
-        && matches!(read_archive(alloc, text), Err(TextFault::BadTree))
+fn is_bad_tree(alloc: Global, text: &[u8], place: usize) -> bool {
+    match read_tree(alloc, text) {
+        Err(TextFault::BadTree { at }) => at == place,
+        _ => false,
+    }
 }
 
-// A tree of one path of this many edges.
+fn is_bad_archive(alloc: Global, text: &[u8], place: usize) -> bool {
+    match read_archive(alloc, text) {
+        Err(TextFault::BadTree { at }) => at == place,
+        _ => false,
+    }
+}
+
+fn is_bad(alloc: Global, text: &[u8], place: usize) -> bool {
+    is_bad_tree(alloc, text, place) && is_bad_archive(alloc, text, place)
+}
+
+// The text of a tree of one path of this many edges, without its line feed.
 fn chain(alloc: Global, depth: usize) -> Result<Vec<u8>, Fail> {
     let mut text = Vec::new(alloc);
     for level in 0..depth {
@@ -29,7 +46,6 @@ fn chain(alloc: Global, depth: usize) -> Result<Vec<u8>, Fail> {
     for _ in 0..depth {
         text.push(b'}')?;
     }
-    text.push(b'\n')?;
     Ok(text)
 }
 
@@ -38,38 +54,102 @@ fn texts_are_read_and_written_back(rt: HostRuntime) -> Result<(), Fail> {
     let alloc = rt.alloc();
     reads_back(&rt, alloc, b"{}\n")?;
     reads_back(&rt, alloc, b"{\"\"}\n")?;
-    reads_back(&rt, alloc, b"{\"A\"}\n")?;
+    reads_back(&rt, alloc, b"{\"\",\"\\x00\",\"A\"}\n")?;
     reads_back(&rt, alloc, b"{\"a\":{\"b\",\"c\":{\"d\"}},\"e\"}\n")?;
-    reads_back(&rt, alloc, b"{\" !#[]~\",\"a b\":{\"{:,}\"}}\n")?;
+    reads_back(
+        &rt,
+        alloc,
+        b"{\" !#[]~\",\"\\\"\",\"\\\\:\":{\"{:,}\",\"\\x7f\",\"\xC3\xA9\"}}\n",
+    )?;
+    archive_reads_back(&rt, alloc, b"")?;
+    archive_reads_back(&rt, alloc, b"!\n")?;
+    archive_reads_back(&rt, alloc, b"{\"a\":!,\"b\":{\"\":!},\"c\"}\n")?;
     Ok(())
 }
 
 #[test]
-fn other_bytes_are_refused(rt: HostRuntime) -> Result<(), Fail> {
+fn other_bytes_are_refused_at_their_place(rt: HostRuntime) -> Result<(), Fail> {
     let alloc = rt.alloc();
-    assert!(rt; is_refused(alloc, b"{\"b\",\"a\"}\n"));
-    assert!(rt; is_refused(alloc, b"{\"a\",\"a\"}\n"));
-    assert!(rt; is_refused(alloc, b"{\"a\":{}}\n"));
-    assert!(rt; is_refused(alloc, b"{\"a\"}"));
-    assert!(rt; is_refused(alloc, b"{\"a\"}\n\n"));
-    assert!(rt; is_refused(alloc, b"{\"a\"}}\n"));
-    assert!(rt; is_refused(alloc, b"{\"\\x41\"}\n"));
-    assert!(rt; is_refused(alloc, b"{\"\x1f\"}\n"));
-    assert!(rt; is_refused(alloc, b"{\"a\",}\n"));
-    assert!(rt; is_refused(alloc, b"{ }\n"));
-    assert!(rt; is_refused(alloc, b"{\"a\":!}\n"));
-    assert!(rt; is_refused(alloc, b"\n"));
-    assert!(rt; is_refused(alloc, b"!"));
+    assert!(rt; is_bad(alloc, b"{\"a\"}", 5));
+    assert!(rt; is_bad(alloc, b"{\"b\",\"a\"}\n", 6));
+    assert!(rt; is_bad(alloc, b"{\"\xC3(", 3));
+    assert!(rt; is_bad(alloc, b"{\"`\",\"\\\\", 7));
+    assert!(rt; is_bad(alloc, b"{\"`\",\"\\x7f\"}", 12));
+    assert!(rt; is_bad(alloc, b"{\"a\",\"a\"}\n", 7));
+    assert!(rt; is_bad(alloc, b"{\"a\",\"`\"}\n", 6));
+    assert!(rt; is_bad(alloc, b"{\"\",\"\"}\n", 5));
+    assert!(rt; is_bad(alloc, b"{\"a\":{}}\n", 6));
+    assert!(rt; is_bad(alloc, b"{\"a\"}\n\n", 6));
+    assert!(rt; is_bad(alloc, b"{\"a\"}}\n", 5));
+    assert!(rt; is_bad(alloc, b"{\"\\x41\"}\n", 4));
+    assert!(rt; is_bad(alloc, b"{\"\\x7e\"}\n", 5));
+    assert!(rt; is_bad(alloc, b"{\"\\x1F\"}\n", 5));
+    assert!(rt; is_bad(alloc, b"{\"\\q\"}\n", 3));
+    assert!(rt; is_bad(alloc, b"{\"\x1f\"}\n", 2));
+    assert!(rt; is_bad(alloc, b"{\"\x7f\"}\n", 2));
+    assert!(rt; is_bad(alloc, b"{\"a\",}\n", 5));
+    assert!(rt; is_bad(alloc, b"{ }\n", 1));
+    assert!(rt; is_bad(alloc, b"{\"a\"\n", 4));
+    assert!(rt; is_bad(alloc, b"\n", 0));
+    assert!(rt; is_bad_tree(alloc, b"", 0));
+    assert!(rt; is_bad_tree(alloc, b"!\n", 0));
+    assert!(rt; is_bad_tree(alloc, b"{\"a\":!}\n", 5));
+    assert!(rt; is_bad_archive(alloc, b"!", 1));
+    assert!(rt; is_bad_archive(alloc, b"!\n\n", 2));
+    assert!(rt; is_bad_archive(alloc, b"{!}\n", 1));
+    Ok(())
+}
+
+#[test]
+fn bytes_of_characters_are_refused_at_their_place(rt: HostRuntime) -> Result<(), Fail> {
+    let alloc = rt.alloc();
+    assert!(rt; is_bad(alloc, b"{\"\x80", 2));
+    assert!(rt; is_bad(alloc, b"{\"\xC1\x80", 2));
+    assert!(rt; is_bad(alloc, b"{\"\xE0\x9F", 3));
+    assert!(rt; is_bad(alloc, b"{\"\xE0\xA0\x7F", 4));
+    assert!(rt; is_bad(alloc, b"{\"\xED\xA0", 3));
+    assert!(rt; is_bad(alloc, b"{\"\xF4\x90", 3));
+    assert!(rt; is_bad(alloc, b"{\"\xF5\x80", 2));
+    assert!(rt; is_bad(alloc, b"{\"\xF0\x90\x80\"", 5));
+    assert!(rt; is_bad(alloc, b"{\"\xC3\xA9\",\"\\", 7));
+    assert!(rt; is_bad(alloc, b"{\"\xC3\xA9\",\"\xC3\xA8", 8));
+    assert!(rt; is_bad(alloc, b"{\"\xC3\xA9\",\"\xC3\xA9\"", 9));
+    assert!(rt; is_bad(alloc, b"{\"\\x10\",\"\\x0", 11));
+    assert!(rt; is_bad(alloc, b"{\"\\x10\",\"\\x10\"", 13));
+    Ok(())
+}
+
+// Each beginning of a text is bad at its end.
+#[test]
+fn beginnings_are_refused_at_their_end(rt: HostRuntime) -> Result<(), Fail> {
+    let alloc = rt.alloc();
+    let text = b"{\"a\":{\"b\\\"\",\"c\":!},\"d\"}\n";
+    archive_reads_back(&rt, alloc, text)?;
+    for end in 1..text.len() {
+        assert!(rt; is_bad_archive(alloc, &text[..end], end));
+    }
     Ok(())
 }
 
 #[test]
 fn a_thousand_levels_are_read(rt: HostRuntime) -> Result<(), Fail> {
     let alloc = rt.alloc();
-    let text = chain(alloc, 1000)?;
+    let mut text = chain(alloc, 1000)?;
+    text.push(b'\n')?;
     reads_back(&rt, alloc, text.as_slice())?;
     let text = chain(alloc, 1001)?;
-    assert!(rt; is_refused(alloc, text.as_slice()));
+    assert!(rt; matches!(read_tree(alloc, text.as_slice()), Err(TextFault::TooDeep)));
+    assert!(rt;
+        matches!(
+            read_archive(alloc, text.as_slice()),
+            Err(TextFault::TooDeep)
+        )
+    );
+    let mut text = Vec::new(alloc);
+    for level in 0..1001 {
+        text.extend_from_slice(if level == 0 { b"{\"a\"" } else { b":{\"a\"" })?;
+    }
+    assert!(rt; matches!(read_tree(alloc, text.as_slice()), Err(TextFault::TooDeep)));
     Ok(())
 }
 
@@ -78,14 +158,9 @@ fn roots_of_archives(rt: HostRuntime) -> Result<(), Fail> {
     let alloc = rt.alloc();
     let missing = read_archive(alloc, b"")?;
     assert_eq!(rt; missing.root(), State::Missing);
-    assert_eq!(rt; write_archive(alloc, &missing)?.as_slice(), b"".as_slice());
     let marked = read_archive(alloc, b"!\n")?;
     assert_eq!(rt; marked.root(), State::Marked);
-    assert_eq!(rt;
-        write_archive(alloc, &marked)?.as_slice(),
-        b"!\n".as_slice()
-    );
-    assert!(rt; matches!(read_tree(alloc, b"!\n"), Err(TextFault::BadTree)));
-    assert!(rt; matches!(read_tree(alloc, b""), Err(TextFault::BadTree)));
+    let present = read_archive(alloc, b"{}\n")?;
+    assert_eq!(rt; present.root(), State::Present);
     Ok(())
 }

@@ -1,12 +1,11 @@
 //! Writing: each form of the grammar at the end of one text.
-ghost use Rattle.std.specs.Prelude.{◌≡◌, ◌<◌, ◌++◌, false, IfOk, OnOk, length, Some, slice_get};
-ghost use Rattle.hm_tree.specs.Nodes.{edges, is_marked};
-ghost use Rattle.hm_tree_text.specs.Text.{IsSpelledSoFar, tree_text, archive_text, quoted, text as text_of, whole, below};
-ghost use Rattle.hm_tree_text.specs.Reading.{separator as separator_of};
+ghost use Rattle.std.specs.Prelude.{◌≡◌, ◌↔◌, ◌<◌, ◌++◌, IsTrue, IfOk, OnOk, length, Some, slice_get};
+ghost use Rattle.hm_tree.specs.Nodes.{bare, edges, is_marked};
+ghost use Rattle.hm_tree_text.specs.Text.{tree_text, archive_text, text as text_of, whole, below, separator as separator_of};
 ghost use Rattle.hm_tree.specs.Archives.{recorded};
 ghost use Rattle.hm_tree_text.specs.Writing.{present};
 
-use hm_tree::{Archive, Memory, Name, State, Tree};
+use hm_tree::{Archive, Memory, Name, State, Tree, append_spelled};
 use std::alloc::Global;
 
 // What is written: a node of a tree or of an archive.
@@ -15,6 +14,9 @@ trait Written {
     ghost use Rattle.std.specs.Prelude.{true};
 
     ghost node: { Self → Node true };
+
+    fn is_marked(&self) -> bool
+        ensures { result ≡ is_marked (node self.now) };
 
     fn count(&self) -> usize
         ensures { result ≡ length (edges (node self.now)) };
@@ -26,6 +28,10 @@ trait Written {
 
 impl Written for Tree {
     ghost node = { recorded };
+
+    fn is_marked(&self) -> bool {
+        false
+    }
 
     fn count(&self) -> usize {
         self.count()
@@ -39,6 +45,10 @@ impl Written for Tree {
 impl Written for Archive {
     ghost node = { present };
 
+    fn is_marked(&self) -> bool {
+        matches!(self.root(), State::Marked)
+    }
+
     fn count(&self) -> usize {
         self.count()
     }
@@ -48,7 +58,7 @@ impl Written for Archive {
     }
 }
 
-/// The text of a tree.
+/// The file of a tree.
 pub fn write_tree(alloc: Global, tree: &Tree) -> Result<Vec<u8>, Memory>
     ensures { IfOk result (λ text. text.items ≡ tree_text tree.now) }
 {
@@ -58,27 +68,28 @@ pub fn write_tree(alloc: Global, tree: &Tree) -> Result<Vec<u8>, Memory>
     Ok(text)
 }
 
-/// The text of an archive, in which a mark stands at the root alone.
+/// The file of an archive.
 pub fn write_archive(alloc: Global, archive: &Archive) -> Result<Vec<u8>, Memory>
-    requires { IsSpelledSoFar archive.now }
     ensures { IfOk result (λ text. text.items ≡ archive_text archive.now) }
 {
     let mut text = Vec::new(alloc);
-    match archive.root() {
-        State::Missing => return Ok(text),
-        State::Marked => text.push(b'!')?,
-        State::Present => put_whole(&mut text, archive)?,
+    if let State::Missing = archive.root() {
+        return Ok(text);
     }
+    put_whole(&mut text, archive)?;
     text.push(b'\n')?;
     Ok(text)
 }
 
-// A node, with its braces.
+// A node, with its braces, or a mark.
 #[cycle(writing)]
 fn put_whole<N: Written>(text: &mut Vec<u8>, node: &N) -> Result<(), Memory>
-    requires { is_marked (N.node node.now) ≡ false }
     ensures { OnOk result (text.new.items ≡ text.old.items ++ text_of whole (N.node node.now).shape) }
 {
+    if node.is_marked() {
+        text.push(b'!')?;
+        return Ok(());
+    }
     text.push(b'{')?;
     let count = node.count();
     if count == 0 {
@@ -87,23 +98,33 @@ fn put_whole<N: Written>(text: &mut Vec<u8>, node: &N) -> Result<(), Memory>
     }
     for place in 0..count {
         let (name, child) = node.edge(place);
-        put_name(text, name)?;
+        append_spelled(name, text)?;
         put_below(text, child)?;
         text.push(separator(place + 1 < count))?;
     }
     Ok(())
 }
 
-// What stands behind a name: nothing, or a colon and a node with edges.
+// What stands behind a name: nothing, or a colon and a mark or a node with edges.
 #[cycle(writing)]
 fn put_below<N: Written>(text: &mut Vec<u8>, node: &N) -> Result<(), Memory>
     ensures { OnOk result (text.new.items ≡ text.old.items ++ text_of below (N.node node.now).shape) }
 {
-    if node.count() == 0 {
+    if is_bare(node) {
         return Ok(());
     }
     text.push(b':')?;
     put_whole(text, node)
+}
+
+// Whether a node has no edges and is no mark.
+fn is_bare<N: Written>(node: &N) -> bool
+    ensures { IsTrue result ↔ ((N.node node.now).shape ≡ bare) }
+{
+    if node.is_marked() {
+        return false;
+    }
+    node.count() == 0
 }
 
 // What stands behind an edge: whether there are more.
@@ -111,14 +132,4 @@ fn separator(more: bool) -> u8
     ensures { result ≡ separator_of more }
 {
     if more { b',' } else { b'}' }
-}
-
-// A name, with its quotes.
-fn put_name(text: &mut Vec<u8>, name: &Name) -> Result<(), Memory>
-    ensures { OnOk result (text.new.items ≡ text.old.items ++ quoted name.now) }
-{
-    text.push(b'"')?;
-    text.extend_from_slice(name.bytes())?;
-    text.push(b'"')?;
-    Ok(())
 }

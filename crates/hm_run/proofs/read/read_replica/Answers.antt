@@ -1,9 +1,6 @@
-use Rattle.std.proofs.Common.{Err, ap}
-use Rattle.hm_run.specs.Verdict.{tree_text_of, no_tree_text}
+use Rattle.std.proofs.Common.{◌∙◌}
+use Rattle.hm_run.proofs.Reading.{replica_no_utf8}
 use Rattle.hm_run.proofs.read.read_replica.Goals as goal
 
-pub returns-in-Ok-clause-finds : goal.returns-in-Ok-clause-finds
-returns-in-Ok-clause-finds c = tree_text_of c.in-Ok.ensures.text
-
-pub returns-in-Err-BadTree-clause-finds : goal.returns-in-Err-BadTree-clause-finds
-returns-in-Err-BadTree-clause-finds c = no_tree_text (c.in-Err-BadTree.ensures.bad (ap Err c.in-Err-BadTree.field-0-is))
+pub returns-in-Err-clause-finds : goal.returns-in-Err-clause-finds
+returns-in-Err-clause-finds c = replica_no_utf8 _ _ _ _ (c.valid_up_to.ensures ∙ c.in-Err.ensures.valid_len) c.in-Err.ensures.cases.0

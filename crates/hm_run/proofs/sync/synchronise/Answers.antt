@@ -6,7 +6,11 @@ use Rattle.hm_run.specs.declared.read.Inputs.{Inputs}
 use Rattle.hm_run.specs.Seen.{loads_of, inputs_of}
 use Rattle.hm_run.specs.Making.{new_bytes}
 use Rattle.hm_run.proofs.Stopping.{words_cause, words_told, reading_cause, no_fault, loads_told, reads_told, writes_told, done_told, writes_cause}
+use Rattle.hm_run.proofs.Reading.{members}
 use Rattle.hm_run.proofs.sync.synchronise.Goals as goal
+
+pub make-requires : goal.make-requires
+make-requires g c = members _ _ c.in_ok-inputs.ensures.finds
 
 pub returns-in_err-files-clause-cause : goal.returns-in_err-files-clause-cause
 returns-in_err-files-clause-cause g c =

@@ -1,4 +1,4 @@
-use Rattle.std.proofs.Common.{◌≡◌, Err, rules, ap, ◌∙◌}
+use Rattle.std.proofs.Common.{◌≡◌, Err, rules}
 use Rattle.hm_command.specs.declared.ending.Slot.TheVariants.{Archive, Left, Right}
 use Rattle.hm_command.specs.Files.{names}
 use Rattle.hm_outside.specs.declared.outside.Kind.TheVariants.{Replace}

@@ -3,16 +3,16 @@ use Rattle.hm_tree_text.proofs.Gathering.{Gathered}
 use Rattle.hm_tree_text.proofs.reader.+reading.Given as goal
 
 abbrev pub decreases-read_below : goal.decreases-read_below
-decreases-read_below l = 3 * l.room + 1
+decreases-read_below g l = 3 * l.room
 
 abbrev pub decreases-read_edge : goal.decreases-read_edge
-decreases-read_edge l = 3 * l.room + 2
+decreases-read_edge g l = 3 * l.room + 1
 
-abbrev pub decreases-read_whole : goal.decreases-read_whole
-decreases-read_whole l = 3 * l.room
+abbrev pub decreases-read_inside : goal.decreases-read_inside
+decreases-read_inside g l = 3 * l.room + 2
 
-abbrev pub invariant-read_whole-loop-tree : goal.invariant-read_whole-loop-tree
-invariant-read_whole-loop-tree l = Gathered l.room l.bytes l.at l.tree l.end
+abbrev pub invariant-read_inside-loop-node : goal.invariant-read_inside-loop-node
+invariant-read_inside-loop-node g l = Gathered g.B.Built.marks l.room l.bytes l.at (g.B.Built.value l.node) l.end
 
-abbrev pub decreases-read_whole-loop-tree : goal.decreases-read_whole-loop-tree
-decreases-read_whole-loop-tree l = length l.bytes - l.end
+abbrev pub decreases-read_inside-loop-node : goal.decreases-read_inside-loop-node
+decreases-read_inside-loop-node g l = length l.bytes - l.end

@@ -1,5 +1,9 @@
-use Rattle.hm_tree_text.specs.Text.{at_tree}
+use Rattle.std.proofs.Common.{◌≡◌, [], ap, length, eq-eqb}
+use Rattle.hm_tree_text.proofs.Reached.{if_err}
+use Rattle.hm_tree_text.proofs.Whole.{archive_faults}
 use Rattle.hm_tree_text.proofs.reader.read_archive.Goals as goal
 
-pub returns-in_ok-of_tree-in_default-clause-text : goal.returns-in_ok-of_tree-in_default-clause-text
-returns-in_ok-of_tree-in_default-clause-text c = at_tree _ c.in_ok-of_tree-in_default.ensures c.in_ok-tree-in_default.ensures.text
+pub returns-clause-fault : goal.returns-clause-fault
+returns-clause-fault c =
+    let some : c.args.bytes.now ≡ [] → ⊥ = λ e. let t = eq-eqb (length c.args.bytes.now) 0 (ap length e) in cc in
+    if_err _ _ c.read_file.result (λ fault h. archive_faults _ some fault h) c.read_file.ensures.fault

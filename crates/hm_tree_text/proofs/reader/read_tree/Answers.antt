@@ -1,7 +1,9 @@
-use Rattle.hm_tree_text.proofs.Below.{not_false, last_feed}
+use Rattle.hm_tree_text.proofs.Reached.{if_ok, if_err}
+use Rattle.hm_tree_text.proofs.Whole.{tree_read, tree_faults}
 use Rattle.hm_tree_text.proofs.reader.read_tree.Goals as goal
 
-pub returns-then-not-is_last-clause-bad : goal.returns-then-not-is_last-clause-bad
-returns-then-not-is_last-clause-bad c =
-    λ _ tree is.
-    not_false (c.if-not-is_last.ensures.1 (last_feed _ tree _ _ _ c.in_ok-tree.ensures.fits c.in_ok-tree.ensures.text is))
+pub returns-clause-text : goal.returns-clause-text
+returns-clause-text c = if_ok _ _ c.read_file.result (λ tree h. tree_read tree _ h) c.read_file.ensures.text
+
+pub returns-clause-fault : goal.returns-clause-fault
+returns-clause-fault c = if_err _ _ c.read_file.result (λ fault h. tree_faults _ fault h) c.read_file.ensures.fault

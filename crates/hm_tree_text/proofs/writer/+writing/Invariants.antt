@@ -1,6 +1,6 @@
 use Rattle.std.proofs.Common.{◌≡◌, ◌+◌, ◌*◌, ◌++◌, ◌∷◌, drop}
 use Rattle.hm_tree.specs.Nodes.{depth, edges}
-use Rattle.hm_tree_text.proofs.Listed.{inside}
+use Rattle.hm_tree_text.specs.Text.{inside}
 use Rattle.hm_tree_text.proofs.writer.+writing.Given as goal
 
 abbrev pub decreases-put_whole : goal.decreases-put_whole

@@ -1,11 +1,8 @@
 use Rattle.std.proofs.Common.{◌++◌, ◌∷◌, [], ap, ◌∙◌}
-use Rattle.hm_tree.specs.Archives.{recorded, recorded_unmarked}
+use Rattle.hm_tree.specs.Archives.{recorded}
 use Rattle.hm_tree_text.specs.Text.{text, whole}
 use Rattle.hm_tree_text.proofs.Laws.{archive_text-recorded}
 use Rattle.hm_tree_text.proofs.writer.write_tree.Goals as goal
-
-pub put_whole-requires : goal.put_whole-requires
-put_whole-requires c = recorded_unmarked c.args.tree.now
 
 pub returns : goal.returns
 returns c =

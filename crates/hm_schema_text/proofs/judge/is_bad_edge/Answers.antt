@@ -1,0 +1,34 @@
+use Rattle.std.proofs.Common.{ℕ, List, Some, sym, ◌∙◌, ap, refl}
+use Rattle.hm_tree.specs.Names.{Name}
+use Rattle.hm_schema_text.specs.Items.{edge}
+use Rattle.hm_schema_text.specs.Entries.{EntryValue}
+use Rattle.hm_schema_text.specs.Judging.{lines_of}
+use Rattle.hm_schema_text.specs.BadLines.{IsNode, names_no_node, listed_twice}
+use Rattle.hm_schema_text.proofs.Judging.{always, turned, refuted, not_bad, bad_outside, good_inside, one_name, listed_again, twice_listed}
+use Rattle.hm_schema_text.proofs.judge.is_bad_edge.Goals as goal
+
+pub returns-then-is_outside : goal.returns-then-is_outside
+returns-then-is_outside c = always (bad_outside (lines_of c.args.line.now) c.args.line.now.place (edge c.args.name.now c.args.child.now) c.requires.says refl refl (c.if-is_outside.ensures.0 refl))
+
+pub returns-then-not-is_node : goal.returns-then-not-is_node
+returns-then-not-is_node c = always (names_no_node c.requires.says refl (λ node. refuted (c.if-not-is_node.ensures.1 node)))
+
+pub returns : goal.returns
+returns c = turned c.is_first.result
+    (λ first. not_bad es i (edge name child) c.requires.says (good_inside es i (edge name child) c.requires.says refl refl
+    (λ outside. refuted (c.if-is_outside.ensures.1 outside))
+    (one_name (IsNode es) child (c.if-not-is_node.ensures.0 refl))
+    (listed_again es i name child c.requires.says (sym (c.requires.known.section.listed name) ∙ c.is_first.ensures.0 first ∙ ap Some c.requires.known.before.edges))))
+    (λ none. listed_twice c.requires.says (twice_listed es i name child c.requires.says (λ first. none (c.is_first.ensures.1 (c.requires.known.section.listed name ∙ first ∙ ap Some (sym c.requires.known.before.edges))))))
+  where
+    es : List EntryValue
+    es = lines_of c.args.line.now
+
+    i : ℕ
+    i = c.args.line.now.place
+
+    name : Name
+    name = c.args.name.now
+
+    child : Name
+    child = c.args.child.now

@@ -1,0 +1,265 @@
+//! The nodes of a schema, from the lines of a file without a bad line.
+ghost use Rattle.std.specs.Prelude.{◌≡◌, ◌↔◌, IsTrue, IfOk, MatchOption, map, length, count_by, filter_map, option_copied, Some, codes};
+ghost use Rattle.std.specs.List.{Contains};
+ghost use Rattle.hm_tree.specs.Names.{Name};
+ghost use Rattle.hm_schema.specs.Values.{node_value};
+ghost use Rattle.hm_schema_text.specs.Items.{root, shape_value};
+ghost use Rattle.hm_schema_text.specs.Entries.{entry_value, entry_values, says};
+ghost use Rattle.hm_schema_text.specs.Firsts.{AreFirsts, node_names};
+ghost use Rattle.hm_schema_text.specs.BadLines.{HasNoBadLine, begins_node};
+ghost use Rattle.hm_schema_text.specs.SchemaFiles.{AreNodesOf, IsRootOf, NamesEmpty, as_shape, empty_node};
+ghost use Rattle.hm_schema_text.specs.Building.{id_in, shape_of, child_of, other_of, root_name, first_of, name_in, IsBuilt, AreBuilt};
+
+use crate::entry::Entry;
+use crate::firsts::{begun, first_place};
+use crate::item::{Item, ShapeLine};
+use crate::judge::is_empty_node;
+use crate::names::copy_names;
+use crate::section::{begins_node, lines_of_node};
+use hm_schema::{Node, NodeId, Shape};
+use hm_tree::{Class, Memory, Name, NameSet};
+use std::alloc::Global;
+use std::collections::BTreeMap;
+use std::string::String;
+
+// How many node lines there are.
+fn count_nodes(entries: &[Entry]) -> usize
+    ensures { result ≡ count_by begins_node (entry_values entries.now) }
+{
+    entries.iter().filter(|entry| begins_node(entry)).count()
+}
+
+// The node of a name: behind the declared ones for `Empty`.
+fn node_named(declared: &BTreeMap<String, usize>, count: usize, name: &Name) -> NodeId
+    ensures { result ≡ id_in declared.now count name.now }
+{
+    match first_place(declared, name) {
+        Some(place) => NodeId { place },
+        None => NodeId { place: count },
+    }
+}
+
+fn build_shape(alloc: Global, shape: &ShapeLine) -> Result<Shape, Memory>
+    ensures { IfOk result (λ built. built ≡ as_shape (shape_value shape.now)) }
+{
+    Ok(Shape {
+        required: NameSet::from_list(copy_names(alloc, &shape.required)?)?,
+        optional: NameSet::from_list(copy_names(alloc, &shape.optional)?)?,
+        least: shape.count.least,
+        most: shape.count.most,
+    })
+}
+
+// The shape that a line adds to its node.
+fn shape_of(alloc: Global, entry: &Entry) -> Result<Option<Shape>, Memory>
+    ensures { IfOk result (λ shape. shape ≡ shape_of (entry_value entry.now)) }
+{
+    match entry {
+        Entry::Says(Item::Shape(shape)) => Ok(Some(build_shape(alloc, shape)?)),
+        _ => Ok(None),
+    }
+}
+
+// The name that a line lists, and its node.
+fn child_of(
+    entry: &Entry,
+    declared: &BTreeMap<String, usize>,
+    count: usize,
+) -> Result<Option<(Name, NodeId)>, Memory>
+    ensures { IfOk result (λ child. child ≡ child_of (id_in declared.now count) (entry_value entry.now)) }
+{
+    match entry {
+        Entry::Says(Item::Edge(name, node)) => Ok(Some((
+            name.copy()?,
+            node_named(declared, count, node),
+        ))),
+        _ => Ok(None),
+    }
+}
+
+// What a line says of unlisted names: their class, and their node.
+fn other_of(
+    entry: &Entry,
+    declared: &BTreeMap<String, usize>,
+    count: usize,
+) -> Option<(Class, NodeId)>
+    ensures { result ≡ other_of (id_in declared.now count) (entry_value entry.now) }
+{
+    match entry {
+        Entry::Says(Item::Other(class, node)) => {
+            Some((*class, node_named(declared, count, node)))
+        }
+        _ => None,
+    }
+}
+
+fn shapes_of(alloc: Global, lines: &[Entry]) -> Result<Vec<Shape>, Memory>
+    ensures { IfOk result (λ shapes. shapes.items ≡ filter_map shape_of (entry_values lines.now)) }
+{
+    let mut shapes = Vec::new(alloc);
+    for entry in lines {
+        if let Some(shape) = shape_of(alloc, entry)? {
+            shapes.push(shape)?;
+        }
+    }
+    Ok(shapes)
+}
+
+fn children_of(
+    alloc: Global,
+    lines: &[Entry],
+    declared: &BTreeMap<String, usize>,
+    count: usize,
+) -> Result<Vec<(Name, NodeId)>, Memory>
+    ensures { IfOk result (λ children. children.items ≡ filter_map (child_of (id_in declared.now count)) (entry_values lines.now)) }
+{
+    let mut children = Vec::new(alloc);
+    for entry in lines {
+        if let Some(child) = child_of(entry, declared, count)? {
+            children.push(child)?;
+        }
+    }
+    Ok(children)
+}
+
+fn first_other(
+    lines: &[Entry],
+    declared: &BTreeMap<String, usize>,
+    count: usize,
+) -> Option<(Class, NodeId)>
+    ensures { result ≡ first_of (other_of (id_in declared.now count)) (entry_values lines.now) }
+{
+    for entry in lines {
+        if let Some(other) = other_of(entry, declared, count) {
+            return Some(other);
+        }
+    }
+    None
+}
+
+// The node of some lines.
+fn build_node(
+    alloc: Global,
+    lines: &[Entry],
+    declared: &BTreeMap<String, usize>,
+    count: usize,
+) -> Result<Node, Memory>
+    ensures { IfOk result (λ node. IsBuilt (id_in declared.now count) (entry_values lines.now) (node_value node)) }
+{
+    let shapes = shapes_of(alloc, lines)?;
+    let mut children = children_of(alloc, lines, declared, count)?;
+    children.sort_by(|one, two| one.0.order(&two.0))?;
+    Ok(Node {
+        shapes,
+        children,
+        other: first_other(lines, declared, count),
+        twins: Vec::new(alloc),
+    })
+}
+
+// The nodes of the node lines.
+fn build_declared(
+    alloc: Global,
+    entries: &[Entry],
+    declared: &BTreeMap<String, usize>,
+) -> Result<Vec<Node>, Memory>
+    ensures { IfOk result (λ nodes. AreBuilt (id_in declared.now (count_by begins_node (entry_values entries.now))) (entry_values entries.now) (length entries.now) (map node_value nodes.items)) }
+{
+    let count = count_nodes(entries);
+    let mut nodes = Vec::new(alloc);
+    for place in 0..entries.len() {
+        if begins_node(&entries[place]) {
+            let lines = lines_of_node(&entries[place + 1..]);
+            nodes.push(build_node(alloc, lines, declared, count)?)?;
+        }
+    }
+    Ok(nodes)
+}
+
+// The node whose one shape is empty.
+fn empty_node(alloc: Global) -> Result<Node, Memory>
+    ensures { IfOk result (λ node. node_value node ≡ empty_node) }
+{
+    let mut shapes = Vec::new(alloc);
+    shapes.push(Shape {
+        required: NameSet::from_list(Vec::new(alloc))?,
+        optional: NameSet::from_list(Vec::new(alloc))?,
+        least: 0,
+        most: Some(0),
+    })?;
+    Ok(Node {
+        shapes,
+        children: Vec::new(alloc),
+        other: None,
+        twins: Vec::new(alloc),
+    })
+}
+
+// The name of the node that a line names.
+fn named(entry: &Entry) -> Option<&Name>
+    ensures { option_copied result ≡ name_in (entry_value entry.now) }
+{
+    match entry {
+        Entry::Says(Item::Root(name)) => Some(name),
+        Entry::Says(Item::Edge(_, name)) => Some(name),
+        Entry::Says(Item::Other(_, name)) => Some(name),
+        _ => None,
+    }
+}
+
+fn names_empty_node(entry: &Entry) -> bool
+    ensures { IsTrue result ↔ (name_in (entry_value entry.now) ≡ Some (codes "Empty")) }
+{
+    match named(entry) {
+        Some(name) => is_empty_node(name),
+        None => false,
+    }
+}
+
+// Whether a line names the node whose one shape is empty.
+fn is_empty_named(entries: &[Entry]) -> bool
+    ensures { IsTrue result ↔ NamesEmpty (entry_values entries.now) }
+{
+    entries.iter().any(|entry| names_empty_node(entry))
+}
+
+// The name of the root's node where a line says it.
+fn root_name(entry: &Entry) -> Option<&Name>
+    ensures { option_copied result ≡ root_name (entry_value entry.now) }
+{
+    match entry {
+        Entry::Says(Item::Root(name)) => Some(name),
+        _ => None,
+    }
+}
+
+/// The nodes, in the order of their lines, and behind them the node `Empty` where it is named.
+pub fn build_nodes(
+    alloc: Global,
+    entries: &[Entry],
+    declared: &BTreeMap<String, usize>,
+) -> Result<Vec<Node>, Memory>
+    requires sound { HasNoBadLine (entry_values entries.now) }
+    requires declared { AreFirsts declared.now (node_names (entry_values entries.now)) }
+    ensures { IfOk result (λ nodes. AreNodesOf (entry_values entries.now) (map node_value nodes.items)) }
+{
+    let mut nodes = build_declared(alloc, entries, declared)?;
+    if is_empty_named(entries) {
+        nodes.push(empty_node(alloc)?)?;
+    }
+    Ok(nodes)
+}
+
+/// The node of the root, where a line names it.
+pub fn root_of(entries: &[Entry], declared: &BTreeMap<String, usize>) -> Option<NodeId>
+    requires sound { HasNoBadLine (entry_values entries.now) }
+    requires declared { AreFirsts declared.now (node_names (entry_values entries.now)) }
+    ensures { MatchOption result ((w : Name) → ¬ (Contains (entry_values entries.now) (says (root w)))) (λ id. ((w : Name) × Contains (entry_values entries.now) (says (root w))) × IsRootOf (entry_values entries.now) id) }
+{
+    for entry in entries {
+        if let Some(name) = root_name(entry) {
+            return Some(node_named(declared, count_nodes(entries), name));
+        }
+    }
+    None
+}
