@@ -1,5 +1,5 @@
 -- The line and the exit status of each ending.
-use Rattle.std.specs.Prelude.{ℕ, Bool, true, false, cond, List, [], ◌∷◌, ◌++◌, codes, flat_map}
+use Rattle.std.specs.Prelude.{ℕ, zero, suc, List, [], ◌∷◌, ◌++◌, codes, flat_map}
 use Rattle.std.specs.Fmt.{decimal}
 use Rattle.hm_tree.specs.Names.{Name}
 use Rattle.hm_tree.specs.Spelling.{spelled}
@@ -11,7 +11,7 @@ use Rattle.hm_command.specs.declared.ending.ArchiveFault.TheVariants.{At, Deep}
 use Rattle.hm_command.specs.declared.ending.ReplicaFault.{ReplicaFault}
 use Rattle.hm_command.specs.declared.ending.ReplicaFault.TheVariants.{NotUtf8, BadItem, TooDeep, Outside}
 use Rattle.hm_command.specs.declared.ending.Refusal.{Refusal}
-use Rattle.hm_command.specs.declared.ending.Refusal.TheVariants.{Usage, SameName, Missing, TooLarge, BadSchema, BadArchive, BadReplica}
+use Rattle.hm_command.specs.declared.ending.Refusal.TheVariants.{Usage, SameName, Missing, TooLarge, BadSchema, BadArchive, BadReplica, Overgrown}
 use Rattle.hm_command.specs.declared.ending.Stop.TheVariants.{Refused, ReadFault, WriteFault, Memory}
 use Rattle.hm_command.specs.declared.ending.Ending.{Ending}
 use Rattle.hm_command.specs.declared.ending.Ending.TheVariants.{Stopped, PutFault, Done}
@@ -49,18 +49,20 @@ refusal_text (TooLarge slot) = codes "harmony: TooLarge " ++ slot_name slot
 refusal_text (BadSchema at) = codes "harmony: BadSchema " ++ decimal at
 refusal_text (BadArchive fault) = codes "harmony: BadArchive " ++ archive_fault_text fault
 refusal_text (BadReplica slot fault) = codes "harmony: BadReplica " ++ slot_name slot ++ codes " " ++ replica_fault_text fault
+refusal_text (Overgrown slot size) = codes "harmony: Overgrown " ++ slot_name slot ++ codes " " ++ decimal size
 
-abbrev pub report_text : Bool → List ℕ
-report_text true = codes "conflicts 1"
-report_text false = codes "agreed"
+-- the number of conflicts that remain, if there are any
+abbrev pub report_text : ℕ → List ℕ
+report_text zero = codes "agreed"
+report_text (suc n) = codes "conflicts " ++ decimal (suc n)
 
 abbrev pub text_of : Ending → List ℕ
 text_of (Stopped (Refused refusal)) = refusal_text refusal
 text_of (Stopped (ReadFault slot)) = codes "harmony: ReadFault " ++ slot_name slot
 text_of (Stopped (WriteFault slot)) = codes "harmony: WriteFault " ++ slot_name slot
 text_of (Stopped Memory) = []
-text_of (PutFault conflict) = report_text conflict
-text_of (Done conflict) = report_text conflict
+text_of (PutFault conflicts) = report_text conflicts
+text_of (Done conflicts) = report_text conflicts
 
 -- the line; none for want of memory
 abbrev pub output_of : Ending → List ℕ
@@ -68,8 +70,8 @@ output_of (Stopped (Refused refusal)) = line (text_of (Stopped (Refused refusal)
 output_of (Stopped (ReadFault slot)) = line (text_of (Stopped (ReadFault slot)))
 output_of (Stopped (WriteFault slot)) = line (text_of (Stopped (WriteFault slot)))
 output_of (Stopped Memory) = []
-output_of (PutFault conflict) = line (report_text conflict)
-output_of (Done conflict) = line (report_text conflict)
+output_of (PutFault conflicts) = line (report_text conflicts)
+output_of (Done conflicts) = line (report_text conflicts)
 
 abbrev pub refusal_status : Refusal → ℕ
 refusal_status Usage = 2
@@ -79,11 +81,17 @@ refusal_status (TooLarge slot) = 3
 refusal_status (BadSchema at) = 3
 refusal_status (BadArchive fault) = 3
 refusal_status (BadReplica slot fault) = 3
+refusal_status (Overgrown slot size) = 3
+
+-- of a run that came to its output
+abbrev pub conflicts_status : ℕ → ℕ
+conflicts_status zero = 0
+conflicts_status (suc n) = 1
 
 abbrev pub status_of : Ending → ℕ
 status_of (Stopped (Refused refusal)) = refusal_status refusal
 status_of (Stopped (ReadFault slot)) = 4
 status_of (Stopped (WriteFault slot)) = 4
 status_of (Stopped Memory) = 5
-status_of (PutFault conflict) = 6
-status_of (Done conflict) = cond conflict 1 0
+status_of (PutFault conflicts) = 6
+status_of (Done conflicts) = conflicts_status conflicts

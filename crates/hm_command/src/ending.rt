@@ -50,6 +50,8 @@ pub enum Refusal {
     BadSchema(usize),
     BadArchive(ArchiveFault),
     BadReplica(Slot, ReplicaFault),
+    /// The new file has more than 16,777,216 bytes; the number of its bytes.
+    Overgrown(Slot, usize),
 }
 
 /// Why a run stopped before its output.
@@ -63,13 +65,13 @@ pub enum Stop {
     Memory,
 }
 
-/// How a run ended. Where it came to its output, the flag says whether a conflict remains.
+/// How a run ended. Where it came to its output, the number is that of the conflicts that remain.
 #[derive(Drop)]
 pub enum Ending {
     Stopped(Stop),
     /// The sink failed while the output was put.
-    PutFault(bool),
-    Done(bool),
+    PutFault(usize),
+    Done(usize),
 }
 
 impl From<Refusal> for Stop {

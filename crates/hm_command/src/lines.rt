@@ -1,6 +1,7 @@
 //! What a run says as it ends: one line, and the exit status.
 ghost use Rattle.std.specs.Prelude.{◌≡◌, ◌++◌, ◌∷◌, [], IfOk, OnOk};
 ghost use Rattle.std.specs.Fmt.{decimal};
+ghost use Rattle.hm_command.specs.declared.ending.Refusal.TheVariants.{Overgrown};
 ghost use Rattle.hm_command.specs.Lines.{slot_name, path_text, archive_fault_text, replica_fault_text, refusal_text, report_text, text_of, output_of, refusal_status, status_of};
 
 use crate::ending::{ArchiveFault, Ending, Refusal, ReplicaFault, Slot, Stop};
@@ -77,6 +78,14 @@ fn put_replica_fault(alloc: Global, line: &mut Vec<u8>, fault: &ReplicaFault) ->
     }
 }
 
+// Puts the refusal of a new file that is too large behind a line.
+fn put_overgrown(alloc: Global, line: &mut Vec<u8>, slot: Slot, size: usize) -> Result<(), Memory>
+    ensures { OnOk result (line.new.items ≡ line.old.items ++ refusal_text (Overgrown slot size)) }
+{
+    put_slot(line, b"harmony: Overgrown ", slot)?;
+    put_number(alloc, line, b" ", size)
+}
+
 // Puts a refusal behind a line.
 fn put_refusal(alloc: Global, line: &mut Vec<u8>, refusal: &Refusal) -> Result<(), Memory>
     ensures { OnOk result (line.new.items ≡ line.old.items ++ refusal_text refusal.now) }
@@ -99,19 +108,18 @@ fn put_refusal(alloc: Global, line: &mut Vec<u8>, refusal: &Refusal) -> Result<(
             line.push(b' ')?;
             put_replica_fault(alloc, line, fault)
         }
+        Refusal::Overgrown(slot, size) => put_overgrown(alloc, line, *slot, *size),
     }
 }
 
 // Puts the last line of a report behind a line.
-fn put_report(line: &mut Vec<u8>, conflict: bool) -> Result<(), Memory>
-    ensures { OnOk result (line.new.items ≡ line.old.items ++ report_text conflict) }
+fn put_report(alloc: Global, line: &mut Vec<u8>, conflicts: usize) -> Result<(), Memory>
+    ensures { OnOk result (line.new.items ≡ line.old.items ++ report_text conflicts) }
 {
-    if conflict {
-        line.extend_from_slice(b"conflicts 1")?;
-    } else {
-        line.extend_from_slice(b"agreed")?;
+    match conflicts {
+        0 => Ok(line.extend_from_slice(b"agreed")?),
+        _ => put_number(alloc, line, b"conflicts ", conflicts),
     }
-    Ok(())
 }
 
 // Puts what this ending says behind a line.
@@ -123,7 +131,9 @@ fn put_ending(alloc: Global, line: &mut Vec<u8>, ending: &Ending) -> Result<(), 
         Ending::Stopped(Stop::ReadFault(slot)) => put_slot(line, b"harmony: ReadFault ", *slot),
         Ending::Stopped(Stop::WriteFault(slot)) => put_slot(line, b"harmony: WriteFault ", *slot),
         Ending::Stopped(Stop::Memory) => Ok(()),
-        Ending::PutFault(conflict) | Ending::Done(conflict) => put_report(line, *conflict),
+        Ending::PutFault(conflicts) | Ending::Done(conflicts) => {
+            put_report(alloc, line, *conflicts)
+        }
     }
 }
 
@@ -149,7 +159,7 @@ fn refusal_status(refusal: &Refusal) -> u8
     }
 }
 
-/// The exit status of a run that ends so: 0 agreed, 1 a conflict remains, 2 usage, 3 refused, 4 a fault of the store,
+/// The exit status of a run that ends so: 0 agreed, 1 conflicts remain, 2 usage, 3 refused, 4 a fault of the store,
 /// 5 want of memory, 6 a fault of the sink while the output was put.
 pub fn status_of(ending: &Ending) -> u8
     ensures { result ≡ status_of ending.now }
@@ -159,6 +169,6 @@ pub fn status_of(ending: &Ending) -> u8
         Ending::Stopped(Stop::ReadFault(_) | Stop::WriteFault(_)) => 4,
         Ending::Stopped(Stop::Memory) => 5,
         Ending::PutFault(_) => 6,
-        Ending::Done(conflict) => u8::from(*conflict),
+        Ending::Done(conflicts) => u8::from(*conflicts > 0),
     }
 }

@@ -1,2 +1,5 @@
-pub mod Settling
-pub mod Outcomes
+pub mod Gathering
+pub mod Walking
+pub mod Sides
+pub mod Fates
+pub mod TopmostList

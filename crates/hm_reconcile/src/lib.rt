@@ -1,12 +1,20 @@
 //! Reconciling two replicas against the archive of what they last agreed on.
-#![tactic(auto, using(crate::proofs::Safe::settling))]
+#![tactic(auto)]
+
+mod marks;
+mod node;
+mod side;
+mod walk;
 
 ghost use Rattle.std.specs.Prelude.{IfOk};
-ghost use Rattle.hm_safety.specs.Safety.{IsSafe};
-ghost use Rattle.hm_reconcile.specs.Settling.{views, Settles};
-ghost use Rattle.hm_reconcile.specs.Outcomes.{AllAre, Stays};
+ghost use Rattle.hm_schema.specs.Membership.{HasNoTwins};
+ghost use Rattle.hm_outcome.specs.Trios.{given, views, AreMembers};
+ghost use Rattle.hm_outcome.specs.Outcomes.{IsOutcome, IsMaximal, IsOnlyOne};
 
+use crate::node::at_node;
+use hm_schema::Schema;
 use hm_tree::{Archive, Memory, Tree};
+pub use marks::topmost_marks;
 use std::alloc::Global;
 
 /// The archive and the two replicas after a reconciling.
@@ -17,46 +25,21 @@ pub struct Outcome {
     pub right: Tree,
 }
 
-/// Reconciles whole replicas: where they are equal, all three become so; where one is as the archive, all three
-/// become the other; else the archive is marked at its root, and both replicas stay.
+/// Reconciles two members of a schema against the archive of what they last agreed on: name by name, what only one
+/// side changed is carried to the other, as far as each node permits the names that come to stand there; where both
+/// changed, or the names can't stand together, the archive is marked, and both sides stay.
 pub fn reconcile(
     alloc: Global,
+    schema: &Schema,
     archive: &Archive,
     left: &Tree,
     right: &Tree,
 ) -> Result<Outcome, Memory>
-    ensures settles { IfOk result (λ outcome. Settles archive.now left.now right.now outcome.archive outcome.left outcome.right) }
-    ensures safe { IfOk result (λ outcome. IsSafe (views archive.now left.now right.now) (views outcome.archive outcome.left outcome.right)) }
+    requires no_twins { HasNoTwins schema.now }
+    requires members { AreMembers schema.now schema.now.root (views (given archive.now left.now right.now)) }
+    ensures outcome { IfOk result (λ o. IsOutcome schema.now schema.now.root (given archive.now left.now right.now) (given o.archive o.left o.right)) }
+    ensures best { IfOk result (λ o. IsMaximal schema.now schema.now.root (given archive.now left.now right.now) (given o.archive o.left o.right)) }
+    ensures only { IfOk result (λ o. IsOnlyOne schema.now schema.now.root (given archive.now left.now right.now) (given o.archive o.left o.right)) }
 {
-    if left.same(right) {
-        all_as(left)
-    } else if archive.records(left) {
-        all_as(right)
-    } else if archive.records(right) {
-        all_as(left)
-    } else {
-        stopped(alloc, left, right)
-    }
-}
-
-// All three as one tree.
-fn all_as(tree: &Tree) -> Result<Outcome, Memory>
-    ensures { IfOk result (AllAre tree.now) }
-{
-    Ok(Outcome {
-        archive: Archive::of_tree(tree)?,
-        left: tree.copy()?,
-        right: tree.copy()?,
-    })
-}
-
-// A mark at the root, and both sides as they are.
-fn stopped(alloc: Global, left: &Tree, right: &Tree) -> Result<Outcome, Memory>
-    ensures { IfOk result (Stays left.now right.now) }
-{
-    Ok(Outcome {
-        archive: Archive::marked(alloc),
-        left: left.copy()?,
-        right: right.copy()?,
-    })
+    at_node(alloc, schema, schema.root(), archive, left, right)
 }

@@ -1,5 +1,5 @@
 -- From the end of the work to the end of the run.
-use Rattle.std.proofs.Common.{◌≡◌, Bool, ◌⊎◌, inl, inr, ⊎_elim, ℕ, ◌+◌, ◌<◌, ◌≤◌, List, Option, Some, Result, Ok, Err, sym, ◌∙◌, ap, subst}
+use Rattle.std.proofs.Common.{◌≡◌, ◌⊎◌, inl, inr, ⊎_elim, ℕ, ◌+◌, ◌<◌, ◌≤◌, List, Option, Some, Result, Ok, Err, sym, ◌∙◌, ap, subst}
 use Rattle.hm_tree.specs.Names.{Name}
 use Rattle.hm_outside.specs.Contents.{Contents}
 use Rattle.hm_outside.specs.Failures.{Extends}
@@ -11,31 +11,31 @@ use Rattle.hm_run.specs.Causes.{HasStopCause, IsStopState, Synchronises}
 use Rattle.hm_run.specs.Seen.{WhereTold}
 use Rattle.hm_run.specs.Endings.{Outside, HasCause, Leaves, Puts, EndsAs, Finishes, said, failed, no_memory, ending_of, after_fault}
 
-cause_said : (words : List Name) (before after : Outside) (r : Result Bool Stop) → HasStopCause words before.failed after.failed r → HasCause (ending_of r) words before after
-cause_said words before after (Ok conflict) h = h
+cause_said : (words : List Name) (before after : Outside) (r : Result ℕ Stop) → HasStopCause words before.failed after.failed r → HasCause (ending_of r) words before after
+cause_said words before after (Ok conflicts) h = h
 cause_said words before after (Err stop) h = h
 
-cause_failed : (words : List Name) (before after : Outside) (r : Result Bool Stop) → before.faults < after.faults → HasStopCause words before.failed after.failed r → HasCause (after_fault (ending_of r)) words before after
-cause_failed words before after (Ok conflict) lt h = (h, lt)
+cause_failed : (words : List Name) (before after : Outside) (r : Result ℕ Stop) → before.faults < after.faults → HasStopCause words before.failed after.failed r → HasCause (after_fault (ending_of r)) words before after
+cause_failed words before after (Ok conflicts) lt h = (h, lt)
 cause_failed words before after (Err stop) lt h = h
 
-leaves_said : (words : List Name) (c : Contents) (left : Option Contents) (r : Result Bool Stop) → Synchronises words c r left → Leaves (ending_of r) words c left
-leaves_said words c left (Ok conflict) h = h
+leaves_said : (words : List Name) (c : Contents) (left : Option Contents) (r : Result ℕ Stop) → Synchronises words c r left → Leaves (ending_of r) words c left
+leaves_said words c left (Ok conflicts) h = h
 leaves_said words c left (Err stop) h = h
 
-leaves_failed : (words : List Name) (c : Contents) (left : Option Contents) (r : Result Bool Stop) → Synchronises words c r left → Leaves (after_fault (ending_of r)) words c left
-leaves_failed words c left (Ok conflict) h = h
+leaves_failed : (words : List Name) (c : Contents) (left : Option Contents) (r : Result ℕ Stop) → Synchronises words c r left → Leaves (after_fault (ending_of r)) words c left
+leaves_failed words c left (Ok conflicts) h = h
 leaves_failed words c left (Err stop) h = h
 
 -- what any end leaves, want of memory may leave
-leaves_memory : (words : List Name) (c : Contents) (left : Option Contents) (r : Result Bool Stop) → Synchronises words c r left → (left ≡ Some c) ⊎ ((n : ℕ) × IsStopState words c left n)
-leaves_memory words c left (Ok conflict) h = inr (3, h.state)
+leaves_memory : (words : List Name) (c : Contents) (left : Option Contents) (r : Result ℕ Stop) → Synchronises words c r left → (left ≡ Some c) ⊎ ((n : ℕ) × IsStopState words c left n)
+leaves_memory words c left (Ok conflicts) h = inr (3, h.state)
 leaves_memory words c left (Err (Refused refusal)) h = inl h.same
 leaves_memory words c left (Err (ReadFault slot)) h = inl h
 leaves_memory words c left (Err (WriteFault slot)) h = inr (⊎_elim {C = (n : ℕ) × IsStopState words c left n} (λ old. (place_of slot, old)) (λ new. (place_of slot + 1, new)) h)
 leaves_memory words c left (Err Memory) h = h
 
-module _ (words : List Name) (before after : Outside) (r : Result Bool Stop) where
+module _ (words : List Name) (before after : Outside) (r : Result ℕ Stop) where
   cause_of : (given ending : Ending) → given ≡ ending_of r → Finishes given before.faults after.faults ending → HasStopCause words before.failed after.failed r → HasCause ending words before after
   cause_of given ending is (said e) h = let P : Ending → Type 0 = λ x. HasCause x words before after in subst P (sym (e ∙ is)) (cause_said words before after r h)
   cause_of given ending is (failed lt e) h = let P : Ending → Type 0 = λ x. HasCause x words before after in subst P (sym (e ∙ ap after_fault is)) (cause_failed words before after r lt h)

@@ -20,7 +20,8 @@ use Rattle.std.specs.Ordering.{ordering_reverse}
 use Rattle.std.specs.FinMap.{slice_cmp-IsAntisymmetric}
 use Rattle.std.specs.declared.cmp.Ordering.{Ordering}
 use Rattle.std.specs.declared.cmp.Ordering.TheVariants.{Less, Equal, Greater}
-use Rattle.hm_reconcile.proofs.Safe.{settles_one}
+use Rattle.hm_outcome.specs.Trios.{Trio, given}
+use Rattle.hm_outcome.proofs.Best.{outcome_once}
 use Rattle.hm_outside.specs.Contents.{Contents, held}
 use Rattle.hm_command.specs.declared.ending.Slot.{Slot}
 use Rattle.hm_command.specs.declared.ending.Slot.TheVariants.{Schema as SchemaSlot, Archive as ArchiveSlot, Left, Right}
@@ -30,7 +31,7 @@ use Rattle.hm_command.specs.declared.ending.Refusal.{Refusal}
 use Rattle.hm_command.specs.declared.ending.Refusal.TheVariants.{TooLarge, BadSchema, BadArchive, BadReplica}
 use Rattle.hm_command.specs.Words.{FileNames, meaning}
 use Rattle.hm_run.specs.Steps.{Then, stops, goes_on, FindsOne}
-use Rattle.hm_run.specs.Verdict.{Loads, loaded, too_large, no_archive, no_schema, no_left, no_right, limit, Bytes, LoadsAll, ReadsSchema, schema_of, bad_line, ReadsArchive, archive_of, bad_archive, deep_archive, ReadsReplica, replica_of, no_utf8, bad_item, too_deep, outside, Trees, ReadsAll, Plans, planned, Verdict}
+use Rattle.hm_run.specs.Verdict.{Loads, loaded, too_large, no_archive, no_schema, no_left, no_right, limit, Bytes, LoadsAll, ReadsSchema, schema_of, bad_line, ReadsArchive, archive_of, bad_archive, deep_archive, ReadsReplica, replica_of, no_utf8, bad_item, too_deep, outside, Trees, ReadsAll, Synced, Becomes, Reconciles, reconciled, Texts, texts_of, Measures, within, overgrown, MeasuresAll, Plans, Verdict}
 
 module _ {A B : Type 0} (first : Result A Refusal → Type 0) (second : A → Result B Refusal → Type 0) (one : FindsOne first) (next : (x : A) → FindsOne (second x)) where
   ok_one : (x y : A) → first (Ok x) → first (Ok y) → x ≡ y
@@ -192,11 +193,6 @@ module _ (s : SchemaValue) (at : Slot) (bytes : List ℕ) where
       ap (λ (z : Path). Err (BadReplica at (replica_fault.Outside z)))
       (outside_one s s.root (state (Some v)) p q (subst (λ z. IsFirstOutside s s.root (state (Some z)) p) (tree_once t v bytes h k) o) r)
 
-plans_one : (files : FileNames) (before : Trees) → FindsOne (Plans files before)
-plans_one files before _ _ (planned {after} h) (planned {after = next} k) =
-    let e = settles_one before.archive before.left before.right after.archive next.archive after.left next.left after.right next.right h.settles k.settles in
-    λ i. Ok (record { files = files; before = before; after = record { archive = e.0 i; left = e.1 i; right = e.2 i } })
-
 loads_all_one : (c : Contents) (files : FileNames) → FindsOne (LoadsAll c files)
 unfolding LoadsAll
 loads_all_one c files =
@@ -206,6 +202,31 @@ reads_all_one : (bytes : Bytes) → FindsOne (ReadsAll bytes)
 unfolding ReadsAll
 reads_all_one bytes =
     then_one _ _ (schema_one bytes.schema) (λ s. then_one _ _ (archive_one bytes.archive) (λ o. then_one _ _ (replica_one s Left bytes.left) (λ a. then_one _ _ (replica_one s Right bytes.right) (λ b. equals_one _))))
+
+some_tree : (t u : Tree) → ◌≡◌ {A = Option Tree} (Some t) (Some u) → t ≡ u
+some_tree t u e = cc
+
+becomes_one : (before : Trees) (one other : Synced) → Becomes before one → Becomes before other → one ≡ other
+becomes_one before one other h k =
+    let e = outcome_once before.schema before.schema.root (given before.archive before.left before.right) (given one.archive one.left one.right) (given other.archive other.left other.right) h k in
+    λ i. record { archive = (e i).archive; left = some_tree one.left other.left (ap (λ (t : Trio). t.left) e) i; right = some_tree one.right other.right (ap (λ (t : Trio). t.right) e) i }
+
+reconciles_one : (before : Trees) → FindsOne (Reconciles before)
+reconciles_one before _ _ (reconciled {after} h) (reconciled {after = next} k) = ap (λ (z : Synced). Ok z) (becomes_one before after next h k)
+
+measures_one : (at : Slot) (text : List ℕ) → FindsOne (Measures at text)
+measures_one at text _ _ (within h) (within k) = refl
+measures_one at text _ _ (within h) (overgrown k) = absurd (omega (arith, h, k))
+measures_one at text _ _ (overgrown h) (within k) = absurd (omega (arith, h, k))
+measures_one at text _ _ (overgrown h) (overgrown k) = refl
+
+measures_all_one : (new : Texts) → FindsOne (MeasuresAll new)
+unfolding MeasuresAll
+measures_all_one new = then_one _ _ (measures_one Left new.left) (λ a. then_one _ _ (measures_one Right new.right) (λ b. measures_one ArchiveSlot new.archive))
+
+plans_one : (files : FileNames) (before : Trees) → FindsOne (Plans files before)
+unfolding Plans
+plans_one files before = then_one _ _ (reconciles_one before) (λ after. then_one _ _ (measures_all_one (texts_of after)) (λ sizes. equals_one _))
 
 -- there is one verdict at the most
 pub verdict_one : (c : Contents) (words : List Name) → FindsOne (Verdict c words)

@@ -10,6 +10,7 @@ use Rattle.hm_tree_text.specs.declared.fault.TextFault.{TextFault}
 use Rattle.hm_tree_text.specs.declared.fault.TextFault.TheVariants.{BadTree, TooDeep}
 use Rattle.hm_schema.specs.Values.{SchemaValue}
 use Rattle.hm_schema.specs.Membership.{IsMember, IsFirstOutside, HasNoTwins}
+use Rattle.hm_outcome.specs.Trios.{given, views, AreMembers}
 use Rattle.hm_schema_text.specs.SchemaFiles.{FaultsAt}
 use Rattle.hm_schema_text.proofs.Laws.{schema_no_twins}
 use Rattle.hm_schema_text.specs.declared.fault.SchemaFault.{SchemaFault}
@@ -21,7 +22,6 @@ use Rattle.hm_command.specs.declared.ending.ArchiveFault.TheVariants as archive_
 use Rattle.hm_command.specs.declared.ending.ReplicaFault.TheVariants as replica_fault
 use Rattle.hm_command.specs.declared.ending.Refusal.TheVariants.{BadSchema, BadArchive, BadReplica}
 use Rattle.hm_run.specs.Verdict.{Bytes, Trees, ReadsSchema, schema_of, bad_line, ReadsArchive, bad_archive, deep_archive, ReadsReplica, replica_of, no_utf8, bad_item, too_deep, outside, ReadsAll}
-use Rattle.hm_run.specs.Making.{AreMembers}
 use Rattle.hm_run.specs.Steps.{stops, goes_on}
 
 pub schema_bad : (bytes : List ℕ) (f : SchemaFault) (line n : ℕ) → f ≡ BadLine line → n ≡ line → FaultsAt bytes f → ReadsSchema bytes (Err (BadSchema n))
@@ -76,16 +76,22 @@ member_by s slot bytes t _ e (outside w h o) = absurd (let f : ⊥ = cc in f)
 trees_is : (t u : Trees) → ◌≡◌ {A = Result Trees Refusal} (Ok t) (Ok u) → t ≡ u
 trees_is t u e = cc
 
-members_by : (bytes : Bytes) (t : Trees) (r : Result Trees Refusal) → r ≡ Ok t → ReadsAll bytes r → AreMembers t
-unfolding ReadsAll
-members_by bytes t _ e (stops h) = absurd (let f : ⊥ = cc in f)
-members_by bytes t _ e (goes_on h (stops k)) = absurd (let f : ⊥ = cc in f)
-members_by bytes t _ e (goes_on h (goes_on k (stops l))) = absurd (let f : ⊥ = cc in f)
-members_by bytes t _ e (goes_on h (goes_on k (goes_on l (stops m)))) = absurd (let f : ⊥ = cc in f)
-members_by bytes t r e (goes_on {x = s} h (goes_on {x = o} k (goes_on {x = a} l (goes_on {x = b} m is)))) =
-    subst AreMembers (trees_is (record { schema = s; archive = o; left = a; right = b }) t (sym is ∙ e))
-    (record { left = member_by s Left bytes.left a (Ok a) refl l; right = member_by s Right bytes.right b (Ok b) refl m })
+-- the schema that was read has no twins, and both replicas are members
+abbrev IsOfSchema : Trees → Type 0
+IsOfSchema t = HasNoTwins t.schema × AreMembers t.schema t.schema.root (views (given t.archive t.left t.right))
 
--- both replicas that were read are members
-pub members : (bytes : Bytes) (t : Trees) → ReadsAll bytes (Ok t) → AreMembers t
-members bytes t h = members_by bytes t (Ok t) refl h
+of_schema : (bytes : Bytes) (t : Trees) (r : Result Trees Refusal) → r ≡ Ok t → ReadsAll bytes r → IsOfSchema t
+unfolding ReadsAll
+of_schema bytes t _ e (stops h) = absurd (let f : ⊥ = cc in f)
+of_schema bytes t _ e (goes_on h (stops k)) = absurd (let f : ⊥ = cc in f)
+of_schema bytes t _ e (goes_on h (goes_on k (stops l))) = absurd (let f : ⊥ = cc in f)
+of_schema bytes t _ e (goes_on h (goes_on k (goes_on l (stops m)))) = absurd (let f : ⊥ = cc in f)
+of_schema bytes t r e (goes_on {x = s} h (goes_on {x = o} k (goes_on {x = a} l (goes_on {x = b} m is)))) =
+    subst IsOfSchema (trees_is (record { schema = s; archive = o; left = a; right = b }) t (sym is ∙ e))
+    (twins_by bytes.schema s (Ok s) refl h, record { left = member_by s Left bytes.left a (Ok a) refl l; right = member_by s Right bytes.right b (Ok b) refl m })
+
+pub schema_twins : (bytes : Bytes) (t : Trees) → ReadsAll bytes (Ok t) → HasNoTwins t.schema
+schema_twins bytes t h = (of_schema bytes t (Ok t) refl h).0
+
+pub members : (bytes : Bytes) (t : Trees) → ReadsAll bytes (Ok t) → AreMembers t.schema t.schema.root (views (given t.archive t.left t.right))
+members bytes t h = (of_schema bytes t (Ok t) refl h).1

@@ -1,51 +1,58 @@
 -- What a user relies on, from how a run ended.
-use Rattle.std.proofs.Common.{◌≡◌, Bool, true, false, cond, ◌⊎◌, inl, inr, ℕ, List, Option, Some, Result, Ok, Err, refl, sym, ◌∙◌, ap, subst, arith}
+use Rattle.std.proofs.Common.{◌≡◌, ◌⊎◌, inl, inr, ℕ, zero, suc, List, Option, Some, Result, Ok, Err, refl, sym, ◌∙◌, ap, subst, arith}
 use Rattle.hm_tree.specs.Names.{Name}
 use Rattle.hm_outside.specs.Contents.{Contents}
 use Rattle.hm_outside.proofs.Risen.{not_risen}
 use Rattle.hm_command.specs.declared.ending.Refusal.{Refusal}
-use Rattle.hm_command.specs.declared.ending.Refusal.TheVariants.{Usage, SameName, Missing, TooLarge, BadSchema, BadArchive, BadReplica}
+use Rattle.hm_command.specs.declared.ending.Refusal.TheVariants.{Usage, SameName, Missing, TooLarge, BadSchema, BadArchive, BadReplica, Overgrown}
 use Rattle.hm_command.specs.declared.ending.Stop.TheVariants.{Refused, ReadFault, WriteFault, Memory}
 use Rattle.hm_command.specs.declared.ending.Ending.{Ending}
 use Rattle.hm_command.specs.declared.ending.Ending.TheVariants.{Stopped, PutFault, Done}
 use Rattle.hm_command.specs.Words.{FileNames}
-use Rattle.hm_command.specs.Lines.{status_of, refusal_status}
+use Rattle.hm_command.specs.Lines.{status_of, refusal_status, conflicts_status}
+use Rattle.hm_outcome.proofs.Best.{outcome_maximal, outcome_only}
 use Rattle.hm_run.specs.Steps.{stops, goes_on}
-use Rattle.hm_run.specs.Verdict.{Trees, Becomes, Plan, Plans, planned, Verdict, stop_state, in_conflict}
+use Rattle.hm_run.specs.Verdict.{Trees, Becomes, reconciled, Plan, Plans, Verdict, stop_state}
 use Rattle.hm_run.specs.Causes.{IsDone}
 use Rattle.hm_run.specs.Seen.{WhereTold}
-use Rattle.hm_run.specs.Endings.{Outside, HasCause, Leaves, EndsAs, IsSynchronised, IsComplete}
+use Rattle.hm_run.specs.Endings.{Outside, HasCause, Leaves, EndsAs, TellsConflicts, old_trio, new_trio, IsSynchronised, IsComplete}
 use Rattle.hm_run.proofs.Only.{verdict_one}
 
--- ---- what a plan comes to is safe
+-- ---- what a plan comes to is the outcome
 
-abbrev IsPlanSafe : Plan → Type 0
-IsPlanSafe plan = Becomes plan.before plan.after
+abbrev HasOutcome : Plan → Type 0
+HasOutcome plan = Becomes plan.before plan.after
 
 plan_is : (p q : Plan) → ◌≡◌ {A = Result Plan Refusal} (Ok p) (Ok q) → p ≡ q
 plan_is p q e = cc
 
-planned_safe : (files : FileNames) (before : Trees) (plan : Plan) (r : Result Plan Refusal) → r ≡ Ok plan → Plans files before r → IsPlanSafe plan
-planned_safe files before plan _ e (planned {after} h) = subst IsPlanSafe (plan_is _ plan e) h
+planned_outcome : (files : FileNames) (before : Trees) (plan : Plan) (r : Result Plan Refusal) → r ≡ Ok plan → Plans files before r → HasOutcome plan
+unfolding Plans
+planned_outcome files before plan _ e (stops h) = elim h [ ]
+planned_outcome files before plan _ e (goes_on h (stops k)) = absurd (let no : ⊥ = cc in no)
+planned_outcome files before plan r e (goes_on {x = after} (reconciled h) (goes_on k is)) = subst HasOutcome (plan_is (record { files = files; before = before; after = after }) plan (sym is ∙ e)) h
 
-plan_safe : (c : Contents) (words : List Name) (plan : Plan) (r : Result Plan Refusal) → r ≡ Ok plan → Verdict c words r → IsPlanSafe plan
+plan_outcome : (c : Contents) (words : List Name) (plan : Plan) (r : Result Plan Refusal) → r ≡ Ok plan → Verdict c words r → HasOutcome plan
 unfolding Verdict
-plan_safe c words plan _ e (stops h) = absurd (let no : ⊥ = cc in no)
-plan_safe c words plan _ e (goes_on h (stops k)) = absurd (let no : ⊥ = cc in no)
-plan_safe c words plan _ e (goes_on h (goes_on k (stops l))) = absurd (let no : ⊥ = cc in no)
-plan_safe c words plan r e (goes_on {x = files} h (goes_on k (goes_on {x = before} l m))) = planned_safe files before plan r e m
+plan_outcome c words plan _ e (stops h) = absurd (let no : ⊥ = cc in no)
+plan_outcome c words plan _ e (goes_on h (stops k)) = absurd (let no : ⊥ = cc in no)
+plan_outcome c words plan _ e (goes_on h (goes_on k (stops l))) = absurd (let no : ⊥ = cc in no)
+plan_outcome c words plan r e (goes_on {x = files} h (goes_on k (goes_on {x = before} l m))) = planned_outcome files before plan r e m
 
 -- ---- after 0 and 1
 
-done_synchronised : (words : List Name) (c : Contents) (conflict : Bool) (left : Option Contents) → IsDone words c conflict left → IsSynchronised words c (cond conflict 1 0) left
-done_synchronised words c conflict left h = let becomes = plan_safe c words h.state.plan (Ok h.state.plan) refl h.state.planned in record {
+done_synchronised : (words : List Name) (c : Contents) (conflicts : ℕ) (left : Option Contents) → IsDone words c conflicts left → IsSynchronised words c (conflicts_status conflicts) left
+done_synchronised words c conflicts left h = let outcome = plan_outcome c words h.state.plan (Ok h.state.plan) refl h.state.planned in record {
   plan = h.state.plan;
   planned = h.state.planned;
   new = h.state.is;
-  safe = becomes.safe;
-  member_left = becomes.member_left;
-  member_right = becomes.member_right;
-  tells = ap (λ b. cond b 1 0) (sym h.tells);
+  safe = outcome.safe.safe;
+  member_left = outcome.safe.members.left;
+  member_right = outcome.safe.members.right;
+  outcome = outcome;
+  best = outcome_maximal h.state.plan.before.schema h.state.plan.before.schema.root (old_trio h.state.plan) (new_trio h.state.plan) outcome;
+  only = outcome_only h.state.plan.before.schema h.state.plan.before.schema.root (old_trio h.state.plan) (new_trio h.state.plan) outcome;
+  tells = (conflicts, h.tells, refl);
 }
 
 refusal_is_high : (refusal : Refusal) (n : ℕ) → n ≡ refusal_status refusal → (n ≡ 0) ⊎ (n ≡ 1) → ⊥
@@ -56,14 +63,15 @@ refusal_is_high (TooLarge slot) n e h = omega arith
 refusal_is_high (BadSchema line) n e h = omega arith
 refusal_is_high (BadArchive fault) n e h = omega arith
 refusal_is_high (BadReplica slot fault) n e h = omega arith
+refusal_is_high (Overgrown slot size) n e h = omega arith
 
 synchronised_by : (ending : Ending) (words : List Name) (c : Contents) (left : Option Contents) → (status_of ending ≡ 0) ⊎ (status_of ending ≡ 1) → Leaves ending words c left → IsSynchronised words c (status_of ending) left
 synchronised_by (Stopped (Refused refusal)) words c left status h = absurd (refusal_is_high refusal _ refl status)
 synchronised_by (Stopped (ReadFault slot)) words c left status h = absurd (omega arith)
 synchronised_by (Stopped (WriteFault slot)) words c left status h = absurd (omega arith)
 synchronised_by (Stopped Memory) words c left status h = absurd (omega arith)
-synchronised_by (PutFault conflict) words c left status h = absurd (omega arith)
-synchronised_by (Done conflict) words c left status h = done_synchronised words c conflict left h
+synchronised_by (PutFault conflicts) words c left status h = absurd (omega arith)
+synchronised_by (Done conflicts) words c left status h = done_synchronised words c conflicts left h
 
 pub synchronised : (ending : Ending) (words : List Name) (before after : Outside) (status : ℕ) → status ≡ status_of ending → EndsAs ending words before after → (status ≡ 0) ⊎ (status ≡ 1) → WhereTold before.contents (λ c. IsSynchronised words c status after.contents)
 synchronised ending words before after status is h at = λ c told.
@@ -78,9 +86,9 @@ refused_by (Stopped (Refused refusal)) words c left status h = h.same
 refused_by (Stopped (ReadFault slot)) words c left status h = h
 refused_by (Stopped (WriteFault slot)) words c left status h = absurd (omega arith)
 refused_by (Stopped Memory) words c left status h = absurd (omega arith)
-refused_by (PutFault conflict) words c left status h = absurd (omega arith)
-refused_by (Done true) words c left status h = absurd (omega arith)
-refused_by (Done false) words c left status h = absurd (omega arith)
+refused_by (PutFault conflicts) words c left status h = absurd (omega arith)
+refused_by (Done zero) words c left status h = absurd (omega arith)
+refused_by (Done (suc n)) words c left status h = absurd (omega arith)
 
 pub refused : (ending : Ending) (words : List Name) (before after : Outside) (status : ℕ) → status ≡ status_of ending → EndsAs ending words before after → (status ≡ 2) ⊎ (status ≡ 3) → WhereTold before.contents (λ c. after.contents ≡ Some c)
 refused ending words before after status is h at = λ c told.
@@ -110,12 +118,12 @@ module _ (words : List Name) (c : Contents) where
   complete_by (Stopped (ReadFault slot)) before after cause leaves f s = absurd (not_risen f cause.risen)
   complete_by (Stopped (WriteFault slot)) before after cause leaves f s = absurd (not_risen f cause.risen)
   complete_by (Stopped Memory) before after cause leaves f s = record { carried_out = λ plan k. inl refl; refused = λ other k. inl refl }
-  complete_by (PutFault conflict) before after cause leaves f s = absurd (omega (arith, cause.1, s))
-  complete_by (Done conflict) before after cause leaves f s = record {
+  complete_by (PutFault conflicts) before after cause leaves f s = absurd (omega (arith, cause.1, s))
+  complete_by (Done conflicts) before after cause leaves f s = record {
     carried_out = λ plan k.
         let same : leaves.state.plan ≡ plan = same_plan leaves.state.plan plan leaves.state.planned k in
         inr (
-          ap (λ b. cond b 1 0) (sym leaves.tells ∙ ap (λ (p : Plan). in_conflict p.after.archive) same),
+          subst (λ (p : Plan). TellsConflicts p (conflicts_status conflicts)) same (conflicts, leaves.tells, refl),
           leaves.state.is ∙ ap (λ (p : Plan). Some (stop_state c p 3)) same,
         );
     refused = λ other k. absurd (not_both leaves.state.plan other leaves.state.planned k);

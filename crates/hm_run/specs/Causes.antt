@@ -1,5 +1,5 @@
 -- What a run does before it puts its output: why it stopped, and what it left.
-use Rattle.std.specs.Prelude.{◌≡◌, ◌⊎◌, ℕ, ◌+◌, Bool, List, Option, Some, Result, Ok, Err}
+use Rattle.std.specs.Prelude.{◌≡◌, ◌⊎◌, ℕ, ◌+◌, List, Option, Some, Result, Ok, Err}
 use Rattle.hm_tree.specs.Names.{Name}
 use Rattle.hm_outside.specs.Contents.{Contents}
 use Rattle.hm_outside.specs.Failures.{HasRisen}
@@ -8,11 +8,11 @@ use Rattle.hm_outside.specs.declared.outside.Kind.{Kind}
 use Rattle.hm_outside.specs.declared.outside.Kind.TheVariants.{Load, Replace}
 use Rattle.hm_command.specs.declared.ending.Slot.{Slot}
 use Rattle.hm_command.specs.declared.ending.Refusal.{Refusal}
-use Rattle.hm_command.specs.declared.ending.Refusal.TheVariants.{Usage, SameName, Missing, TooLarge, BadSchema, BadArchive, BadReplica}
+use Rattle.hm_command.specs.declared.ending.Refusal.TheVariants.{Usage, SameName, Missing, TooLarge, BadSchema, BadArchive, BadReplica, Overgrown}
 use Rattle.hm_command.specs.declared.ending.Stop.{Stop}
 use Rattle.hm_command.specs.declared.ending.Stop.TheVariants.{Refused, ReadFault, WriteFault, Memory}
 use Rattle.hm_command.specs.Words.{FileNames, name_of, meaning}
-use Rattle.hm_run.specs.Verdict.{Plan, Verdict, stop_state, in_conflict}
+use Rattle.hm_run.specs.Verdict.{Plan, Verdict, stop_state, HasConflicts}
 use Rattle.hm_run.specs.Writing.{place_of}
 
 -- the words mean something
@@ -35,6 +35,7 @@ IsMeant words (TooLarge slot) = HasMeaning words
 IsMeant words (BadSchema line) = HasMeaning words
 IsMeant words (BadArchive fault) = HasMeaning words
 IsMeant words (BadReplica slot fault) = HasMeaning words
+IsMeant words (Overgrown slot size) = HasMeaning words
 
 -- what is known of a stop and of an end, whatever the store tells
 abbrev pub HasStopCause : {A : Type 0} → List Name → List Failure → List Failure → Result A Stop → Type 0
@@ -50,18 +51,18 @@ pub record IsStopState (words : List Name) (c : Contents) (left : Option Content
   pub planned : Verdict c words (Ok plan)
   pub is : left ≡ Some (stop_state c plan n)
 
--- the whole plan is carried out, and this tells whether a conflict remains
-pub record IsDone (words : List Name) (c : Contents) (conflict : Bool) (left : Option Contents) : Type 0 where
+-- the whole plan is carried out, and so many conflicts remain
+pub record IsDone (words : List Name) (c : Contents) (conflicts : ℕ) (left : Option Contents) : Type 0 where
   pub state : IsStopState words c left 3
-  pub tells : in_conflict state.plan.after.archive ≡ conflict
+  pub tells : HasConflicts state.plan.after.archive conflicts
 
 -- the refusal is the first one that holds, and nothing has changed
 pub record IsRefused (words : List Name) (c : Contents) (refusal : Refusal) (left : Option Contents) : Type 0 where
   pub first : Verdict c words (Err refusal)
   pub same : left ≡ Some c
 
-abbrev pub Synchronises : List Name → Contents → Result Bool Stop → Option Contents → Type 0
-Synchronises words c (Ok conflict) left = IsDone words c conflict left
+abbrev pub Synchronises : List Name → Contents → Result ℕ Stop → Option Contents → Type 0
+Synchronises words c (Ok conflicts) left = IsDone words c conflicts left
 Synchronises words c (Err (Refused refusal)) left = IsRefused words c refusal left
 Synchronises words c (Err (ReadFault slot)) left = left ≡ Some c
 Synchronises words c (Err (WriteFault slot)) left = IsStopState words c left (place_of slot) ⊎ IsStopState words c left (place_of slot + 1)

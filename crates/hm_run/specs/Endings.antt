@@ -1,5 +1,5 @@
 -- How a run ends: the cause, what it leaves in the store, and what it puts out.
-use Rattle.std.specs.Prelude.{◌≡◌, ◌⊎◌, ℕ, ◌<◌, ◌≤◌, Bool, cond, List, ◌++◌, take, Option, Some, Result, Ok, Err}
+use Rattle.std.specs.Prelude.{◌≡◌, ◌⊎◌, ℕ, ◌<◌, ◌≤◌, List, ◌++◌, take, Option, Some, Result, Ok, Err}
 use Rattle.hm_tree.specs.Names.{Name}
 use Rattle.hm_outside.specs.Contents.{Contents}
 use Rattle.hm_outside.specs.Failures.{Extends}
@@ -7,16 +7,17 @@ use Rattle.hm_outside.specs.declared.outside.Failure.{Failure}
 use Rattle.hm_tree.specs.States.{state}
 use Rattle.hm_schema.specs.Membership.{IsMember}
 use Rattle.hm_safety.specs.Safety.{IsSafe}
-use Rattle.hm_reconcile.specs.Settling.{views}
+use Rattle.hm_outcome.specs.Trios.{Trio, given, views}
+use Rattle.hm_outcome.specs.Outcomes.{IsOutcome, IsMaximal, IsOnlyOne}
 use Rattle.hm_command.specs.declared.ending.Refusal.{Refusal}
 use Rattle.hm_command.specs.declared.ending.Stop.{Stop}
 use Rattle.hm_command.specs.declared.ending.Stop.TheVariants.{Refused, ReadFault, WriteFault, Memory}
 use Rattle.hm_command.specs.declared.ending.Ending.{Ending}
 use Rattle.hm_command.specs.declared.ending.Ending.TheVariants.{Stopped, PutFault, Done}
-use Rattle.hm_command.specs.Lines.{output_of, refusal_status}
+use Rattle.hm_command.specs.Lines.{output_of, refusal_status, conflicts_status}
 use Rattle.hm_run.specs.Causes.{HasMeaning, HasStopCause, Synchronises, IsDone}
 use Rattle.hm_run.specs.Seen.{WhereTold}
-use Rattle.hm_run.specs.Verdict.{Plan, Verdict, stop_state, in_conflict}
+use Rattle.hm_run.specs.Verdict.{Plan, Verdict, stop_state, HasConflicts}
 
 -- what is known of the store and the sink at one moment
 pub record Outside : Type 0 where
@@ -27,15 +28,15 @@ pub record Outside : Type 0 where
 
 -- why a run ended so, whatever is told
 abbrev pub HasCause : Ending → List Name → Outside → Outside → Type 0
-HasCause (Stopped stop) words before after = HasStopCause {A = Bool} words before.failed after.failed (Err stop)
-HasCause (PutFault conflict) words before after = HasMeaning words × (before.faults < after.faults)
-HasCause (Done conflict) words before after = HasMeaning words
+HasCause (Stopped stop) words before after = HasStopCause {A = ℕ} words before.failed after.failed (Err stop)
+HasCause (PutFault conflicts) words before after = HasMeaning words × (before.faults < after.faults)
+HasCause (Done conflicts) words before after = HasMeaning words
 
 -- the contents that it leaves
 abbrev pub Leaves : Ending → List Name → Contents → Option Contents → Type 0
 Leaves (Stopped stop) words c left = Synchronises words c (Err stop) left
-Leaves (PutFault conflict) words c left = IsDone words c conflict left
-Leaves (Done conflict) words c left = IsDone words c conflict left
+Leaves (PutFault conflicts) words c left = IsDone words c conflicts left
+Leaves (Done conflicts) words c left = IsDone words c conflicts left
 
 -- a first part of the text was put behind these bytes
 abbrev pub PutsPart : List ℕ → List ℕ → Option (List ℕ) → Type 0
@@ -51,8 +52,8 @@ Puts (Stopped (Refused refusal)) w before after out = PutsLine (output_of (Stopp
 Puts (Stopped (ReadFault slot)) w before after out = PutsLine (output_of (Stopped (ReadFault slot))) w before after out
 Puts (Stopped (WriteFault slot)) w before after out = PutsLine (output_of (Stopped (WriteFault slot))) w before after out
 Puts (Stopped Memory) w before after out = out ≡ Some w
-Puts (PutFault conflict) w before after out = PutsPart (output_of (PutFault conflict)) w out
-Puts (Done conflict) w before after out = out ≡ Some (w ++ output_of (Done conflict))
+Puts (PutFault conflicts) w before after out = PutsPart (output_of (PutFault conflicts)) w out
+Puts (Done conflicts) w before after out = out ≡ Some (w ++ output_of (Done conflicts))
 
 -- a run of these words ends so
 pub record EndsAs (ending : Ending) (words : List Name) (before after : Outside) : Type 0 where
@@ -64,14 +65,14 @@ pub record EndsAs (ending : Ending) (words : List Name) (before after : Outside)
 
 -- ---- how the output makes the end
 
-abbrev pub ending_of : Result Bool Stop → Ending
-ending_of (Ok conflict) = Done conflict
+abbrev pub ending_of : Result ℕ Stop → Ending
+ending_of (Ok conflicts) = Done conflicts
 ending_of (Err stop) = Stopped stop
 
 -- what a fault of the sink makes of an end: a refusal stays one
 abbrev pub after_fault : Ending → Ending
-after_fault (Done conflict) = PutFault conflict
-after_fault (PutFault conflict) = PutFault conflict
+after_fault (Done conflicts) = PutFault conflicts
+after_fault (PutFault conflicts) = PutFault conflicts
 after_fault (Stopped stop) = Stopped stop
 
 pub data Finishes (given : Ending) (before after : ℕ) (ending : Ending) : Type 0 where
@@ -81,20 +82,32 @@ pub data Finishes (given : Ending) (before after : ℕ) (ending : Ending) : Type
 
 -- ---- what a user relies on
 
-abbrev pub conflict_status : Plan → ℕ
-conflict_status plan = cond (in_conflict plan.after.archive) 1 0
+-- the status tells whether the new archive has a mark
+abbrev pub TellsConflicts : Plan → ℕ → Type 0
+TellsConflicts plan status = (n : ℕ) × HasConflicts plan.after.archive n × (status ≡ conflicts_status n)
 
--- the store has the three new texts; what they hold is a safe result of what was read, and both replicas are members
+-- what was read, and what it became
+abbrev pub old_trio : Plan → Trio
+old_trio plan = given plan.before.archive plan.before.left plan.before.right
+
+abbrev pub new_trio : Plan → Trio
+new_trio plan = given plan.after.archive plan.after.left plan.after.right
+
+-- the store has the three new texts; what they hold is a safe result of what was read, both replicas are members, they
+-- agree wherever those of any safe result do, and no other safe result agrees wherever they do
 pub record IsSynchronised (words : List Name) (c : Contents) (status : ℕ) (left : Option Contents) : Type 0 where
   pub plan : Plan
   pub planned : Verdict c words (Ok plan)
   pub new : left ≡ Some (stop_state c plan 3)
-  pub safe : IsSafe (views plan.before.archive plan.before.left plan.before.right) (views plan.after.archive plan.after.left plan.after.right)
+  pub safe : IsSafe (views (old_trio plan)) (views (new_trio plan))
   pub member_left : IsMember plan.before.schema plan.before.schema.root (state (Some plan.after.left))
   pub member_right : IsMember plan.before.schema plan.before.schema.root (state (Some plan.after.right))
-  pub tells : status ≡ conflict_status plan
+  pub outcome : IsOutcome plan.before.schema plan.before.schema.root (old_trio plan) (new_trio plan)
+  pub best : IsMaximal plan.before.schema plan.before.schema.root (old_trio plan) (new_trio plan)
+  pub only : IsOnlyOne plan.before.schema plan.before.schema.root (old_trio plan) (new_trio plan)
+  pub tells : TellsConflicts plan status
 
 -- where there is a plan and nothing outside fails, it is carried out, unless memory runs out
 pub record IsComplete (words : List Name) (c : Contents) (status : ℕ) (left : Option Contents) : Type 0 where
-  pub carried_out : (plan : Plan) → Verdict c words (Ok plan) → (status ≡ 5) ⊎ ((status ≡ conflict_status plan) × (left ≡ Some (stop_state c plan 3)))
+  pub carried_out : (plan : Plan) → Verdict c words (Ok plan) → (status ≡ 5) ⊎ (TellsConflicts plan status × (left ≡ Some (stop_state c plan 3)))
   pub refused : (refusal : Refusal) → Verdict c words (Err refusal) → (status ≡ 5) ⊎ ((status ≡ refusal_status refusal) × (left ≡ Some c))

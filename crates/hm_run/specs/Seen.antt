@@ -3,7 +3,7 @@ use Rattle.std.specs.Prelude.{◌≡◌, ℕ, List, Option, Some, Vec, Result, O
 use Rattle.std.specs.declared.alloc.Global.{Global}
 use Rattle.hm_command.specs.declared.ending.Slot.{Slot}
 use Rattle.hm_command.specs.declared.ending.Refusal.{Refusal}
-use Rattle.hm_command.specs.declared.ending.Refusal.TheVariants.{Usage, SameName, Missing, TooLarge, BadSchema, BadArchive, BadReplica}
+use Rattle.hm_command.specs.declared.ending.Refusal.TheVariants.{Usage, SameName, Missing, TooLarge, BadSchema, BadArchive, BadReplica, Overgrown}
 use Rattle.hm_command.specs.declared.ending.Stop.{Stop}
 use Rattle.hm_command.specs.declared.ending.Stop.TheVariants.{Refused, ReadFault, WriteFault, Memory}
 use Rattle.hm_run.specs.declared.load.Loads.{Loads}
@@ -38,7 +38,7 @@ Follows seen (Err (ReadFault slot)) step = Unit {0}
 Follows seen (Err (WriteFault slot)) step = Unit {0}
 Follows seen (Err Memory) step = Unit {0}
 
--- a refusal that comes of what the files hold, and not of the words
+-- a refusal that comes of what the files hold, and not of the words or of the new files
 abbrev pub IsOfFiles : Refusal → Type 0
 IsOfFiles Usage = ⊥
 IsOfFiles (SameName one two) = ⊥
@@ -47,6 +47,7 @@ IsOfFiles (TooLarge slot) = Unit {0}
 IsOfFiles (BadSchema line) = Unit {0}
 IsOfFiles (BadArchive fault) = Unit {0}
 IsOfFiles (BadReplica slot fault) = Unit {0}
+IsOfFiles (Overgrown slot size) = ⊥
 
 -- a read fault comes only with this cause, and a write fault never
 abbrev pub StopsReading : {A : Type 0} → (Slot → Type 0) → Result A Stop → Type 0

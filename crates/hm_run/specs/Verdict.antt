@@ -1,12 +1,10 @@
 -- What a run over these contents is to do: the first refusal in the order of the checks, or a plan.
-use Rattle.std.specs.Prelude.{◌≡◌, ℕ, zero, suc, ◌<◌, ◌≤◌, Bool, true, false, List, [], length, Option, Some, None, Result, Ok, Err, IsUtf8}
+use Rattle.std.specs.Prelude.{◌≡◌, ℕ, zero, suc, ◌<◌, ◌≤◌, List, [], length, Option, Some, None, Result, Ok, Err, IsUtf8}
 use Rattle.std.specs.Str.Lossy.{utf8_valid_len}
 use Rattle.hm_tree.specs.Names.{Name}
 use Rattle.hm_tree.specs.Nodes.{Tree}
 use Rattle.hm_tree.specs.Archives.{Archive}
 use Rattle.hm_tree.specs.States.{Path, state}
-use Rattle.hm_tree.specs.declared.archive.State.{State}
-use Rattle.hm_tree.specs.declared.archive.State.TheVariants as state_of
 use Rattle.hm_tree_text.specs.Text.{tree_text, archive_text}
 use Rattle.hm_tree_text.specs.Files.{IsTreeText, IsArchiveText}
 use Rattle.hm_tree_text.specs.Faults.{TreeFaults, ArchiveFaults}
@@ -15,15 +13,16 @@ use Rattle.hm_schema.specs.Values.{SchemaValue}
 use Rattle.hm_schema.specs.Membership.{IsMember, IsFirstOutside}
 use Rattle.hm_schema_text.specs.SchemaFiles.{IsSchemaFile}
 use Rattle.hm_schema_text.specs.BadLines.{IsFirstBadLine}
-use Rattle.hm_safety.specs.Safety.{IsSafe}
-use Rattle.hm_reconcile.specs.Settling.{views, Settles}
+use Rattle.hm_outcome.specs.Trios.{given}
+use Rattle.hm_outcome.specs.Outcomes.{IsOutcome}
+use Rattle.hm_outcome.specs.TopmostMarks.{AreTopmostMarks}
 use Rattle.hm_outside.specs.Contents.{Contents, held, replaced}
 use Rattle.hm_command.specs.declared.ending.Slot.{Slot}
 use Rattle.hm_command.specs.declared.ending.Slot.TheVariants as slot
 use Rattle.hm_command.specs.declared.ending.ArchiveFault.TheVariants as archive_fault
 use Rattle.hm_command.specs.declared.ending.ReplicaFault.TheVariants as replica_fault
 use Rattle.hm_command.specs.declared.ending.Refusal.{Refusal}
-use Rattle.hm_command.specs.declared.ending.Refusal.TheVariants.{Missing, TooLarge, BadSchema, BadArchive, BadReplica}
+use Rattle.hm_command.specs.declared.ending.Refusal.TheVariants.{Missing, TooLarge, BadSchema, BadArchive, BadReplica, Overgrown}
 use Rattle.hm_command.specs.Words.{FileNames, meaning}
 use Rattle.hm_run.specs.Steps.{Then}
 
@@ -98,41 +97,20 @@ pub record Synced : Type 0 where
   pub left : Tree
   pub right : Tree
 
--- what was read becomes this: safe, and both replicas members of the schema
-pub record Becomes (before : Trees) (after : Synced) : Type 0 where
-  pub settles : Settles before.archive before.left before.right after.archive after.left after.right
-  pub safe : IsSafe (views before.archive before.left before.right) (views after.archive after.left after.right)
-  pub member_left : IsMember before.schema before.schema.root (state (Some after.left))
-  pub member_right : IsMember before.schema before.schema.root (state (Some after.right))
+-- what was read becomes this: the outcome under the schema at its root
+abbrev pub Becomes : Trees → Synced → Type 0
+Becomes before after = IsOutcome before.schema before.schema.root (given before.archive before.left before.right) (given after.archive after.left after.right)
 
--- the names of the files, what was read of them, and what they are to become
-pub record Plan : Type 0 where
-  pub files : FileNames
-  pub before : Trees
-  pub after : Synced
+pub data Reconciles (before : Trees) : Result Synced Refusal → Type 0 where
+  reconciled : {after : Synced} → Becomes before after → Reconciles before (Ok after)
 
-pub data Plans (files : FileNames) (before : Trees) : Result Plan Refusal → Type 0 where
-  planned : {after : Synced} → Becomes before after → Plans files before (Ok (record { files = files; before = before; after = after }))
+-- so many conflicts remain as the archive has topmost marks
+pub record HasConflicts (o : Archive) (number : ℕ) : Type 0 where
+  pub paths : List Path
+  pub marks : AreTopmostMarks (state o) paths
+  pub number_of : length paths ≡ number
 
--- ---- the verdict: words, loads, texts, and the plan
-
-unfoldable pub Verdict : Contents → List Name → Result Plan Refusal → Type 0
-Verdict c words =
-    Then (λ r. r ≡ meaning words) (λ files.
-    Then (LoadsAll c files) (λ bytes.
-    Then (ReadsAll bytes) (λ before.
-    Plans files before)))
-
--- a conflict remains where the archive is marked at its root
-abbrev pub is_marked_state : State → Bool
-is_marked_state state_of.Missing = false
-is_marked_state state_of.Present = false
-is_marked_state state_of.Marked = true
-
-abbrev pub in_conflict : Archive → Bool
-in_conflict o = is_marked_state (state o [])
-
--- ---- the contents that a plan comes to
+-- ---- measuring the new texts
 
 -- the texts of an archive and two replicas
 pub record Texts : Type 0 where
@@ -142,6 +120,41 @@ pub record Texts : Type 0 where
 
 abbrev pub texts_of : Synced → Texts
 texts_of t = record { archive = archive_text t.archive; left = tree_text t.left; right = tree_text t.right }
+
+-- a new text has at most as many bytes as a file may have, or it is refused
+pub data Measures (at : Slot) (text : List ℕ) : Result (Unit {0}) Refusal → Type 0 where
+  within : length text ≤ limit → Measures at text (Ok tt)
+  overgrown : limit < length text → Measures at text (Err (Overgrown at (length text)))
+
+unfoldable pub MeasuresAll : Texts → Result (Unit {0}) Refusal → Type 0
+MeasuresAll new =
+    Then (Measures slot.Left new.left) (λ a.
+    Then (Measures slot.Right new.right) (λ b.
+    Measures slot.Archive new.archive))
+
+-- ---- the verdict: words, loads, texts, and the plan
+
+-- the names of the files, what was read of them, and what they are to become
+pub record Plan : Type 0 where
+  pub files : FileNames
+  pub before : Trees
+  pub after : Synced
+
+-- the three new files are made before the first of them is measured
+unfoldable pub Plans : FileNames → Trees → Result Plan Refusal → Type 0
+Plans files before =
+    Then (Reconciles before) (λ after.
+    Then (MeasuresAll (texts_of after)) (λ sizes r.
+    r ≡ Ok (record { files = files; before = before; after = after })))
+
+unfoldable pub Verdict : Contents → List Name → Result Plan Refusal → Type 0
+Verdict c words =
+    Then (λ r. r ≡ meaning words) (λ files.
+    Then (LoadsAll c files) (λ bytes.
+    Then (ReadsAll bytes) (λ before.
+    Plans files before)))
+
+-- ---- the contents that a plan comes to
 
 -- the contents with the new bytes in the first n of left, right and archive
 abbrev pub written : Contents → FileNames → Texts → ℕ → Contents

@@ -3,6 +3,7 @@
 
 mod load;
 mod make;
+mod measure;
 mod read;
 mod sync;
 #[cfg(test)]

@@ -13,8 +13,8 @@ use hm_outside::{Loaded, Store};
 use hm_tree::Name;
 use std::alloc::Global;
 
-// The greatest number of bytes of a file.
-const LIMIT: usize = 16_777_216;
+/// The greatest number of bytes of a file.
+pub const LIMIT: usize = 16_777_216;
 
 /// The bytes of the four files; an archive that is absent has none.
 #[derive(Drop)]

@@ -9,6 +9,7 @@ ghost use Rattle.hm_run.specs.Endings.{EndsAs, Finishes, Puts, IsSynchronised, I
 
 use crate::load::load_all;
 use crate::make::make;
+use crate::measure::measure_all;
 use crate::read::read_all;
 use crate::write::write_all;
 use hm_command::{Ending, Stop, files_of, output_of, status_of};
@@ -16,8 +17,8 @@ use hm_outside::{Put, Sink, Store};
 use hm_tree::Name;
 use std::alloc::Global;
 
-// Reads, reconciles and writes, and says whether a conflict remains.
-fn synchronise<S: Store>(alloc: Global, words: &[Name], store: &mut S) -> Result<bool, Stop>
+// Reads, reconciles and writes, and says how many conflicts remain.
+fn synchronise<S: Store>(alloc: Global, words: &[Name], store: &mut S) -> Result<usize, Stop>
     ensures failed { Extends (S.failed store.old) (S.failed store.new) }
     ensures cause { HasStopCause words.now (S.failed store.old) (S.failed store.new) result }
     ensures told { WhereTold (S.contents store.old) (λ c. Synchronises words.now c result (S.contents store.new)) }
@@ -26,8 +27,9 @@ fn synchronise<S: Store>(alloc: Global, words: &[Name], store: &mut S) -> Result
     let loads = load_all(alloc, store, files)?;
     let inputs = read_all(alloc, &loads)?;
     let new = make(alloc, &inputs)?;
+    measure_all(&new)?;
     write_all(store, files, &new)?;
-    Ok(new.conflict)
+    Ok(new.conflicts)
 }
 
 // What a fault of the sink makes of an end.
@@ -35,7 +37,7 @@ fn after_fault(ending: Ending) -> Ending
     ensures { result ≡ after_fault ending }
 {
     match ending {
-        Ending::Done(conflict) | Ending::PutFault(conflict) => Ending::PutFault(conflict),
+        Ending::Done(conflicts) | Ending::PutFault(conflicts) => Ending::PutFault(conflicts),
         Ending::Stopped(stop) => Ending::Stopped(stop),
     }
 }
@@ -59,11 +61,11 @@ fn finish<K: Sink>(alloc: Global, ending: Ending, out: &mut K) -> Ending
     }
 }
 
-fn ending_of(synchronised: Result<bool, Stop>) -> Ending
+fn ending_of(synchronised: Result<usize, Stop>) -> Ending
     ensures { result ≡ ending_of synchronised }
 {
     match synchronised {
-        Ok(conflict) => Ending::Done(conflict),
+        Ok(conflicts) => Ending::Done(conflicts),
         Err(stop) => Ending::Stopped(stop),
     }
 }
@@ -75,7 +77,7 @@ pub fn run<S: Store, K: Sink>(alloc: Global, words: &[Name], store: &mut S, out:
         (record { contents = S.contents store.old; failed = S.failed store.old; written = K.written out.old; faults = K.faults out.old })
         (record { contents = S.contents store.new; failed = S.failed store.new; written = K.written out.new; faults = K.faults out.new }) }
 
-    // After 0 and 1 the three files have the new texts, and these hold a safe result of what was read.
+    // After 0 and 1 the three files have the new texts, and these hold the one best safe result of what was read.
     ensures synchronised { (result ≡ 0) ⊎ (result ≡ 1) → WhereTold (S.contents store.old) (λ c. IsSynchronised words.now c result (S.contents store.new)) }
 
     // Refused input changes no file.

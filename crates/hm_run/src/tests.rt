@@ -23,6 +23,10 @@ const EVERY: &str = "harmony schema 1\nroot R\nnode R\n  other any R\n  shape + 
 // Members have one name at the root, and nothing below it.
 const ONE: &str = "harmony schema 1\nroot R\nnode R\n  other any Empty\n  shape + 1..1\n";
 
+// Members have one of two names, or none.
+const EITHER: &str =
+    "harmony schema 1\nroot R\nnode R\n  edge y Empty\n  edge z Empty\n  shape ? y\n  shape ? z\n";
+
 // Members have at most two of three names.
 const TWO: &str =
     "harmony schema 1\nroot R\nnode R\n  edge x Empty\n  edge y Empty\n  edge z Empty\n  shape ? x y\n  shape ? x z\n  shape ? y z\n";
@@ -74,7 +78,146 @@ const AGREED: [Case; 6] = [
     },
 ];
 
+const BY_NAMES: [Case; 5] = [
+    Case {
+        before: [None, Some("{\"a\"}\n"), Some("{\"b\"}\n")],
+        after: [
+            Some("{\"a\",\"b\"}\n"),
+            Some("{\"a\",\"b\"}\n"),
+            Some("{\"a\",\"b\"}\n"),
+        ],
+        output: "agreed\n",
+        status: 0,
+    },
+    Case {
+        before: [Some("{\"a\"}\n"), Some("{}\n"), Some("{\"a\"}\n")],
+        after: [Some("{}\n"), Some("{}\n"), Some("{}\n")],
+        output: "agreed\n",
+        status: 0,
+    },
+    Case {
+        before: [Some("{\"A\"}\n"), Some("{\"B\"}\n"), Some("{\"C\"}\n")],
+        after: [
+            Some("{\"B\",\"C\"}\n"),
+            Some("{\"B\",\"C\"}\n"),
+            Some("{\"B\",\"C\"}\n"),
+        ],
+        output: "agreed\n",
+        status: 0,
+    },
+    Case {
+        before: [None, Some("{}\n"), Some("{\"C\"}\n")],
+        after: [Some("{\"C\"}\n"), Some("{\"C\"}\n"), Some("{\"C\"}\n")],
+        output: "agreed\n",
+        status: 0,
+    },
+    Case {
+        before: [
+            Some("{\"a\":!}\n"),
+            Some("{\"a\":{\"x\"},\"b\"}\n"),
+            Some("{\"a\",\"c\"}\n"),
+        ],
+        after: [
+            Some("{\"a\":!,\"b\",\"c\"}\n"),
+            Some("{\"a\":{\"x\"},\"b\",\"c\"}\n"),
+            Some("{\"a\",\"b\",\"c\"}\n"),
+        ],
+        output: "conflicts 1\n",
+        status: 1,
+    },
+];
+
 const IN_CONFLICT: [Case; 3] = [
+    Case {
+        before: [
+            Some("{\"a\",\"b\"}\n"),
+            Some("{\"a\":{\"1\"}}\n"),
+            Some("{\"b\":{\"2\"}}\n"),
+        ],
+        after: [
+            Some("{\"a\":!,\"b\":!}\n"),
+            Some("{\"a\":{\"1\"}}\n"),
+            Some("{\"b\":{\"2\"}}\n"),
+        ],
+        output: "conflicts 2\n",
+        status: 1,
+    },
+    Case {
+        before: [
+            Some("{\"a\":{\"1\"},\"b\"}\n"),
+            Some("{\"a\":{\"2\"},\"b\"}\n"),
+            Some("{\"b\"}\n"),
+        ],
+        after: [
+            Some("{\"a\":!,\"b\"}\n"),
+            Some("{\"a\":{\"2\"},\"b\"}\n"),
+            Some("{\"b\"}\n"),
+        ],
+        output: "conflicts 1\n",
+        status: 1,
+    },
+    Case {
+        before: [Some("!\n"), Some("{\"B\"}\n"), Some("{\"C\"}\n")],
+        after: [Some("!\n"), Some("{\"B\"}\n"), Some("{\"C\"}\n")],
+        output: "conflicts 1\n",
+        status: 1,
+    },
+];
+
+// One side deleted what the other changed, or what it left alone.
+const DELETED: [Case; 4] = [
+    Case {
+        before: [
+            Some("{\"Bob\":{\"tel\":{\"1\"}}}\n"),
+            Some("{}\n"),
+            Some("{\"Bob\":{\"mail\":{\"b\"},\"tel\":{\"1\"}}}\n"),
+        ],
+        after: [
+            Some("{\"Bob\":!}\n"),
+            Some("{}\n"),
+            Some("{\"Bob\":{\"mail\":{\"b\"},\"tel\":{\"1\"}}}\n"),
+        ],
+        output: "conflicts 1\n",
+        status: 1,
+    },
+    Case {
+        before: [
+            Some("{\"Bob\":{\"tel\":{\"1\"}}}\n"),
+            Some("{}\n"),
+            Some("{\"Bob\"}\n"),
+        ],
+        after: [Some("{}\n"), Some("{}\n"), Some("{}\n")],
+        output: "agreed\n",
+        status: 0,
+    },
+    Case {
+        before: [
+            Some("{\"d\":{\"a\":!,\"b\"}}\n"),
+            Some("{}\n"),
+            Some("{\"d\":{\"a\":{\"1\"},\"b\"}}\n"),
+        ],
+        after: [
+            Some("{\"d\":!}\n"),
+            Some("{}\n"),
+            Some("{\"d\":{\"a\":{\"1\"},\"b\"}}\n"),
+        ],
+        output: "conflicts 1\n",
+        status: 1,
+    },
+    Case {
+        before: [
+            Some("{\"d\":{\"a\":!,\"b\"}}\n"),
+            Some("{}\n"),
+            Some("{\"d\":{\"b\"}}\n"),
+        ],
+        after: [Some("{}\n"), Some("{}\n"), Some("{}\n")],
+        output: "agreed\n",
+        status: 0,
+    },
+];
+
+// A node with one name: both sides changed it, then nothing happened, then a person made them alike.
+const ONE_NAME: [Case; 3] = [
     Case {
         before: [Some("{\"A\"}\n"), Some("{\"B\"}\n"), Some("{\"C\"}\n")],
         after: [Some("!\n"), Some("{\"B\"}\n"), Some("{\"C\"}\n")],
@@ -88,12 +231,27 @@ const IN_CONFLICT: [Case; 3] = [
         status: 1,
     },
     Case {
-        before: [None, Some("{}\n"), Some("{\"C\"}\n")],
-        after: [Some("!\n"), Some("{}\n"), Some("{\"C\"}\n")],
-        output: "conflicts 1\n",
-        status: 1,
+        before: [Some("!\n"), Some("{\"B\"}\n"), Some("{\"B\"}\n")],
+        after: [Some("{\"B\"}\n"), Some("{\"B\"}\n"), Some("{\"B\"}\n")],
+        output: "agreed\n",
+        status: 0,
     },
 ];
+
+// Two of three names may stand together.
+const TWO_OF_THREE: [Case; 1] = [Case {
+    before: [Some("{}\n"), Some("{\"x\"}\n"), Some("{\"y\",\"z\"}\n")],
+    after: [Some("!\n"), Some("{\"x\"}\n"), Some("{\"y\",\"z\"}\n")],
+    output: "conflicts 1\n",
+    status: 1,
+}];
+
+const NOT_TOGETHER: [Case; 1] = [Case {
+    before: [Some("{}\n"), Some("{\"y\"}\n"), Some("{\"z\"}\n")],
+    after: [Some("!\n"), Some("{\"y\"}\n"), Some("{\"z\"}\n")],
+    output: "conflicts 1\n",
+    status: 1,
+}];
 
 const REFUSED: [Case; 8] = [
     Case {
@@ -262,8 +420,26 @@ fn replicas_agree(rt: HostRuntime) -> Result<(), Fail> {
 }
 
 #[test]
-fn a_conflict_stops_at_the_root(rt: HostRuntime) -> Result<(), Fail> {
+fn each_name_is_carried_by_itself(rt: HostRuntime) -> Result<(), Fail> {
+    expect_runs(&rt, rt.alloc(), EVERY, &BY_NAMES)
+}
+
+#[test]
+fn conflicts_stay_and_are_counted(rt: HostRuntime) -> Result<(), Fail> {
     expect_runs(&rt, rt.alloc(), EVERY, &IN_CONFLICT)
+}
+
+#[test]
+fn names_that_cannot_stand_together(rt: HostRuntime) -> Result<(), Fail> {
+    let alloc = rt.alloc();
+    expect_runs(&rt, alloc, EITHER, &NOT_TOGETHER)?;
+    expect_runs(&rt, alloc, ONE, &ONE_NAME)?;
+    expect_runs(&rt, alloc, TWO, &TWO_OF_THREE)
+}
+
+#[test]
+fn what_one_side_deleted(rt: HostRuntime) -> Result<(), Fail> {
+    expect_runs(&rt, rt.alloc(), EVERY, &DELETED)
 }
 
 #[test]

@@ -102,8 +102,8 @@ impl Schema {
         permits(node, tree) && have_twins(&node.twins, tree)
     }
 
-    // The node of a name that a node permits.
-    fn child(&self, id: NodeId, name: &Name) -> NodeId
+    /// The node of a name that may stand at a node.
+    pub fn child(&self, id: NodeId, name: &Name) -> NodeId
         requires in_range { id.place < length self.now.nodes }
         requires there { IsSome (child_at self.now id name.now) }
         ensures child { child_at self.now id name.now ≡ Some result }

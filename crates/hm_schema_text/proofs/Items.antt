@@ -1,7 +1,8 @@
 -- What a line says is determined by its tokens.
-use Rattle.std.proofs.Common.{◌≡◌, ◌≢◌, ℕ, Bool, true, false, cond, List, [], ◌∷◌, ◌++◌, take, drop, Option, Some, None, Result, Ok, Err, refl, sym, ap, ◌∙◌, subst}
+use Rattle.std.proofs.Common.{◌≡◌, ◌≢◌, ℕ, Bool, true, false, cond, List, [], ◌∷◌, ◌++◌, take, drop, Option, Some, None, Result, Ok, Err, refl, sym, ap, ◌∙◌, subst, arith}
 use Rattle.std.specs.Prelude.{codes, IfOk}
 use Rattle.std.proofs.lemmas.List.{take-append-drop}
+use Rattle.std.proofs.lemmas.Result.{IfOk-weaker}
 use lib.Pointwise.{pointwise, bytes_decides}
 use lib.Dec.{eqb}
 use Rattle.hm_tree.specs.Names.{Name}
@@ -11,7 +12,7 @@ use Rattle.hm_schema_text.specs.declared.token.Token.{Token}
 use Rattle.hm_schema_text.specs.declared.token.Token.TheVariants.{Word, Plus}
 use Rattle.hm_schema_text.specs.Tokens.{Spaced}
 use Rattle.hm_schema_text.specs.Counts.{IsCount, IsReadCount}
-use Rattle.hm_schema_text.specs.Items.{ItemValue, item_value, is_flush, indent, IsItem, IsLine, IsTail, IsReadTail, IsReadItem, IsFlushItem, IsIndentedItem}
+use Rattle.hm_schema_text.specs.Items.{ItemValue, ShapeValue, header, root, node, edge, other, shape, item_value, is_flush, indent, IsItem, IsLine, IsTail, IsShape, IsReadTail, IsReadItem, IsFlushItem, IsIndentedItem}
 use Rattle.hm_schema_text.proofs.Tokens.{spaced_one, spaced_no_space}
 
 pub tail_counted : {E : Type 0} (rest : List Token) (word : Name) (r : Result (Option Count) E) → rest ≡ Word word ∷ [] → IfOk r (IsReadCount word) → IfOk r (IsReadTail (Plus ∷ rest))
@@ -21,6 +22,14 @@ tail_counted rest word (Err e) is h = tt
 
 pub tail_none : (rest : List Token) → ((word : Name) → rest ≢ Word word ∷ []) → (c : Count) → ¬ (IsTail (Plus ∷ rest) c)
 tail_none rest none c t = let is : rest ≡ Word t.0 ∷ [] = cc in none t.0 is
+
+pub no_shape_item : (rest : List Token) → ((s : ShapeValue) → ¬ (IsShape rest s)) → (i : ItemValue) → ¬ (IsIndentedItem (Word (codes "shape") ∷ rest) i)
+no_shape_item rest none header h = let no : ⊥ = cc in no
+no_shape_item rest none (root w) h = let no : ⊥ = cc in no
+no_shape_item rest none (node w) h = let no : ⊥ = cc in no
+no_shape_item rest none (edge k w) h = let no : ⊥ = cc in no
+no_shape_item rest none (other c w) h = grind arith
+no_shape_item rest none (shape s) h = let same : rest ≡ h.1.0 = cc in none s (subst (λ (z : List Token). IsShape z s) (sym same) h.1.2)
 
 two_spaces : (i : ItemValue) → is_flush i ≡ false → indent i ≡ 32 ∷ 32 ∷ []
 two_spaces i e = ap (λ (b : Bool). cond b [] (codes "  ")) e
@@ -67,10 +76,9 @@ module _ (line : List ℕ) (ts : List Token) (s : Spaced ts line) where
       go true e = (e, subst (λ (z : List Token). IsItem z i) (spaced_one l.tokens ts l.text line (sym (l.is ∙ ap (λ (z : List ℕ). z ++ l.text) (no_spaces i e))) l.spaced s) l.item)
       go false e = absurd (spaced_no_space ts line (32 ∷ l.text) s (l.is ∙ ap (λ (z : List ℕ). z ++ l.text) (two_spaces i e)))
 
-pub read_as : {E : Type 0} (P Q : ItemValue → Type 0) → ((i : ItemValue) → P i → Q i) → ((i : ItemValue) → Q i → P i) → (r : Result (Option Item) E) → IfOk r (IsReadItem P) → IfOk r (IsReadItem Q)
-read_as P Q to from (Ok None) h = λ i q. h i (from i q)
-read_as P Q to from (Ok (Some i)) h = to (item_value i) h
-read_as P Q to from (Err e) h = tt
+read_as : (P Q : ItemValue → Type 0) → ((i : ItemValue) → P i → Q i) → ((i : ItemValue) → Q i → P i) → (o : Option Item) → IsReadItem P o → IsReadItem Q o
+read_as P Q to from None h = λ i q. h i (from i q)
+read_as P Q to from (Some i) h = to (item_value i) h
 
 front_two : (line text : List ℕ) → pointwise eqb (take 2 line) (32 ∷ 32 ∷ []) ≡ true → text ≡ drop 2 line → line ≡ 32 ∷ 32 ∷ text
 front_two line text same is =
@@ -79,10 +87,10 @@ front_two line text same is =
 pub indented_reads : {E : Type 0} (line text : List ℕ) (ts : List Token) (r : Result (Option Item) E) → pointwise eqb (take 2 line) (32 ∷ 32 ∷ []) ≡ true → text ≡ drop 2 line → Spaced ts text → IfOk r (IsReadItem (IsIndentedItem ts)) → IfOk r (IsReadItem (IsLine line))
 indented_reads line text ts r same is s h =
     let front = front_two line text same is in
-    read_as (IsIndentedItem ts) (IsLine line) (indented_line line text ts front s) (line_indented line text ts front s) r h
+    IfOk-weaker r (IsReadItem (IsIndentedItem ts)) (IsReadItem (IsLine line)) (read_as (IsIndentedItem ts) (IsLine line) (indented_line line text ts front s) (line_indented line text ts front s)) h
 
-pub flush_reads : {E : Type 0} (line : List ℕ) (ts : List Token) (r : Result (Option Item) E) → Spaced ts line → IfOk r (IsReadItem (IsFlushItem ts)) → IfOk r (IsReadItem (IsLine line))
-flush_reads line ts r s h = read_as (IsFlushItem ts) (IsLine line) (flush_line line ts s) (line_flush line ts s) r h
+pub flush_reads : (line : List ℕ) (ts : List Token) (o : Option Item) → Spaced ts line → IsReadItem (IsFlushItem ts) o → IsReadItem (IsLine line) o
+flush_reads line ts o s h = read_as (IsFlushItem ts) (IsLine line) (flush_line line ts s) (line_flush line ts s) o h
 
 -- two items of a line are of the same tokens
 pub line_items : (line : List ℕ) (i j : ItemValue) → IsLine line i → (l : IsLine line j) → IsItem l.tokens i

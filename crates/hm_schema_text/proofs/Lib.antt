@@ -2,6 +2,7 @@ pub mod Words
 pub mod Tokens
 pub mod Counts
 pub mod Items
+pub mod Shapes
 pub mod Entries
 pub mod Once
 pub mod Sections

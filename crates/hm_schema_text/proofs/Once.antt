@@ -1,7 +1,7 @@
 -- A line says one thing alone, and a file has one list of entries.
 use Rattle.std.proofs.Common.{◌≡◌, ℕ, cond, List, [], ◌∷◌, Option, Some, None, refl, sym, ap, subst, ◌∙◌, arith, get_or}
 use Rattle.std.specs.Prelude.{map, ◌==◌}
-use Rattle.std.specs.List.{prefix_len}
+use Rattle.std.specs.List.{prefix_len, AllZip}
 use Rattle.std.proofs.lemmas.Fmt.{decimal_injective}
 use Rattle.hm_tree.specs.Names.{Name}
 use Rattle.hm_tree.specs.declared.class.Class.{Class}
@@ -11,10 +11,11 @@ use Rattle.hm_schema_text.specs.declared.count.Count.{Count}
 use Rattle.hm_schema_text.specs.declared.token.Token.{Token}
 use Rattle.hm_schema_text.specs.declared.token.Token.TheVariants.{Word, Quoted, Question, Plus}
 use Rattle.hm_schema_text.specs.Counts.{is_digit, IsMost, IsCount}
-use Rattle.hm_schema_text.specs.Items.{ItemValue, ShapeValue, header, root, node, edge, other, shape, edge_name, names_at, optional_at, IsTail, IsShape, IsItem, IsLine, class_word}
-use Rattle.hm_schema_text.specs.Entries.{EntryValue, skipped, unknown, says, IsEntry, AreEntries, IsFile}
+use Rattle.hm_schema_text.specs.Items.{ItemValue, ShapeValue, header, root, node, edge, other, shape, edge_name, IsTail, IsShape, IsItem, IsLine, class_word}
+use Rattle.hm_schema_text.specs.Entries.{EntryValue, skipped, unknown, says, IsEntry, IsFile}
 use Rattle.hm_schema_text.proofs.Counts.{front_is, behind_is, some_digit}
 use Rattle.hm_schema_text.proofs.Items.{line_items}
+use Rattle.hm_schema_text.proofs.Shapes.{has_parts}
 
 -- ---- counts
 
@@ -47,9 +48,11 @@ tail_once (t ∷ ts) c d h k =
 
 shape_once : (ts : List Token) (s t : ShapeValue) → IsShape ts s → IsShape ts t → s ≡ t
 shape_once ts s t h k =
-    ap (λ r. record { required = r; optional = s.optional; count = s.count }) (h.required ∙ sym k.required)
-    ∙ ap (λ o. record { required = t.required; optional = o; count = s.count }) (h.optional ∙ sym k.optional)
-    ∙ ap (λ c. record { required = t.required; optional = t.optional; count = c }) (tail_once (optional_at (names_at ts).1).1 s.count t.count h.tail k.tail)
+    let x = has_parts ts s h in
+    let y = has_parts ts t k in
+    ap (λ r. record { required = r; optional = s.optional; count = s.count }) (x.required ∙ sym y.required)
+    ∙ ap (λ o. record { required = t.required; optional = o; count = s.count }) (x.optional ∙ sym y.optional)
+    ∙ ap (λ c. record { required = t.required; optional = t.optional; count = c }) (tail_once _ s.count t.count x.count y.count)
 
 -- the second letter of a class's word tells it
 abbrev second : List ℕ → ℕ
@@ -159,16 +162,16 @@ entry_once line (says i) skipped h k = absurd (h.0 k)
 entry_once line (says i) unknown h k = absurd (k.1 i h.1)
 entry_once line (says i) (says j) h k = ap says (line_once line i j h.1 k.1)
 
-entries_once : (lines : List (List ℕ)) (ds es : List EntryValue) → AreEntries lines ds → AreEntries lines es → ds ≡ es
-entries_once [] [] [] h k = refl
-entries_once [] [] (e ∷ es) h k = absurd k
-entries_once [] (d ∷ ds) es h k = absurd h
-entries_once (line ∷ lines) [] es h k = absurd h
-entries_once (line ∷ lines) (d ∷ ds) [] h k = absurd k
-entries_once (line ∷ lines) (d ∷ ds) (e ∷ es) h k =
-    let first : d ≡ e = entry_once line d e h.0 k.0 in
-    let more : ds ≡ es = entries_once lines ds es h.1 k.1 in
+zip_once : {A B : Type 0} (R : A → B → Type 0) → ((x : A) (y z : B) → R x y → R x z → y ≡ z) → (xs : List A) (ys zs : List B) → AllZip R xs ys → AllZip R xs zs → ys ≡ zs
+zip_once R one [] [] [] h k = refl
+zip_once R one [] [] (z ∷ zs) h k = absurd k
+zip_once R one [] (y ∷ ys) zs h k = absurd h
+zip_once R one (x ∷ xs) [] zs h k = absurd h
+zip_once R one (x ∷ xs) (y ∷ ys) [] h k = absurd k
+zip_once R one (x ∷ xs) (y ∷ ys) (z ∷ zs) h k =
+    let first : y ≡ z = one x y z h.0 k.0 in
+    let more : ys ≡ zs = zip_once R one xs ys zs h.1 k.1 in
     cc
 
 pub file_once : (bytes : List ℕ) (ds es : List EntryValue) → IsFile bytes ds → IsFile bytes es → ds ≡ es
-file_once bytes ds es h k = entries_once (map without_terminator (lines_of bytes)) ds es h k
+file_once bytes ds es h k = zip_once IsEntry entry_once (map without_terminator (lines_of bytes)) ds es h k

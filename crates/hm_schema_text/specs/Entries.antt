@@ -1,5 +1,6 @@
 -- The lines of a schema file: skipped ones, lines that say something, and others.
-use Rattle.std.specs.Prelude.{◌≡◌, ◌⊎◌, ℕ, All, List, [], ◌∷◌, map, slice_get, Some}
+use Rattle.std.specs.Prelude.{◌≡◌, ◌⊎◌, ℕ, All, List, map, slice_get, Some}
+use Rattle.std.specs.List.{AllZip}
 use Rattle.bstr.specs.Text.{lines_of, without_terminator}
 use Rattle.hm_schema_text.specs.declared.entry.Entry.{Entry}
 use Rattle.hm_schema_text.specs.declared.entry.Entry.TheVariants.{Skipped, Unknown, Says}
@@ -32,13 +33,6 @@ IsEntry line skipped = IsSkipped line
 IsEntry line unknown = ¬ (IsSkipped line) × ((i : ItemValue) → ¬ (IsLine line i))
 IsEntry line (says i) = ¬ (IsSkipped line) × IsLine line i
 
--- each line is read as the entry at its place
-abbrev pub AreEntries : List (List ℕ) → List EntryValue → Type 0
-AreEntries [] [] = Unit {0}
-AreEntries [] (e ∷ es) = ⊥
-AreEntries (line ∷ lines) [] = ⊥
-AreEntries (line ∷ lines) (e ∷ es) = IsEntry line e × AreEntries lines es
-
--- the entries of a file
+-- the entries of a file: each line is read as the entry at its place
 abbrev pub IsFile : List ℕ → List EntryValue → Type 0
-IsFile bytes es = AreEntries (map without_terminator (lines_of bytes)) es
+IsFile bytes es = AllZip IsEntry (map without_terminator (lines_of bytes)) es

@@ -1,5 +1,6 @@
 -- What the lines of a schema file say.
 use Rattle.std.specs.Prelude.{◌≡◌, ◌≢◌, ℕ, Bool, true, false, cond, List, [], ◌∷◌, ◌++◌, codes, Option, Some, None}
+use Rattle.std.specs.List.{AllZip}
 use Rattle.hm_tree.specs.Names.{Name}
 use Rattle.hm_tree.specs.declared.class.Class.{Class}
 use Rattle.hm_tree.specs.declared.class.Class.TheVariants.{Any, Clean, Filled, Trimmed, Folded}
@@ -47,38 +48,29 @@ edge_name (Quoted k) = Some k
 edge_name Question = None
 edge_name Plus = None
 
-abbrev pub Read : Type 0
-Read = List Name × List Token
+-- a name for each token
+abbrev pub AreNames : List Token → List Name → Type 0
+AreNames ts ks = AllZip (λ t k. edge_name t ≡ Some k) ts ks
 
-abbrev pub and_name : Name → Read → Read
-and_name k r = (k ∷ r.0, r.1)
-
--- the names at the front of tokens, and the tokens behind them
-abbrev pub names_at : List Token → Read
-names_at [] = ([], [])
-names_at (Word w ∷ ts) = and_name w (names_at ts)
-names_at (Quoted k ∷ ts) = and_name k (names_at ts)
-names_at (Question ∷ ts) = ([], Question ∷ ts)
-names_at (Plus ∷ ts) = ([], Plus ∷ ts)
-
--- the names behind a question mark, and the tokens behind these; no names without a question mark
-abbrev pub optional_at : List Token → Read
-optional_at [] = ([], [])
-optional_at (Word w ∷ ts) = ([], Word w ∷ ts)
-optional_at (Quoted k ∷ ts) = ([], Quoted k ∷ ts)
-optional_at (Question ∷ ts) = names_at ts
-optional_at (Plus ∷ ts) = ([], Plus ∷ ts)
+-- names behind a question mark; without it there are none
+abbrev pub AreOptional : List Token → List Name → Type 0
+AreOptional [] ks = ks ≡ []
+AreOptional (t ∷ ts) ks = (t ≡ Question) × AreNames ts ks
 
 -- a count behind `+`; without it there are none
 abbrev pub IsTail : List Token → Count → Type 0
 IsTail [] c = (c.least ≡ 0) × (c.most ≡ Some 0)
 IsTail (t ∷ ts) c = (word : Name) × (t ∷ ts ≡ Plus ∷ Word word ∷ []) × IsCount word c
 
--- tokens are the parts of a shape
+-- tokens are the parts of a shape, one part behind another
 pub record IsShape (ts : List Token) (s : ShapeValue) : Type 0 where
-  pub required : s.required ≡ (names_at ts).0
-  pub optional : s.optional ≡ (optional_at (names_at ts).1).0
-  pub tail : IsTail (optional_at (names_at ts).1).1 s.count
+  pub front : List Token
+  pub middle : List Token
+  pub tail : List Token
+  pub is : ts ≡ front ++ (middle ++ tail)
+  pub required : AreNames front s.required
+  pub optional : AreOptional middle s.optional
+  pub count : IsTail tail s.count
 
 abbrev pub class_word : Class → Name
 class_word Any = codes "any"

@@ -1,12 +1,14 @@
 //! What a line says.
-ghost use Rattle.std.specs.Prelude.{◌≡◌, ◌≢◌, ◌↔◌, ◌∷◌, List, ℕ, MatchOption, IsTrue, [], IfOk, codes, option_copied};
+ghost use Rattle.std.specs.Prelude.{◌≡◌, ◌≢◌, ◌↔◌, ◌∷◌, ◌<◌, List, ℕ, length, MatchOption, IsTrue, [], IfOk, IfSome, is_some, codes};
 ghost use Rattle.hm_schema_text.specs.declared.token.Token.TheVariants.{Word, Plus};
-ghost use Rattle.hm_schema_text.specs.Items.{edge_name, names_at, optional_at, IsReadTail, IsReadShape, IsReadClass, IsReadItem, IsFlushItem, IsIndentedItem, IsLine};
+ghost use Rattle.hm_schema_text.specs.Items.{edge_name, IsReadTail, IsReadShape, IsReadClass, IsReadItem, IsFlushItem, IsIndentedItem, IsLine};
+ghost use Rattle.hm_schema_text.specs.Reading.{and_name, names_at, optional_at};
 
 use crate::count::{Count, read_count};
 use crate::token::{Token, read_tokens};
 use hm_tree::{Class, Memory, Name};
 use std::alloc::Global;
+use std::collections::VecDeque;
 
 /// Required and optional names, and the count of unlisted ones.
 #[derive(Drop)]
@@ -34,9 +36,16 @@ pub enum Item {
 }
 
 impl Token {
-    /// The name where it may stand for the name of an edge.
-    fn name(&self) -> Option<&Name>
-        ensures { option_copied result ≡ edge_name self.now }
+    // Whether it may stand for the name of an edge.
+    fn is_name(&self) -> bool
+        ensures { result ≡ is_some (edge_name self.now) }
+    {
+        matches!(self, Token::Word(_) | Token::Quoted(_))
+    }
+
+    // The name where it may stand for the name of an edge.
+    fn into_name(self) -> Option<Name>
+        ensures { result ≡ edge_name self }
     {
         match self {
             Token::Word(name) => Some(name),
@@ -46,53 +55,66 @@ impl Token {
     }
 }
 
-// The names at the front, and the tokens behind them.
-fn read_names(alloc: Global, tokens: &[Token]) -> Result<(Vec<Name>, &[Token]), Memory>
-    ensures names { IfOk result (λ found. found.0.items ≡ (names_at tokens.now).0) }
-    ensures behind { IfOk result (λ found. found.1.now ≡ (names_at tokens.now).1) }
+// The name at the front, if one stands there; it is taken out.
+fn take_name(tokens: &mut VecDeque<Token>) -> Option<Name>
+    ensures taken { MatchOption result (names_at tokens.old.items ≡ ([], tokens.new.items)) (λ name. names_at tokens.old.items ≡ and_name name (names_at tokens.new.items)) }
+    ensures fewer { IfSome result (λ _. length tokens.new.items < length tokens.old.items) }
 {
-    let mut names = Vec::new(alloc);
-    let mut rest = tokens;
-    loop {
-        let Some(token) = rest.first() else {
-            return Ok((names, rest));
-        };
-        let Some(name) = token.name() else {
-            return Ok((names, rest));
-        };
-        names.push(name.copy()?)?;
-        rest = &rest[1..];
+    if !tokens.front()?.is_name() {
+        return None;
     }
+    tokens.pop_front()?.into_name()
 }
 
-// The names behind a question mark, if one stands at the front, and the tokens behind these.
-fn read_optional(alloc: Global, tokens: &[Token]) -> Result<(Vec<Name>, &[Token]), Memory>
-    ensures names { IfOk result (λ found. found.0.items ≡ (optional_at tokens.now).0) }
-    ensures behind { IfOk result (λ found. found.1.now ≡ (optional_at tokens.now).1) }
+// The names at the front; they are taken out.
+fn take_names(alloc: Global, tokens: &mut VecDeque<Token>) -> Result<Vec<Name>, Memory>
+    ensures { IfOk result (λ names. names_at tokens.old.items ≡ (names.items, tokens.new.items)) }
 {
-    match tokens {
-        [Token::Question, rest @ ..] => read_names(alloc, rest),
-        _ => Ok((Vec::new(alloc), tokens)),
+    let mut names = Vec::new(alloc);
+    while let Some(name) = take_name(tokens) {
+        names.push(name)?;
     }
+    Ok(names)
+}
+
+// The names behind a question mark, if one stands at the front; all are taken out.
+fn take_optional(alloc: Global, tokens: &mut VecDeque<Token>) -> Result<Vec<Name>, Memory>
+    ensures { IfOk result (λ names. optional_at tokens.old.items ≡ (names.items, tokens.new.items)) }
+{
+    if !matches!(tokens.front(), Some(Token::Question)) {
+        return Ok(Vec::new(alloc));
+    }
+    tokens.pop_front();
+    take_names(alloc, tokens)
+}
+
+// The word that is the only token.
+fn lone_word(mut tokens: VecDeque<Token>) -> Option<Name>
+    ensures { MatchOption result ((word : List ℕ) → tokens.items ≢ Word word ∷ []) (λ word. tokens.items ≡ Word word ∷ []) }
+{
+    let Some(Token::Word(word)) = tokens.pop_front() else {
+        return None;
+    };
+    if tokens.is_empty() { Some(word) } else { None }
 }
 
 // The count at the end of a shape.
-fn read_tail(alloc: Global, tokens: &[Token]) -> Result<Option<Count>, Memory>
-    ensures { IfOk result (IsReadTail tokens.now) }
+fn read_tail(alloc: Global, mut tokens: VecDeque<Token>) -> Result<Option<Count>, Memory>
+    ensures { IfOk result (IsReadTail tokens.items) }
 {
-    match tokens {
-        [] => Ok(Some(Count {
+    match tokens.pop_front() {
+        None => Ok(Some(Count {
             least: 0,
             most: Some(0),
         })),
-        [Token::Plus, rest @ ..] => behind_plus(alloc, rest),
-        _ => Ok(None),
+        Some(Token::Plus) => behind_plus(alloc, tokens),
+        Some(_) => Ok(None),
     }
 }
 
 // The same behind a plus.
-fn behind_plus(alloc: Global, rest: &[Token]) -> Result<Option<Count>, Memory>
-    ensures { IfOk result (IsReadTail (Plus ∷ rest.now)) }
+fn behind_plus(alloc: Global, rest: VecDeque<Token>) -> Result<Option<Count>, Memory>
+    ensures { IfOk result (IsReadTail (Plus ∷ rest.items)) }
 {
     match lone_word(rest) {
         Some(word) => read_count(alloc, word.bytes()),
@@ -100,23 +122,13 @@ fn behind_plus(alloc: Global, rest: &[Token]) -> Result<Option<Count>, Memory>
     }
 }
 
-// The word that is the only token.
-fn lone_word(tokens: &[Token]) -> Option<&Name>
-    ensures { MatchOption (option_copied result) ((word : List ℕ) → tokens.now ≢ Word word ∷ []) (λ word. tokens.now ≡ Word word ∷ []) }
-{
-    match tokens {
-        [Token::Word(word)] => Some(word),
-        _ => None,
-    }
-}
-
 // What stands behind `shape`.
-fn read_shape(alloc: Global, tokens: &[Token]) -> Result<Option<ShapeLine>, Memory>
-    ensures { IfOk result (IsReadShape tokens.now) }
+fn read_shape(alloc: Global, mut tokens: VecDeque<Token>) -> Result<Option<ShapeLine>, Memory>
+    ensures { IfOk result (IsReadShape tokens.items) }
 {
-    let (required, behind) = read_names(alloc, tokens)?;
-    let (optional, tail) = read_optional(alloc, behind)?;
-    match read_tail(alloc, tail)? {
+    let required = take_names(alloc, &mut tokens)?;
+    let optional = take_optional(alloc, &mut tokens)?;
+    match read_tail(alloc, tokens)? {
         Some(count) => Ok(Some(ShapeLine {
             required,
             optional,
@@ -148,59 +160,74 @@ fn is_word(name: &Name, word: &[u8]) -> bool
 }
 
 // What a line says that begins a node or stands before all nodes, by its tokens.
-fn flush_item(alloc: Global, tokens: &[Token]) -> Result<Option<Item>, Memory>
-    ensures { IfOk result (IsReadItem (IsFlushItem tokens.now)) }
+fn flush_item(mut tokens: VecDeque<Token>) -> Option<Item>
+    ensures { IsReadItem (IsFlushItem tokens.items) result }
 {
-    match tokens {
-        [Token::Word(first), Token::Word(second)] => named_item(alloc, first, second),
-        [Token::Word(first), Token::Word(second), Token::Word(third)] => {
-            if is_word(first, b"harmony") && is_word(second, b"schema") && is_word(third, b"1") {
-                Ok(Some(Item::Header))
-            } else {
-                Ok(None)
-            }
-        }
-        _ => Ok(None),
+    let Some(Token::Word(first)) = tokens.pop_front() else {
+        return None;
+    };
+    if is_word(&first, b"harmony") {
+        return header_item(tokens);
+    }
+    let name = lone_word(tokens)?;
+    named_item(&first, name)
+}
+
+// The same behind `harmony`.
+fn header_item(mut rest: VecDeque<Token>) -> Option<Item>
+    ensures { IsReadItem (IsFlushItem (Word (codes "harmony") ∷ rest.items)) result }
+{
+    let Some(Token::Word(second)) = rest.pop_front() else {
+        return None;
+    };
+    let third = lone_word(rest)?;
+    if is_word(&second, b"schema") && is_word(&third, b"1") {
+        Some(Item::Header)
+    } else {
+        None
     }
 }
 
 // The same of two words.
-fn named_item(alloc: Global, first: &Name, name: &Name) -> Result<Option<Item>, Memory>
-    ensures { IfOk result (IsReadItem (IsFlushItem (Word first.now ∷ Word name.now ∷ []))) }
+fn named_item(first: &Name, name: Name) -> Option<Item>
+    ensures { IsReadItem (IsFlushItem (Word first.now ∷ Word name ∷ [])) result }
 {
     if is_word(first, b"root") {
-        return Ok(Some(Item::Root(name.copy()?)));
+        return Some(Item::Root(name));
     }
     if is_word(first, b"node") {
-        return Ok(Some(Item::Node(name.copy()?)));
+        return Some(Item::Node(name));
     }
-    Ok(None)
+    None
 }
 
 // What a line inside a node says, by the tokens behind its two spaces.
-fn indented_item(alloc: Global, tokens: &[Token]) -> Result<Option<Item>, Memory>
-    ensures { IfOk result (IsReadItem (IsIndentedItem tokens.now)) }
+fn indented_item(alloc: Global, mut tokens: VecDeque<Token>) -> Result<Option<Item>, Memory>
+    ensures { IfOk result (IsReadItem (IsIndentedItem tokens.items)) }
 {
-    let [Token::Word(first), rest @ ..] = tokens else {
+    let Some(Token::Word(first)) = tokens.pop_front() else {
         return Ok(None);
     };
-    if is_word(first, b"shape") {
-        return shape_item(alloc, rest);
+    if is_word(&first, b"shape") {
+        return shape_item(alloc, tokens);
     }
-    let [second, Token::Word(node)] = rest else {
+    let Some(second) = tokens.pop_front() else {
         return Ok(None);
     };
-    if is_word(first, b"edge") {
-        return edge_item(second, node);
+    let Some(node) = lone_word(tokens) else {
+        return Ok(None);
+    };
+    if is_word(&first, b"edge") {
+        return Ok(edge_item(second, node));
     }
-    if is_word(first, b"other") {
-        return other_item(second, node);
+    if is_word(&first, b"other") {
+        return Ok(other_item(&second, node));
     }
     Ok(None)
 }
 
-fn shape_item(alloc: Global, rest: &[Token]) -> Result<Option<Item>, Memory>
-    ensures { IfOk result (IsReadItem (IsIndentedItem (Word (codes "shape") ∷ rest.now))) }
+fn shape_item(alloc: Global, rest: VecDeque<Token>) -> Result<Option<Item>, Memory>
+    ensures { IfOk result (IsReadItem (IsIndentedItem (Word (codes "shape") ∷ rest.items))) }
 {
     match read_shape(alloc, rest)? {
         Some(shape) => Ok(Some(Item::Shape(shape))),
@@ -208,25 +235,21 @@ fn shape_item(alloc: Global, rest: &[Token]) -> Result<Option<Item>, Memory>
     }
 }
 
-fn edge_item(edge: &Token, node: &Name) -> Result<Option<Item>, Memory>
-    ensures { IfOk result (IsReadItem (IsIndentedItem (Word (codes "edge") ∷ edge.now ∷ Word node.now ∷ []))) }
+fn edge_item(edge: Token, node: Name) -> Option<Item>
+    ensures { IsReadItem (IsIndentedItem (Word (codes "edge") ∷ edge ∷ Word node ∷ [])) result }
 {
-    match edge.name() {
-        Some(name) => Ok(Some(Item::Edge(name.copy()?, node.copy()?))),
-        None => Ok(None),
-    }
+    let name = edge.into_name()?;
+    Some(Item::Edge(name, node))
 }
 
-fn other_item(class: &Token, node: &Name) -> Result<Option<Item>, Memory>
-    ensures { IfOk result (IsReadItem (IsIndentedItem (Word (codes "other") ∷ class.now ∷ Word node.now ∷ []))) }
+fn other_item(class: &Token, node: Name) -> Option<Item>
+    ensures { IsReadItem (IsIndentedItem (Word (codes "other") ∷ class.now ∷ Word node ∷ [])) result }
 {
     let Token::Word(word) = class else {
-        return Ok(None);
+        return None;
     };
-    match read_class(word) {
-        Some(class) => Ok(Some(Item::Other(class, node.copy()?))),
-        None => Ok(None),
-    }
+    let class = read_class(word)?;
+    Some(Item::Other(class, node))
 }
 
 /// What a line says; none where it is no line of a schema.
@@ -235,11 +258,11 @@ pub fn read_item(alloc: Global, line: &[u8]) -> Result<Option<Item>, Memory>
 {
     match line.strip_prefix(b"  ") {
         Some(text) => match read_tokens(alloc, text)? {
-            Some(tokens) => indented_item(alloc, &tokens),
+            Some(tokens) => indented_item(alloc, VecDeque::from(tokens)),
             None => Ok(None),
         },
         None => match read_tokens(alloc, line)? {
-            Some(tokens) => flush_item(alloc, &tokens),
+            Some(tokens) => Ok(flush_item(VecDeque::from(tokens))),
             None => Ok(None),
         },
     }

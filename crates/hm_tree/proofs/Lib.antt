@@ -4,6 +4,7 @@ pub mod Deepest
 pub mod States
 pub mod Extent
 pub mod Kept
+pub mod Presence
 pub mod Spelled
 pub mod Classed
 pub mod Folded

@@ -11,6 +11,7 @@ use Rattle.std.specs.List.{insert, remove, filter}
 use Rattle.std.specs.List.Sorted.{IsSearchInRange, IsBinarySearchResult, IsNonDecreasingBy}
 use Rattle.std.proofs.lemmas.Option.{slice_get_read, get_or_from_slice_get, slice_get_cases}
 use Rattle.std.proofs.lemmas.List.Sorted.{searchable_from_sorted}
+use Rattle.std.proofs.lemmas.List.{get_or_default}
 use Rattle.std.proofs.lemmas.Bool.{cases_lt}
 use Rattle.hm_tree.specs.Names.{Name, name_cmp}
 use Rattle.hm_tree.specs.Nodes.{Node, node, edges, below, Tree, with_edge, without_edge, both, first, second, below_all}
@@ -116,6 +117,13 @@ module _ {X : Type 0} where
           ]);
         };
       }
+
+  -- a name's place is where it was read
+  pub place_read : (k : Name) (es : List (Name × X)) → T (is_sorted name_cmp es) → (i : ℕ) (e : Name × X) → i < length es → (get_or es i e).0 ≡ k → IsPlaceOf k es i
+  place_read k es h i e lt same = (searched k es h (Ok i) lt tied).found
+    where
+      tied : (d : Name × X) → name_cmp (get_or es i d).0 k ≡ Equal
+      tied d = ap (λ (x : Name × X). name_cmp x.0 k) (get_or_default es i d e lt) ∙ ap (λ x. name_cmp x k) same ∙ tied_itself name_total k
 
   -- an edge whose name is missing goes to its place
   pub put_rank : (k : Name) (v : X) (es : List (Name × X)) → find name_cmp k es ≡ None → put name_cmp k v es ≡ insert es (rank k es) (k, v)

@@ -1,9 +1,10 @@
 -- What an archive, a tree or a missing side has at a path (JCSS 2007, section 2).
-use Rattle.std.specs.Prelude.{Bool, cond, List, [], ◌∷◌, Option, Some, None}
+use Rattle.std.specs.Prelude.{◌≡◌, Bool, cond, List, [], ◌∷◌, Option, Some, None}
 use Rattle.hm_tree.specs.declared.archive.State.{State}
 use Rattle.hm_tree.specs.declared.archive.State.TheVariants.{Missing, Present, Marked}
 use Rattle.hm_tree.specs.Names.{Name}
-use Rattle.hm_tree.specs.Nodes.{Node, below, is_marked}
+use Rattle.hm_tree.specs.Nodes.{Node, Tree, below, is_marked}
+use Rattle.hm_tree.specs.Archives.{Archive}
 
 -- names from the root down
 abbrev pub Path : Type 0
@@ -19,3 +20,7 @@ state (Some t) (k ∷ p) = cond (is_marked t) Marked (state (below k t) p)
 abbrev pub state_off : {m : Bool} → Option (Node m) → State
 state_off None = Missing
 state_off (Some t) = cond (is_marked t) Marked Missing
+
+-- an archive is present wherever a tree, or a missing side, is
+abbrev pub IsWithin : Option Tree → Archive → Type 0
+IsWithin t o = (p : Path) → state t p ≡ Present → state o p ≡ Present

@@ -7,7 +7,7 @@ ghost use Rattle.hm_tree.specs.Archives.{recorded, under, with_archive, edges_he
 ghost use Rattle.hm_tree.specs.States.{state, state_off};
 ghost use Rattle.hm_tree.specs.declared.archive.State.TheVariants.{Present};
 
-use crate::edges::place_of;
+use crate::edges::{place_near, place_of};
 use crate::memory::Memory;
 use crate::name::Name;
 use crate::path::Path;
@@ -109,6 +109,16 @@ impl Archive {
     {
         match place_of(&self.edges, name) {
             Ok(at) => Some(&self.edges[at].1),
+            Err(_) => None,
+        }
+    }
+
+    /// The same, looked for at a place first, and the place behind it.
+    pub fn child_near(&self, name: &Name, near: usize) -> Option<(&Archive, usize)>
+        ensures { MatchOption result (under name.now self.now ≡ None) (λ found. found.0.now ≡ under name.now self.now) }
+    {
+        match place_near(&self.edges, name, near) {
+            Ok(at) => Some((&self.edges[at].1, at + 1)),
             Err(_) => None,
         }
     }

@@ -18,6 +18,18 @@ pub fn place_of<V>(edges: &[(Name, V)], name: &Name) -> Result<usize, usize>
     edges.binary_search_by(|edge| edge.0.order(name))
 }
 
+/// The same, looked for at a place first.
+pub fn place_near<V>(edges: &[(Name, V)], name: &Name, near: usize) -> Result<usize, usize>
+    requires { T (is_sorted name_cmp edges.now) }
+    ensures found { IfOk result (IsPlaceOf name.now edges.now) }
+    ensures absent { IfErr result (IsGapFor name.now edges.now) }
+{
+    if near < edges.len() && edges[near].0.same(name) {
+        return Ok(near);
+    }
+    place_of(edges, name)
+}
+
 // Whether a name is greater than the last one, as each is where names come in ascending order.
 fn is_past<V>(edges: &[(Name, V)], name: &Name) -> bool
     requires { T (is_sorted name_cmp edges.now) }

@@ -14,6 +14,7 @@ mod spelling;
 #[cfg(test)]
 mod tests;
 mod tree;
+mod within;
 
 pub use archive::{Archive, State};
 pub use class::Class;

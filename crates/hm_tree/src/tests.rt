@@ -214,3 +214,44 @@ fn states_of_an_archive(rt: HostRuntime) -> Result<(), Fail> {
     assert!(rt; archive.child(&Name::from_text(alloc, "c")?).is_none());
     Ok(())
 }
+
+#[test]
+fn trees_within_an_archive(rt: HostRuntime) -> Result<(), Fail> {
+    let alloc = rt.alloc();
+    let tree = edge_to(alloc, "b", edge_to(alloc, "c", Tree::empty(alloc))?)?;
+    let mut archive = Archive::of_tree(&tree)?;
+    let name = Name::from_text(alloc, "a")?;
+    if archive.root() == State::Present && archive.child(&name).is_none() {
+        archive.insert(name, Archive::marked(alloc))?;
+    }
+    assert!(rt; tree.within(&archive));
+    assert!(rt; Tree::empty(alloc).within(&archive));
+    assert!(rt; !edge_to(alloc, "a", Tree::empty(alloc))?.within(&archive));
+    assert!(rt; !edge_to(alloc, "c", Tree::empty(alloc))?.within(&archive));
+    assert!(rt; !edge_to(alloc, "b", edge_to(alloc, "d", Tree::empty(alloc))?)?.within(&archive));
+    assert!(rt; !Tree::empty(alloc).within(&Archive::marked(alloc)));
+    assert!(rt; !Tree::empty(alloc).within(&Archive::missing(alloc)));
+    Ok(())
+}
+
+#[test]
+fn edges_taken_out(rt: HostRuntime) -> Result<(), Fail> {
+    let alloc = rt.alloc();
+    let mut tree = edge_to(alloc, "a", edge_to(alloc, "b", Tree::empty(alloc))?)?;
+    let name = Name::from_text(alloc, "c")?;
+    if tree.child(&name).is_none() {
+        tree.insert(name, Tree::empty(alloc))?;
+    }
+    let first = Name::from_text(alloc, "a")?;
+    match tree.without(&first) {
+        Some(child) => assert_eq!(rt; child.depth(), 1),
+        None => assert!(rt; false),
+    }
+    assert_eq!(rt; tree.count(), 1);
+    assert_eq!(rt; tree.depth(), 1);
+    assert!(rt; tree.without(&first).is_none());
+    assert!(rt; tree.without(&Name::from_text(alloc, "c")?).is_some());
+    assert_eq!(rt; tree.count(), 0);
+    assert_eq!(rt; tree.depth(), 0);
+    Ok(())
+}

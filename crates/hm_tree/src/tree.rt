@@ -1,8 +1,8 @@
 //! Trees.
 #![tactic(auto, using(crate::proofs::Sorted::seen))]
 
-ghost use Rattle.std.specs.Prelude.{◌≡◌, ◌↔◌, IsTrue, ◌<◌, length, IfOk, OnOk, OnErr, IfErr, slice_get, Some, None, option_copied};
-ghost use Rattle.hm_tree.specs.Nodes.{edges, below, with_edge, depth, empty};
+ghost use Rattle.std.specs.Prelude.{◌≡◌, ◌↔◌, IsTrue, ◌<◌, ◌≤◌, length, IfOk, OnOk, OnErr, IfErr, slice_get, Some, None, option_copied};
+ghost use Rattle.hm_tree.specs.Nodes.{edges, below, with_edge, without_edge, depth, deepest, empty};
 ghost use Rattle.hm_tree.specs.Edges.{IsPlaceOf, IsGapFor};
 ghost use Rattle.hm_tree.specs.States.{state};
 ghost use Rattle.hm_tree.specs.declared.archive.State.TheVariants.{Present};
@@ -113,6 +113,23 @@ impl Tree {
         }
     }
 
+    /// Takes an edge out and gives what stood at its end; none where there is no edge of this name.
+    pub fn without(&mut self, name: &Name) -> Option<Tree>
+        ensures taken { result ≡ below name.now self.old }
+        ensures left { self.new ≡ without_edge name.now self.old }
+    {
+        match self.place(name) {
+            Ok(at) => {
+                let (_, child) = self.edges.remove(at);
+                if child.deep + 1 == self.deep {
+                    self.deep = deepest(&self.edges, self.deep);
+                }
+                Some(child)
+            }
+            Err(_) => None,
+        }
+    }
+
     /// The allocator that its edges are kept by.
     pub fn allocator(&self) -> Global {
         *self.edges.allocator()
@@ -165,4 +182,19 @@ impl Tree {
             deep: self.deep,
         })
     }
+}
+
+// The depth that edges make, of which a bound is known. The first edge as deep as the bound ends the search.
+fn deepest(edges: &[(Name, Tree)], bound: usize) -> usize
+    requires { deepest edges.now ≤ bound }
+    ensures { result ≡ deepest edges.now }
+{
+    let mut deep = 0;
+    for edge in edges {
+        deep = deep.max(edge.1.depth() + 1);
+        if deep == bound {
+            return deep;
+        }
+    }
+    deep
 }

@@ -1,8 +1,6 @@
 use Rattle.hm_run.specs.Seen.{inputs_of, outcome_of}
-use Rattle.hm_run.proofs.Making.{becomes, made}
+use Rattle.hm_run.proofs.Making.{made}
 use Rattle.hm_run.proofs.make.make.Goals as goal
 
 pub returns : goal.returns
-returns c =
-    made c.spell.result (inputs_of c.args.inputs.now) (outcome_of c.in_ok-outcome.outcome)
-    (becomes _ _ c.requires c.in_ok-outcome.ensures.settles c.in_ok-outcome.ensures.safe) c.spell.ensures.texts c.spell.ensures.tells
+returns c = made c.spell.result (inputs_of c.args.inputs.now) (outcome_of c.in_ok-outcome.outcome) c.in_ok-outcome.ensures.outcome c.spell.ensures.texts c.spell.ensures.tells

@@ -5,12 +5,15 @@ use Rattle.hm_run.specs.declared.load.Loads.{Loads}
 use Rattle.hm_run.specs.declared.read.Inputs.{Inputs}
 use Rattle.hm_run.specs.Seen.{loads_of, inputs_of}
 use Rattle.hm_run.specs.Making.{new_bytes}
-use Rattle.hm_run.proofs.Stopping.{words_cause, words_told, reading_cause, no_fault, loads_told, reads_told, writes_told, done_told, writes_cause}
-use Rattle.hm_run.proofs.Reading.{members}
+use Rattle.hm_run.proofs.Stopping.{words_cause, words_told, reading_cause, no_fault, loads_told, reads_told, measures_told, writes_told, done_told, measures_cause, writes_cause}
+use Rattle.hm_run.proofs.Reading.{schema_twins, members}
 use Rattle.hm_run.proofs.sync.synchronise.Goals as goal
 
-pub make-requires : goal.make-requires
-make-requires g c = members _ _ c.in_ok-inputs.ensures.finds
+pub make-requires-clause-no_twins : goal.make-requires-clause-no_twins
+make-requires-clause-no_twins g c = schema_twins _ _ c.in_ok-inputs.ensures.finds
+
+pub make-requires-clause-members : goal.make-requires-clause-members
+make-requires-clause-members g c = members _ _ c.in_ok-inputs.ensures.finds
 
 pub returns-in_err-files-clause-cause : goal.returns-in_err-files-clause-cause
 returns-in_err-files-clause-cause g c =
@@ -42,6 +45,17 @@ returns-in_err-inputs-clause-told g c = λ d told.
     let is : c.from_residual-in_err-inputs.result ≡ Err c.in_err-inputs.field-0.0 = search rules in
     reads_told _ d (names c.in_ok-files.files) c.in_ok-files.ensures _ (c.in_ok-loads.ensures.told d told) Inputs inputs_of _ _ _ _ is c.in_err-inputs.ensures.cause c.in_err-inputs.ensures.finds (c.load_all.ensures.contents ∙ told)
 
+pub returns-in_err-measure_all-clause-cause : goal.returns-in_err-measure_all-clause-cause
+returns-in_err-measure_all-clause-cause g c =
+    let is : c.from_residual-in_err-measure_all.result ≡ Err (Refused c.in_err-measure_all.field-0.0) = search rules in
+    measures_cause _ (names c.in_ok-files.files) (new_bytes c.in_ok-new.new) _ _ _ _ is c.in_ok-files.ensures c.in_err-measure_all.ensures
+
+pub returns-in_err-measure_all-clause-told : goal.returns-in_err-measure_all-clause-told
+returns-in_err-measure_all-clause-told g c = λ d told.
+    let is : c.from_residual-in_err-measure_all.result ≡ Err (Refused c.in_err-measure_all.field-0.0) = search rules in
+    measures_told _ d (names c.in_ok-files.files) c.in_ok-files.ensures _ (c.in_ok-loads.ensures.told d told) _ c.in_ok-inputs.ensures.finds c.in_ok-new.ensures.after c.in_ok-new.ensures.becomes
+    (new_bytes c.in_ok-new.new) c.in_ok-new.ensures.texts _ _ _ is c.in_err-measure_all.ensures (c.load_all.ensures.contents ∙ told)
+
 pub returns-in_err-write_all-clause-cause : goal.returns-in_err-write_all-clause-cause
 returns-in_err-write_all-clause-cause g c =
     let is : c.from_residual-in_err-write_all.result ≡ Err c.in_err-write_all.field-0.0 = search rules in
@@ -51,9 +65,9 @@ pub returns-in_err-write_all-clause-told : goal.returns-in_err-write_all-clause-
 returns-in_err-write_all-clause-told g c = λ d told.
     let is : c.from_residual-in_err-write_all.result ≡ Err c.in_err-write_all.field-0.0 = search rules in
     writes_told _ d (names c.in_ok-files.files) c.in_ok-files.ensures _ (c.in_ok-loads.ensures.told d told) _ c.in_ok-inputs.ensures.finds c.in_ok-new.ensures.after c.in_ok-new.ensures.becomes
-    (Unit {0}) (new_bytes c.in_ok-new.new) _ _ _ is c.in_ok-new.ensures.texts (c.in_err-write_all.ensures.told d (c.load_all.ensures.contents ∙ told))
+    (new_bytes c.in_ok-new.new) c.in_ok-new.ensures.texts c.in_ok-measure_all.ensures (Unit {0}) _ _ _ is (c.in_err-write_all.ensures.told d (c.load_all.ensures.contents ∙ told))
 
 pub returns-clause-told : goal.returns-clause-told
 returns-clause-told g c = λ d told.
     done_told _ d (names c.in_ok-files.files) c.in_ok-files.ensures _ (c.in_ok-loads.ensures.told d told) _ c.in_ok-inputs.ensures.finds c.in_ok-new.ensures.after c.in_ok-new.ensures.becomes
-    (new_bytes c.in_ok-new.new) _ _ c.in_ok-new.ensures.texts c.in_ok-new.ensures.tells (c.in_ok-write_all.ensures.told d (c.load_all.ensures.contents ∙ told))
+    (new_bytes c.in_ok-new.new) c.in_ok-new.ensures.texts c.in_ok-measure_all.ensures _ _ c.in_ok-new.ensures.tells (c.in_ok-write_all.ensures.told d (c.load_all.ensures.contents ∙ told))

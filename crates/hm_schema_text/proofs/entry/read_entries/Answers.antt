@@ -1,6 +1,7 @@
 use Rattle.std.proofs.Common.{◌∙◌, ap, subst}
 use Rattle.std.proofs.lemmas.List.{map-append}
-use Rattle.hm_schema_text.specs.Entries.{AreEntries, entry_value, entry_values}
+use Rattle.std.specs.List.{AllZip}
+use Rattle.hm_schema_text.specs.Entries.{IsEntry, entry_value, entry_values}
 use Rattle.hm_schema_text.proofs.Entries.{none_read, read_one, all_read}
 use Rattle.hm_schema_text.proofs.entry.read_entries.Goals as goal
 
@@ -13,4 +14,4 @@ loop-line-preserved c =
 
 pub returns : goal.returns
 returns c =
-    subst (λ lines. AreEntries lines (entry_values c.loop-line.entries.items)) (c.into_iter-line-iterator.ensures.into_iter_gives ∙ c.lines-line-items.ensures.value) (all_read _ _ _ c.loop-line.invariant c.in-None.ensures.steps.0)
+    subst (λ lines. AllZip IsEntry lines (entry_values c.loop-line.entries.items)) (c.into_iter-line-iterator.ensures.into_iter_gives ∙ c.lines-line-items.ensures.value) (all_read _ _ _ c.loop-line.invariant c.in-None.ensures.steps.0)

@@ -6,9 +6,9 @@ use Rattle.hm_schema_text.proofs.item.read_item.Goals as goal
 pub returns-in-Some-2 : goal.returns-in-Some-2
 returns-in-Some-2 c =
     let tokens = rw c.in-Some-2.is at c.in_ok-tokens-in-Some.ensures in
-    indented_reads c.args.line.now c.in-Some.text.now c.deref.result.now c.indented_item.result c.in-Some.ensures.cases.0 c.in-Some.ensures.cases.1 (subst (λ ts. Spaced ts c.in-Some.text.now) (sym c.deref.ensures.value) tokens) c.indented_item.ensures
+    indented_reads c.args.line.now c.in-Some.text.now c.from.result.items c.indented_item.result c.in-Some.ensures.cases.0 c.in-Some.ensures.cases.1 (subst (λ ts. Spaced ts c.in-Some.text.now) (sym c.from.ensures.0) tokens) c.indented_item.ensures
 
 pub returns-in-Some-3 : goal.returns-in-Some-3
 returns-in-Some-3 c =
     let tokens = rw c.in-Some-3.is at c.in_ok-tokens-in-None.ensures in
-    flush_reads c.args.line.now c.deref-in-Some-3.result.now c.flush_item.result (subst (λ ts. Spaced ts c.args.line.now) (sym c.deref-in-Some-3.ensures.value) tokens) c.flush_item.ensures
+    flush_reads c.args.line.now c.from-in-Some-3.result.items c.flush_item.result (subst (λ ts. Spaced ts c.args.line.now) (sym c.from-in-Some-3.ensures.0) tokens) c.flush_item.ensures

@@ -1,0 +1,5 @@
+pub mod Trios
+pub mod Carried
+pub mod Contested
+pub mod Outcomes
+pub mod TopmostMarks

@@ -1,0 +1,90 @@
+//! What becomes of a subtree that one side alone has.
+ghost use Rattle.std.specs.Prelude.{◌≡◌, IfOk};
+ghost use Rattle.hm_reconcile.specs.Sides.{sides_of, on_left, on_right, recorded_on_both, on_neither, Settles};
+ghost use Rattle.hm_reconcile.specs.Fates.{HasFate};
+
+use hm_tree::{Archive, Memory, State, Tree};
+use std::alloc::Global;
+
+/// An archive and two sides, each of which may be missing.
+#[derive(Drop)]
+pub struct Sides {
+    pub archive: Archive,
+    pub left: Option<Tree>,
+    pub right: Option<Tree>,
+}
+
+// What becomes of a subtree that one side alone has.
+enum Fate {
+    // It is new: the other side takes it.
+    Carried,
+    // The other side deleted it, and it has no news: it goes.
+    Dropped,
+    // The other side deleted it, and it has news: it stays, under a mark.
+    Contested,
+}
+
+// What becomes of a tree that one side alone has.
+fn fate_of(archive: &Archive, tree: &Tree) -> Fate
+    ensures { HasFate archive.now tree.now result }
+{
+    if let State::Missing = archive.root() {
+        return Fate::Carried;
+    }
+    if tree.within(archive) {
+        return Fate::Dropped;
+    }
+    Fate::Contested
+}
+
+/// What becomes of a subtree that the left side alone has.
+pub fn left_alone(alloc: Global, archive: &Archive, tree: &Tree) -> Result<Sides, Memory>
+    ensures { IfOk result (λ r. Settles tree.now (on_left archive.now tree.now) (sides_of r)) }
+{
+    match fate_of(archive, tree) {
+        Fate::Carried => on_both(tree),
+        Fate::Dropped => Ok(nowhere(alloc)),
+        Fate::Contested => Ok(Sides {
+            archive: Archive::marked(alloc),
+            left: Some(tree.copy()?),
+            right: None,
+        }),
+    }
+}
+
+/// What becomes of a subtree that the right side alone has.
+pub fn right_alone(alloc: Global, archive: &Archive, tree: &Tree) -> Result<Sides, Memory>
+    ensures { IfOk result (λ r. Settles tree.now (on_right archive.now tree.now) (sides_of r)) }
+{
+    match fate_of(archive, tree) {
+        Fate::Carried => on_both(tree),
+        Fate::Dropped => Ok(nowhere(alloc)),
+        Fate::Contested => Ok(Sides {
+            archive: Archive::marked(alloc),
+            left: None,
+            right: Some(tree.copy()?),
+        }),
+    }
+}
+
+// A tree on both sides, and in the archive.
+fn on_both(tree: &Tree) -> Result<Sides, Memory>
+    ensures { IfOk result (λ r. sides_of r ≡ recorded_on_both tree.now) }
+{
+    Ok(Sides {
+        archive: Archive::of_tree(tree)?,
+        left: Some(tree.copy()?),
+        right: Some(tree.copy()?),
+    })
+}
+
+// Nothing on either side, nor in the archive.
+fn nowhere(alloc: Global) -> Sides
+    ensures { sides_of result ≡ on_neither }
+{
+    Sides {
+        archive: Archive::missing(alloc),
+        left: None,
+        right: None,
+    }
+}
