@@ -20,6 +20,10 @@ use hm_schema::{NodeId, Schema};
 use hm_tree::{Archive, Memory, Name, State, Tree};
 use std::alloc::Global;
 
+// Equal sides come through whole. Sides that aren't marked are compared only where they are no deeper than this, so
+// that what lies far below is not compared again at each node above it.
+const SHALLOW: usize = 4;
+
 // Two equal sides: all three become so.
 fn all_as(tree: &Tree) -> Result<Outcome, Memory>
     ensures { IfOk result (λ o. outcome_of o ≡ given (Some (recorded tree.now)) tree.now tree.now) }
@@ -164,6 +168,11 @@ pub fn at_node(
             return all_as(left);
         }
         return stopped(alloc, left, right);
+    }
+    if left.depth() <= SHALLOW {
+        if right.same(left) {
+            return all_as(left);
+        }
     }
     let mut made = Outcome {
         archive: Archive::present(alloc),

@@ -18,6 +18,11 @@ at_node-returns-then-same t c =
     comes_to c.args.schema.now c.args.id (given c.args.archive.now c.args.left.now c.args.right.now) (given (Some (recorded c.args.left.now)) c.args.left.now c.args.left.now) c.all_as.result c.all_as.ensures
     (equal_outcome c.args.schema.now c.args.id c.args.archive.now c.args.left.now c.args.right.now c.requires.members (c.if-same.ensures.0 refl))
 
+pub at_node-returns-then-same-2 : goal.at_node-returns-then-same-2
+at_node-returns-then-same-2 t c =
+    comes_to c.args.schema.now c.args.id (given c.args.archive.now c.args.left.now c.args.right.now) (given (Some (recorded c.args.left.now)) c.args.left.now c.args.left.now) c.all_as-then-same-2.result c.all_as-then-same-2.ensures
+    (equal_outcome c.args.schema.now c.args.id c.args.archive.now c.args.left.now c.args.right.now c.requires.members (sym (c.if-same-2.ensures.0 refl)))
+
 pub at_node-returns-in-Marked : goal.at_node-returns-in-Marked
 at_node-returns-in-Marked t c = comes_to c.args.schema.now c.args.id (given c.args.archive.now c.args.left.now c.args.right.now) (given (Some marked) c.args.left.now c.args.right.now) c.stopped.result c.stopped.ensures
     (stopped_outcome c.args.schema.now c.args.id c.args.archive.now c.args.left.now c.args.right.now c.requires.members
