@@ -1,9 +1,7 @@
 -- The line and the exit status of each ending.
-use Rattle.std.specs.Prelude.{ℕ, zero, suc, List, [], ◌∷◌, ◌++◌, codes, flat_map}
+use Rattle.std.specs.Prelude.{ℕ, zero, suc, List, [], ◌∷◌, ◌++◌, codes}
 use Rattle.std.specs.Fmt.{decimal}
-use Rattle.hm_tree.specs.Names.{Name}
-use Rattle.hm_tree.specs.Spelling.{spelled}
-use Rattle.hm_tree.specs.States.{Path}
+use Rattle.hm_tree.specs.Spelling.{path_text}
 use Rattle.hm_command.specs.declared.ending.Slot.{Slot}
 use Rattle.hm_command.specs.declared.ending.Slot.TheVariants.{Schema, Archive, Left, Right}
 use Rattle.hm_command.specs.declared.ending.ArchiveFault.{ArchiveFault}
@@ -12,6 +10,7 @@ use Rattle.hm_command.specs.declared.ending.ReplicaFault.{ReplicaFault}
 use Rattle.hm_command.specs.declared.ending.ReplicaFault.TheVariants.{NotUtf8, BadItem, TooDeep, Outside}
 use Rattle.hm_command.specs.declared.ending.Refusal.{Refusal}
 use Rattle.hm_command.specs.declared.ending.Refusal.TheVariants.{Usage, SameName, Missing, TooLarge, BadSchema, BadArchive, BadReplica, Overgrown}
+use Rattle.hm_command.specs.declared.ending.Stop.{Stop}
 use Rattle.hm_command.specs.declared.ending.Stop.TheVariants.{Refused, ReadFault, WriteFault, Memory}
 use Rattle.hm_command.specs.declared.ending.Ending.{Ending}
 use Rattle.hm_command.specs.declared.ending.Ending.TheVariants.{Stopped, PutFault, Done}
@@ -25,11 +24,6 @@ slot_name Schema = codes "schema"
 slot_name Archive = codes "archive"
 slot_name Left = codes "A"
 slot_name Right = codes "B"
-
--- a stroke for the root, and else one before the spelling of each name
-abbrev pub path_text : Path → List ℕ
-path_text [] = codes "/"
-path_text (k ∷ p) = flat_map (λ (n : Name). 47 ∷ spelled n) (k ∷ p)
 
 abbrev pub archive_fault_text : ArchiveFault → List ℕ
 archive_fault_text (At at) = codes "at " ++ decimal at
@@ -51,27 +45,24 @@ refusal_text (BadArchive fault) = codes "harmony: BadArchive " ++ archive_fault_
 refusal_text (BadReplica slot fault) = codes "harmony: BadReplica " ++ slot_name slot ++ codes " " ++ replica_fault_text fault
 refusal_text (Overgrown slot size) = codes "harmony: Overgrown " ++ slot_name slot ++ codes " " ++ decimal size
 
--- the number of conflicts that remain, if there are any
-abbrev pub report_text : ℕ → List ℕ
-report_text zero = codes "agreed"
-report_text (suc n) = codes "conflicts " ++ decimal (suc n)
+abbrev pub stop_text : Stop → List ℕ
+stop_text (Refused refusal) = refusal_text refusal
+stop_text (ReadFault slot) = codes "harmony: ReadFault " ++ slot_name slot
+stop_text (WriteFault slot) = codes "harmony: WriteFault " ++ slot_name slot
+stop_text Memory = []
 
-abbrev pub text_of : Ending → List ℕ
-text_of (Stopped (Refused refusal)) = refusal_text refusal
-text_of (Stopped (ReadFault slot)) = codes "harmony: ReadFault " ++ slot_name slot
-text_of (Stopped (WriteFault slot)) = codes "harmony: WriteFault " ++ slot_name slot
-text_of (Stopped Memory) = []
-text_of (PutFault conflicts) = report_text conflicts
-text_of (Done conflicts) = report_text conflicts
+-- the line of a run that stopped so; none for want of memory
+abbrev pub line_of : Stop → List ℕ
+line_of (Refused refusal) = line (stop_text (Refused refusal))
+line_of (ReadFault slot) = line (stop_text (ReadFault slot))
+line_of (WriteFault slot) = line (stop_text (WriteFault slot))
+line_of Memory = []
 
--- the line; none for want of memory
+-- what a run that ended so has to say
 abbrev pub output_of : Ending → List ℕ
-output_of (Stopped (Refused refusal)) = line (text_of (Stopped (Refused refusal)))
-output_of (Stopped (ReadFault slot)) = line (text_of (Stopped (ReadFault slot)))
-output_of (Stopped (WriteFault slot)) = line (text_of (Stopped (WriteFault slot)))
-output_of (Stopped Memory) = []
-output_of (PutFault conflicts) = line (report_text conflicts)
-output_of (Done conflicts) = line (report_text conflicts)
+output_of (Stopped stop) = line_of stop
+output_of (PutFault report) = report.text.items
+output_of (Done report) = report.text.items
 
 abbrev pub refusal_status : Refusal → ℕ
 refusal_status Usage = 2
@@ -93,5 +84,5 @@ status_of (Stopped (Refused refusal)) = refusal_status refusal
 status_of (Stopped (ReadFault slot)) = 4
 status_of (Stopped (WriteFault slot)) = 4
 status_of (Stopped Memory) = 5
-status_of (PutFault conflicts) = 6
-status_of (Done conflicts) = conflicts_status conflicts
+status_of (PutFault report) = 6
+status_of (Done report) = conflicts_status report.conflicts

@@ -65,13 +65,20 @@ pub enum Stop {
     Memory,
 }
 
-/// How a run ended. Where it came to its output, the number is that of the conflicts that remain.
+/// What a run that was carried out has to say: the number of conflicts that remain, and the text that tells them.
+#[derive(Drop)]
+pub struct Report {
+    pub conflicts: usize,
+    pub text: Vec<u8>,
+}
+
+/// How a run ended.
 #[derive(Drop)]
 pub enum Ending {
     Stopped(Stop),
-    /// The sink failed while the output was put.
-    PutFault(usize),
-    Done(usize),
+    /// The sink failed while the report was put.
+    PutFault(Report),
+    Done(Report),
 }
 
 impl From<Refusal> for Stop {

@@ -1,11 +1,11 @@
-//! What a run says as it ends: one line, and the exit status.
+//! What a run that stops says, in one line, and the exit status of each end.
 ghost use Rattle.std.specs.Prelude.{◌≡◌, ◌++◌, ◌∷◌, [], IfOk, OnOk};
 ghost use Rattle.std.specs.Fmt.{decimal};
 ghost use Rattle.hm_command.specs.declared.ending.Refusal.TheVariants.{Overgrown};
-ghost use Rattle.hm_command.specs.Lines.{slot_name, path_text, archive_fault_text, replica_fault_text, refusal_text, report_text, text_of, output_of, refusal_status, status_of};
+ghost use Rattle.hm_command.specs.Lines.{slot_name, archive_fault_text, replica_fault_text, refusal_text, stop_text, line_of, refusal_status, status_of};
 
 use crate::ending::{ArchiveFault, Ending, Refusal, ReplicaFault, Slot, Stop};
-use hm_tree::{Memory, Path, append_spelled};
+use hm_tree::{Memory, append_path};
 use std::alloc::Global;
 
 fn slot_name(slot: Slot) -> &'static [u8]
@@ -38,21 +38,6 @@ fn put_number(alloc: Global, line: &mut Vec<u8>, before: &[u8], number: usize) -
     Ok(())
 }
 
-// Puts a path behind a line.
-fn put_path(line: &mut Vec<u8>, path: &Path) -> Result<(), Memory>
-    ensures { OnOk result (line.new.items ≡ line.old.items ++ path_text path.now) }
-{
-    if path.names.is_empty() {
-        line.push(b'/')?;
-        return Ok(());
-    }
-    for name in &path.names {
-        line.push(b'/')?;
-        append_spelled(name, line)?;
-    }
-    Ok(())
-}
-
 // Puts what is wrong with an archive behind a line.
 fn put_archive_fault(alloc: Global, line: &mut Vec<u8>, fault: ArchiveFault) -> Result<(), Memory>
     ensures { OnOk result (line.new.items ≡ line.old.items ++ archive_fault_text fault) }
@@ -73,7 +58,7 @@ fn put_replica_fault(alloc: Global, line: &mut Vec<u8>, fault: &ReplicaFault) ->
         ReplicaFault::TooDeep(depth) => put_number(alloc, line, b"TooDeep ", *depth),
         ReplicaFault::Outside(path) => {
             line.extend_from_slice(b"Outside ")?;
-            put_path(line, path)
+            append_path(path, line)
         }
     }
 }
@@ -112,40 +97,27 @@ fn put_refusal(alloc: Global, line: &mut Vec<u8>, refusal: &Refusal) -> Result<(
     }
 }
 
-// Puts the last line of a report behind a line.
-fn put_report(alloc: Global, line: &mut Vec<u8>, conflicts: usize) -> Result<(), Memory>
-    ensures { OnOk result (line.new.items ≡ line.old.items ++ report_text conflicts) }
+// Puts what a run that stopped so says behind a line.
+fn put_stop(alloc: Global, line: &mut Vec<u8>, stop: &Stop) -> Result<(), Memory>
+    ensures { OnOk result (line.new.items ≡ line.old.items ++ stop_text stop.now) }
 {
-    match conflicts {
-        0 => Ok(line.extend_from_slice(b"agreed")?),
-        _ => put_number(alloc, line, b"conflicts ", conflicts),
+    match stop {
+        Stop::Refused(refusal) => put_refusal(alloc, line, refusal),
+        Stop::ReadFault(slot) => put_slot(line, b"harmony: ReadFault ", *slot),
+        Stop::WriteFault(slot) => put_slot(line, b"harmony: WriteFault ", *slot),
+        Stop::Memory => Ok(()),
     }
 }
 
-// Puts what this ending says behind a line.
-fn put_ending(alloc: Global, line: &mut Vec<u8>, ending: &Ending) -> Result<(), Memory>
-    ensures { OnOk result (line.new.items ≡ line.old.items ++ text_of ending.now) }
-{
-    match ending {
-        Ending::Stopped(Stop::Refused(refusal)) => put_refusal(alloc, line, refusal),
-        Ending::Stopped(Stop::ReadFault(slot)) => put_slot(line, b"harmony: ReadFault ", *slot),
-        Ending::Stopped(Stop::WriteFault(slot)) => put_slot(line, b"harmony: WriteFault ", *slot),
-        Ending::Stopped(Stop::Memory) => Ok(()),
-        Ending::PutFault(conflicts) | Ending::Done(conflicts) => {
-            put_report(alloc, line, *conflicts)
-        }
-    }
-}
-
-/// What a run that ends so puts out: one line, and nothing for want of memory.
-pub fn output_of(alloc: Global, ending: &Ending) -> Result<Vec<u8>, Memory>
-    ensures { IfOk result (λ output. output.items ≡ output_of ending.now) }
+/// The line that a run that stopped so puts out; no bytes for want of memory.
+pub fn line_of(alloc: Global, stop: &Stop) -> Result<Vec<u8>, Memory>
+    ensures { IfOk result (λ line. line.items ≡ line_of stop.now) }
 {
     let mut line = Vec::new(alloc);
-    if let Ending::Stopped(Stop::Memory) = ending {
+    if let Stop::Memory = stop {
         return Ok(line);
     }
-    put_ending(alloc, &mut line, ending)?;
+    put_stop(alloc, &mut line, stop)?;
     line.push(b'\n')?;
     Ok(line)
 }
@@ -169,6 +141,6 @@ pub fn status_of(ending: &Ending) -> u8
         Ending::Stopped(Stop::ReadFault(_) | Stop::WriteFault(_)) => 4,
         Ending::Stopped(Stop::Memory) => 5,
         Ending::PutFault(_) => 6,
-        Ending::Done(conflicts) => u8::from(*conflicts > 0),
+        Ending::Done(report) => u8::from(report.conflicts > 0),
     }
 }

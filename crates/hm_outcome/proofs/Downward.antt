@@ -53,7 +53,7 @@ pub record IsDownward (s : SchemaValue) (i : NodeId) (before after : Trio) : Typ
 abbrev pub views_below : Name → Views → Views
 views_below k v = record { archive = down (k ∷ []) v.archive; left = down (k ∷ []) v.left; right = down (k ∷ []) v.right }
 
-state_under : {m : Bool} (o : Option (Node m)) (k : Name) (p : Path) → state o [] ≢ Marked → state o (k ∷ p) ≡ state (under k o) p
+pub state_under : {m : Bool} (o : Option (Node m)) (k : Name) (p : Path) → state o [] ≢ Marked → state o (k ∷ p) ≡ state (under k o) p
 state_under None k p n = refl
 state_under (Some t) k p n = elim (is_marked t) as (λ b. cond b Marked Present ≢ Marked → cond b Marked (state (below k t) p) ≡ state (below k t) p) [ true ↦ λ n. absurd (n refl) | false ↦ λ n. refl ] n
 
@@ -64,7 +64,7 @@ views_child k t n = λ i. record {
   right = λ p. sym (state_under t.right k p (state_unmarked t.right [])) i;
 }
 
-lost_below : (k : Name) (archive keeper other : View) (p : Path) → IsLost archive keeper other (k ∷ p) ↔ IsLost (down (k ∷ []) archive) (down (k ∷ []) keeper) (down (k ∷ []) other) p
+pub lost_below : (k : Name) (archive keeper other : View) (p : Path) → IsLost archive keeper other (k ∷ p) ↔ IsLost (down (k ∷ []) archive) (down (k ∷ []) keeper) (down (k ∷ []) other) p
 lost_below k archive keeper other p = (λ l. record { has = l.has; lacks = l.lacks; known = l.known; news = l.news }, λ l. record { has = l.has; lacks = l.lacks; known = l.known; news = l.news })
 
 pub carried_below : (k : Name) (archive mine other : View) (p : Path) → IsCarried archive mine other (k ∷ p) ↔ IsCarried (down (k ∷ []) archive) (down (k ∷ []) mine) (down (k ∷ []) other) p
@@ -138,11 +138,11 @@ module _ (s : SchemaValue) (i j : NodeId) (k : Name) (v : Views) (leads : (p : P
 
 -- ---- topmost below a name
 
-abbrev NoneAbove : (Path → Type 0) → Path → Type 0
+abbrev pub NoneAbove : (Path → Type 0) → Path → Type 0
 NoneAbove P p = (q r : Path) → p ≡ q ++ r → r ≢ [] → ¬ (P q)
 
 -- where it doesn't hold at the root
-none_above_below : (P : Path → Type 0) (k : Name) (p : Path) → ¬ (P []) → NoneAbove P (k ∷ p) ↔ NoneAbove (λ q. P (k ∷ q)) p
+pub none_above_below : (P : Path → Type 0) (k : Name) (p : Path) → ¬ (P []) → NoneAbove P (k ∷ p) ↔ NoneAbove (λ q. P (k ∷ q)) p
 none_above_below P k p root = (λ n q r e. n (k ∷ q) r (ap (λ x. k ∷ x) e), from)
   where
     from : NoneAbove (λ q. P (k ∷ q)) p → NoneAbove P (k ∷ p)
@@ -153,7 +153,7 @@ none_above_below P k p root = (λ n q r e. n (k ∷ q) r (ap (λ x. k ∷ x) e),
         n q r same_path some (subst (λ x. P (x ∷ q)) same_name h)
 
 -- what holds at the root and below each name holds at each path
-at_each : (P : Path → Type 0) → P [] → ((k : Name) (p : Path) → P (k ∷ p)) → (p : Path) → P p
+pub at_each : (P : Path → Type 0) → P [] → ((k : Name) (p : Path) → P (k ∷ p)) → (p : Path) → P p
 at_each P root further [] = root
 at_each P root further (k ∷ p) = further k p
 

@@ -1,5 +1,5 @@
 -- What every safe result has to be: the names of a path that isn't marked, and the places that are contested.
-use Rattle.std.proofs.Common.{◌≡◌, ◌≢◌, ◌⊎◌, Bool, true, false, [], ◌∷◌, ◌++◌, Option, Some, refl, sym, subst, ◌∙◌, inl, inr}
+use Rattle.std.proofs.Common.{◌≡◌, ◌≢◌, ◌⊎◌, [], ◌∷◌, ◌++◌, Option, Some, refl, sym, subst, ◌∙◌, inl, inr}
 use Rattle.std.proofs.lemmas.Option.{same_Some}
 use Rattle.hm_tree.specs.declared.archive.State.{State}
 use Rattle.hm_tree.specs.declared.archive.State.TheVariants.{Missing, Present, Marked}
@@ -14,7 +14,7 @@ use Rattle.hm_schema.specs.declared.node.NodeId.{NodeId}
 use Rattle.hm_schema.specs.Values.{Names, NodeValue, SchemaValue, node_of}
 use Rattle.hm_schema.specs.Permitted.{Permits}
 use Rattle.hm_schema.specs.Membership.{down, HasNames, IsMember}
-use Rattle.hm_schema.proofs.NamesOf.{same_names}
+use Rattle.hm_schema.proofs.NamesOf.{same_names, bools}
 use Rattle.hm_outcome.specs.Trios.{Trio, views, AreMembers}
 use Rattle.hm_outcome.specs.Carried.{IsCarried, on_both, clashing, kept, brought, AreCarried}
 use Rattle.hm_outcome.specs.Contested.{AreRefused, IsContested, earlier, lost, refused}
@@ -63,12 +63,6 @@ has_or_lacks a p = go (state a p) refl
 
 never_both : {s : State} → s ≡ Present → s ≡ Missing → ⊥
 never_both there missing = let f : Present ≡ Missing = sym there ∙ missing in let no : ⊥ = cc in no
-
-bools : (a b : Bool) → (a ≡ true → b ≡ true) → (b ≡ true → a ≡ true) → a ≡ b
-bools true true f g = refl
-bools true false f g = sym (f refl)
-bools false true f g = g refl
-bools false false f g = refl
 
 -- a member's names at a path are permitted by the node there
 permits : (s : SchemaValue) (i : NodeId) (a : View) (p : Path) → IsMember s i a → Has a p → (names : Names) → HasNames (down p a) names → (node : NodeValue) → node_of s i p ≡ Some node → Permits node names

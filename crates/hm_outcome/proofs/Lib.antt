@@ -2,6 +2,9 @@ pub mod Marks
 pub mod Forced
 pub mod Best
 pub mod Settled
+pub mod OneSided
 pub mod Downward
 pub mod Search
+pub mod TopmostLists
 pub mod Examples
+pub mod Apart

@@ -92,10 +92,10 @@ pub record IsUnderTopmost (archive : View) (p : Path) : Type 0 where
   pub is : p ≡ top ++ rest
   pub mark : IsTopmostMark archive top
 
-at_root : (o : View) → o [] ≡ Marked → IsTopmostMark o []
+pub at_root : (o : View) → o [] ≡ Marked → IsTopmostMark o []
 at_root o m = record { marked = m; topmost = λ q r e n. absurd (n (nothing_above q r e)) }
 
-below_root : (o : View) (k : Name) (t : Path) → o [] ≢ Marked → IsTopmostMark (down (k ∷ []) o) t → IsTopmostMark o (k ∷ t)
+pub below_root : (o : View) (k : Name) (t : Path) → o [] ≢ Marked → IsTopmostMark (down (k ∷ []) o) t → IsTopmostMark o (k ∷ t)
 below_root o k t root top = record { marked = top.marked; topmost = above }
   where
     above : (q r : Path) → k ∷ t ≡ q ++ r → r ≢ [] → o q ≢ Marked

@@ -86,7 +86,7 @@ pub one_set : {P : Name → Type 0} (xs ys : Names) → ((k : Name) → IsTrue (
 one_set xs ys f g = same_names xs ys (λ k. both_ways _ _ (λ h. (g k).1 ((f k).0 h)) (λ h. (f k).1 ((g k).0 h)))
 
 -- the node of a path that a member has permits its names there
-permits_own : (s : SchemaValue) (i : NodeId) (a : View) (p : Path) (n : NodeValue) (names : Names) → IsMember s i a → Has a p → node_of s i p ≡ Some n → HasNames (down p a) names → Permits n names
+pub permits_own : (s : SchemaValue) (i : NodeId) (a : View) (p : Path) (n : NodeValue) (names : Names) → IsMember s i a → Has a p → node_of s i p ≡ Some n → HasNames (down p a) names → Permits n names
 permits_own s i a p n names m h is has =
     let x = m p h in
     subst (λ n. Permits n names) (same_Some x.node n (sym x.is ∙ is)) (subst (Permits x.node) (one_set x.allowed.names names x.allowed.has has) x.allowed.permitted)

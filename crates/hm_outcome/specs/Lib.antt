@@ -3,3 +3,4 @@ pub mod Carried
 pub mod Contested
 pub mod Outcomes
 pub mod TopmostMarks
+pub mod TopmostList

@@ -26,6 +26,13 @@ missing_none (Some a) e = absurd (stands a e)
 missing_member : (s : SchemaValue) (i : NodeId) → IsMember s i (state {m = false} None)
 missing_member s i p h = absurd (has_and_lacks h refl)
 
+-- what one side alone has, the archive knows and doesn't hold is lost on the other side
+pub news_lost : (o : Archive) (t : Tree) → state o [] ≢ Missing → ¬ (IsWithin (Some t) o) → IsLost (state o) (state (Some t)) (state {m = false} None) []
+news_lost o t known apart = elim (within_or_news t o) [
+  | inl within ↦ absurd (apart within)
+  | inr news ↦ record { has = state_root t; lacks = refl; known = known; news = news }
+]
+
 module _ (s : SchemaValue) (i : NodeId) (o : Archive) (t : Tree) where
   -- where the archive knows nothing of it, the other side takes it
   module _ (unknown : state o [] ≡ Missing) (member : IsMember s i (state (Some t))) where
@@ -37,20 +44,17 @@ module _ (s : SchemaValue) (i : NodeId) (o : Archive) (t : Tree) where
 
   -- where the archive knows it, and it isn't within the archive, it is contested
   module _ (known : state o [] ≢ Missing) (apart : ¬ (IsWithin (Some t) o)) where
-    news_lost : IsLost (state o) (state (Some t)) (state {m = false} None) []
-    news_lost = elim (within_or_news t o) [
-      | inl within ↦ absurd (apart within)
-      | inr news ↦ record { has = state_root t; lacks = refl; known = known; news = news }
-    ]
+    lost_here : IsLost (state o) (state (Some t)) (state {m = false} None) []
+    lost_here = news_lost o t known apart
 
     left_contested : (r : State) → state o [] ≡ r → IsContested s i (views (on_left o t)) []
     left_contested Missing e = absurd (known e)
-    left_contested Present e = lost e (inl news_lost)
+    left_contested Present e = lost e (inl lost_here)
     left_contested Marked e = earlier e ([], λ a. has_and_lacks (agree_has a (state_root t)) refl)
 
     right_contested : (r : State) → state o [] ≡ r → IsContested s i (views (on_right o t)) []
     right_contested Missing e = absurd (known e)
-    right_contested Present e = lost e (inr news_lost)
+    right_contested Present e = lost e (inr lost_here)
     right_contested Marked e = earlier e ([], λ a. has_and_lacks (has_agree a (state_root t)) refl)
 
     module _ (member : IsMember s i (state (Some t))) where

@@ -43,7 +43,7 @@ pub record IsGathered (s : SchemaValue) (i : NodeId) (before : Trio) (passed : N
 
 -- ---- one name more
 
-tied_same : (k : Name) → eq_by_cmp name_cmp k k ≡ true
+pub tied_same : (k : Name) → eq_by_cmp name_cmp k k ≡ true
 tied_same k = ap is_eq (tied_itself name_total k)
 
 module _ (k : Name) where
@@ -137,6 +137,19 @@ there_is t k = (λ some. state_down t k [] ∙ to (below k t) some, λ has. from
 tree_names : (t : Tree) → HasNames (state (Some t)) (names_of t)
 tree_names t k = (λ there. (there_is t k).0 (sym (names_of-below t k) ∙ there), λ has. names_of-below t k ∙ (there_is t k).1 has)
 
+-- what is carried under a name is so by what stands there
+pub carried_under : (o : Archive) (mine other : Tree) (k : Name) → state o [] ≢ Marked → IsCarried (state o) (state (Some mine)) (state (Some other)) (k ∷ []) ↔ IsCarried (state (under k o)) (state (below k mine)) (state (below k other)) []
+carried_under o mine other k unmarked = (
+  λ c. subst (λ v. IsCarried v.archive v.left v.right []) (sym views_here) (lower.0 c),
+  λ c. lower.1 (subst (λ v. IsCarried v.archive v.left v.right []) views_here c),
+)
+  where
+    views_here : views (child k (given o mine other)) ≡ views_below k (views (given o mine other))
+    views_here = views_child k (given o mine other) unmarked
+
+    lower : IsCarried (state o) (state (Some mine)) (state (Some other)) (k ∷ []) ↔ IsCarried (down (k ∷ []) (state o)) (down (k ∷ []) (state (Some mine))) (down (k ∷ []) (state (Some other))) []
+    lower = carried_below k (state o) (state (Some mine)) (state (Some other)) []
+
 -- a name is carried to a side just where the result has it, if that is so below the name
 module _ (s : SchemaValue) (i : NodeId) (o : Archive) (unmarked : state o [] ≢ Marked) (mine other result : Tree) (k : Name) where
   no_side : (t : Tree) → below k t ≡ None → ¬ (Has (state (Some t)) (k ∷ []))
@@ -145,11 +158,8 @@ module _ (s : SchemaValue) (i : NodeId) (o : Archive) (unmarked : state o [] ≢
   name_carried : (child_at s i k ≡ None → (below k mine ≡ None) × (below k other ≡ None) × (below k result ≡ None)) → ((j : NodeId) → child_at s i k ≡ Some j → IsCarried (state (under k o)) (state (below k mine)) (state (below k other)) [] ↔ Has (state (below k result)) []) → IsCarried (state o) (state (Some mine)) (state (Some other)) (k ∷ []) ↔ Has (state (Some result)) (k ∷ [])
   name_carried nothing_there root = go (child_at s i k) refl
     where
-      views_here : views_below k (views (given o mine other)) ≡ views (child k (given o mine other))
-      views_here = sym (views_child k (given o mine other) unmarked)
-
-      lower : IsCarried (state o) (state (Some mine)) (state (Some other)) (k ∷ []) ↔ IsCarried (down (k ∷ []) (state o)) (down (k ∷ []) (state (Some mine))) (down (k ∷ []) (state (Some other))) []
-      lower = carried_below k (state o) (state (Some mine)) (state (Some other)) []
+      here : IsCarried (state o) (state (Some mine)) (state (Some other)) (k ∷ []) ↔ IsCarried (state (under k o)) (state (below k mine)) (state (below k other)) []
+      here = carried_under o mine other k unmarked
 
       nowhere : child_at s i k ≡ None → IsCarried (state o) (state (Some mine)) (state (Some other)) (k ∷ []) → ⊥
       nowhere none (on_both has_mine has_other) = no_side mine (nothing_there none).0 has_mine
@@ -159,8 +169,8 @@ module _ (s : SchemaValue) (i : NodeId) (o : Archive) (unmarked : state o [] ≢
 
       go : (c : Option NodeId) → child_at s i k ≡ c → IsCarried (state o) (state (Some mine)) (state (Some other)) (k ∷ []) ↔ Has (state (Some result)) (k ∷ [])
       go (Some j) leads = (
-        λ c. state_down result k [] ∙ (root j leads).0 (subst (λ v. IsCarried v.archive v.left v.right []) views_here (lower.0 c)),
-        λ has. lower.1 (subst (λ v. IsCarried v.archive v.left v.right []) (sym views_here) ((root j leads).1 (sym (state_down result k []) ∙ has))),
+        λ c. state_down result k [] ∙ (root j leads).0 (here.0 c),
+        λ has. here.1 ((root j leads).1 (sym (state_down result k []) ∙ has)),
       )
       go None none = (λ c. absurd (nowhere none c), λ has. absurd (no_side result (nothing_there none).2 has))
 

@@ -4,4 +4,6 @@ pub mod Gathered
 pub mod Falling
 pub mod Nodes
 pub mod TopmostAppend
-pub mod TopmostLists
+pub mod FirstNews
+pub mod CarriedNames
+pub mod Shown

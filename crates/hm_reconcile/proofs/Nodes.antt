@@ -20,7 +20,7 @@ use Rattle.hm_outcome.specs.Outcomes.{IsOutcome}
 use Rattle.hm_outcome.proofs.Search.{same_or_differ}
 use Rattle.hm_outcome.proofs.Settled.{equal_sides, stopped}
 use Rattle.hm_outcome.proofs.Downward.{child}
-use Rattle.hm_reconcile.specs.declared.Outcome.{Outcome}
+use Rattle.hm_reconcile.specs.declared.trees.Trees.{Trees}
 use Rattle.hm_reconcile.specs.Gathering.{outcome_of}
 use Rattle.hm_reconcile.specs.Walking.{Passed, IsInEither}
 use Rattle.hm_reconcile.proofs.Walking.{none_passed}
@@ -29,7 +29,7 @@ use Rattle.hm_reconcile.proofs.Gathered.{IsGathered, no_node}
 
 -- ---- what is given, by what is known of it
 
-pub comes_to : (s : SchemaValue) (i : NodeId) (before after : Trio) (r : Result Outcome Memory) → IfOk r (λ o. outcome_of o ≡ after) → IsOutcome s i before after → IfOk r (λ o. IsOutcome s i before (outcome_of o))
+pub comes_to : (s : SchemaValue) (i : NodeId) (before after : Trio) (r : Result Trees Memory) → IfOk r (λ o. outcome_of o ≡ after) → IsOutcome s i before after → IfOk r (λ o. IsOutcome s i before (outcome_of o))
 comes_to s i before after (Ok o) is outcome = subst (IsOutcome s i before) (sym is) outcome
 comes_to s i before after (Err e) is outcome = tt
 
@@ -103,8 +103,3 @@ pub settled_here : (s : SchemaValue) (i j : NodeId) (o c : Archive) (a b : Tree)
 settled_here s i j o c a b k one two here leads at left right outcome l leads_too =
     subst (λ z. IsOutcome s z (child k (given o a b)) here) (same_Some j l (sym leads ∙ leads_too))
     (subst (λ (z : Archive × Option Tree × Option Tree). IsOutcome s j (record { archive = z.0; left = z.1; right = z.2 }) here) (λ x. (at x, left x, right x)) outcome)
-
--- what holds of each outcome holds of the one that was made
-pub of_outcome : (s : SchemaValue) (i : NodeId) (before : Trio) (P : Trio → Type 0) → ((after : Trio) → IsOutcome s i before after → P after) → (r : Result Outcome Memory) → IfOk r (λ o. IsOutcome s i before (outcome_of o)) → IfOk r (λ o. P (outcome_of o))
-of_outcome s i before P holds (Ok o) outcome = holds (outcome_of o) outcome
-of_outcome s i before P holds (Err e) outcome = tt

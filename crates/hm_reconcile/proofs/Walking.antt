@@ -16,7 +16,7 @@ use Rattle.hm_reconcile.specs.Walking.{StandsBefore, IsSplit, IsAmong, Passed, I
 
 -- ---- the edges of a tree
 
-not_before_itself : (k : Name) → name_cmp k k ≡ Less → ⊥
+pub not_before_itself : (k : Name) → name_cmp k k ≡ Less → ⊥
 not_before_itself k e = let bad : Equal ≡ Less = sym (tied_itself name_total k) ∙ e in cc
 
 rising : (t : Tree) (i j : ℕ) (e f : Name × Tree) → i < j → slice_get (edges t) i ≡ Some e → slice_get (edges t) j ≡ Some f → name_cmp e.0 f.0 ≡ Less
@@ -32,7 +32,7 @@ not_equal Greater n = refl
 absent : (k : Name) (es : List (Name × Tree)) → ((i : ℕ) (e : Name × Tree) → slice_get es i ≡ Some e → name_cmp k e.0 ≡ Equal → ⊥) → find name_cmp k es ≡ None
 absent k es n = not_found k es (λ j d lt. not_equal _ (n j _ (slice_get-get_or es j d lt)))
 
-find_place : (k : Name) (es : List (Name × Tree)) (c : Tree) → find name_cmp k es ≡ Some c → (i : ℕ) × (slice_get es i ≡ Some (k, c))
+pub find_place : (k : Name) (es : List (Name × Tree)) (c : Tree) → find name_cmp k es ≡ Some c → (i : ℕ) × (slice_get es i ≡ Some (k, c))
 find_place k [] c e = absurd (none-some c e)
 find_place k (x ∷ es) c e = go (eq_by_cmp name_cmp k x.0) refl e (find_place k es c)
   where
@@ -151,7 +151,7 @@ in_both left right at other n m c d split one two tie = record {
       | inr e ↦ inl ((among_more left at n c one k).1 (inr e))
     ]
 
-either_way : (one two : Option Tree) → IsInEither one two → IsInEither two one
+pub either_way : (one two : Option Tree) → IsInEither one two → IsInEither two one
 either_way None None h = h
 either_way None (Some d) h = refl
 either_way (Some c) None h = refl

@@ -1,8 +1,8 @@
 //! Reconciling the two sides of a node, name by name.
-ghost use Rattle.std.specs.Prelude.{◌≡◌, ◌+◌, ◌^◌, ◌<◌, ◌≤◌, [], Some, None, IfOk, OnOk, IsTrue, IsSome, length, option_copied};
+ghost use Rattle.std.specs.Prelude.{◌≡◌, ◌<◌, [], Some, None, IfOk, OnOk, length, option_copied};
 ghost use Rattle.hm_tree.specs.declared.archive.State.TheVariants.{Present};
-ghost use Rattle.hm_tree.specs.Nodes.{below, edges, marked};
-ghost use Rattle.hm_tree.specs.Archives.{under, recorded, with_archive};
+ghost use Rattle.hm_tree.specs.Nodes.{below};
+ghost use Rattle.hm_tree.specs.Archives.{under, with_archive};
 ghost use Rattle.hm_tree.specs.States.{state};
 ghost use Rattle.hm_schema.specs.Membership.{HasNoTwins, IsMember};
 ghost use Rattle.hm_schema.specs.declared.node.NodeId.{NodeId};
@@ -11,11 +11,11 @@ ghost use Rattle.hm_outcome.specs.Trios.{given, views, AreMembers};
 ghost use Rattle.hm_outcome.specs.Outcomes.{IsOutcome};
 ghost use Rattle.hm_reconcile.specs.Gathering.{with_side, with_trio, outcome_of};
 ghost use Rattle.hm_reconcile.specs.Sides.{sides_of};
-ghost use Rattle.hm_reconcile.specs.Walking.{place_behind, IsInEither};
+ghost use Rattle.hm_reconcile.specs.Walking.{IsInEither};
 
-use crate::Outcome;
 use crate::side::{Sides, left_alone, right_alone};
-use crate::walk::next_step;
+use crate::trees::{Trees, all_as, stopped, with_room};
+use crate::walk::{behind, next_step};
 use hm_schema::{NodeId, Schema};
 use hm_tree::{Archive, Memory, Name, State, Tree};
 use std::alloc::Global;
@@ -23,28 +23,6 @@ use std::alloc::Global;
 // Equal sides come through whole. Sides that aren't marked are compared only where they are no deeper than this, so
 // that what lies far below is not compared again at each node above it.
 const SHALLOW: usize = 4;
-
-// Two equal sides: all three become so.
-fn all_as(tree: &Tree) -> Result<Outcome, Memory>
-    ensures { IfOk result (λ o. outcome_of o ≡ given (Some (recorded tree.now)) tree.now tree.now) }
-{
-    Ok(Outcome {
-        archive: Archive::of_tree(tree)?,
-        left: tree.copy()?,
-        right: tree.copy()?,
-    })
-}
-
-// A mark, and both sides as they are.
-fn stopped(alloc: Global, left: &Tree, right: &Tree) -> Result<Outcome, Memory>
-    ensures { IfOk result (λ o. outcome_of o ≡ given (Some marked) left.now right.now) }
-{
-    Ok(Outcome {
-        archive: Archive::marked(alloc),
-        left: left.copy()?,
-        right: right.copy()?,
-    })
-}
 
 // Puts what stands under a name into a side, if anything does.
 fn put_side(side: &mut Tree, name: &Name, child: Option<Tree>) -> Result<(), Memory>
@@ -69,7 +47,7 @@ fn put_archive(archive: &mut Archive, name: &Name, child: Archive) -> Result<(),
 }
 
 // Puts what stands under a name into all three.
-fn put(made: &mut Outcome, name: &Name, here: Sides) -> Result<(), Memory>
+fn put(made: &mut Trees, name: &Name, here: Sides) -> Result<(), Memory>
     requires present { state made.old.archive [] ≡ Present }
     requires fresh { under name.now made.old.archive ≡ None }
     requires fresh_left { below name.now made.old.left ≡ None }
@@ -84,18 +62,6 @@ fn put(made: &mut Outcome, name: &Name, here: Sides) -> Result<(), Memory>
     put_archive(&mut made.archive, name, archive)?;
     put_side(&mut made.left, name, left)?;
     put_side(&mut made.right, name, right)
-}
-
-// The place behind a name that a side has, or doesn't have.
-fn behind(side: &Tree, place: usize, child: Option<&Tree>) -> usize
-    requires { place_behind place (option_copied child) ≤ length (edges side.now) }
-    ensures { result ≡ place_behind place (option_copied child.entry) }
-{
-    // A place below the count has a next one.
-    match child {
-        Some(_) if place < side.count() => place + 1,
-        _ => place,
-    }
 }
 
 // What becomes of a name that one side has, or both.
@@ -117,11 +83,7 @@ fn at_name(
     match (left, right) {
         (Some(left), Some(right)) => {
             let made = at_node(alloc, schema, id, archive, left, right)?;
-            Ok(Sides {
-                archive: made.archive,
-                left: Some(made.left),
-                right: Some(made.right),
-            })
+            Ok(Sides::of(made))
         }
         (Some(left), None) => left_alone(alloc, archive, left),
         (None, Some(right)) => right_alone(alloc, archive, right),
@@ -157,7 +119,7 @@ pub fn at_node(
     archive: &Archive,
     left: &Tree,
     right: &Tree,
-) -> Result<Outcome, Memory>
+) -> Result<Trees, Memory>
     requires in_range { id.place < length schema.now.nodes }
     requires no_twins { HasNoTwins schema.now }
     requires members { AreMembers schema.now id (views (given archive.now left.now right.now)) }
@@ -174,30 +136,28 @@ pub fn at_node(
             return all_as(left);
         }
     }
-    let mut made = Outcome {
-        archive: Archive::present(alloc),
-        left: Tree::empty(alloc),
-        right: Tree::empty(alloc),
-    };
+    let mut made = with_room(alloc, left, right)?;
     let mut at = 0;
     let mut other = 0;
+    let mut near = 0;
     loop {
         let Some(step) = next_step(left, at, right, other) else {
             break;
         };
         let child = schema.child(id, step.name);
-        let here = match archive.child(step.name) {
-            Some(under) => at_name(alloc, schema, child, under, step.left, step.right)?,
+        // The archive's names rise too: the next is looked for first behind the one found last.
+        let here = match archive.child_near(step.name, near) {
+            Some((under, next)) => {
+                near = next;
+                at_name(alloc, schema, child, under, step.left, step.right)?
+            }
             None => at_new_name(alloc, schema, child, step.left, step.right)?,
         };
         put(&mut made, step.name, here)?;
         at = behind(left, at, step.left);
         other = behind(right, other, step.right);
     }
-    if !schema.permits(id, &made.left) {
-        return stopped(alloc, left, right);
-    }
-    if !schema.permits(id, &made.right) {
+    if !schema.permits(id, &made.left) || !schema.permits(id, &made.right) {
         return stopped(alloc, left, right);
     }
     Ok(made)

@@ -2,7 +2,9 @@
 ghost use Rattle.std.specs.Prelude.{◌≡◌, IfOk};
 ghost use Rattle.hm_reconcile.specs.Sides.{sides_of, on_left, on_right, recorded_on_both, on_neither, Settles};
 ghost use Rattle.hm_reconcile.specs.Fates.{HasFate};
+ghost use Rattle.hm_reconcile.specs.Gathering.{outcome_of};
 
+use crate::trees::{Trees, all_as};
 use hm_tree::{Archive, Memory, State, Tree};
 use std::alloc::Global;
 
@@ -14,18 +16,31 @@ pub struct Sides {
     pub right: Option<Tree>,
 }
 
-// What becomes of a subtree that one side alone has.
-enum Fate {
-    // It is new: the other side takes it.
+impl Sides {
+    /// Both sides are there.
+    pub fn of(made: Trees) -> Sides
+        ensures { sides_of result ≡ outcome_of made }
+    {
+        Sides {
+            archive: made.archive,
+            left: Some(made.left),
+            right: Some(made.right),
+        }
+    }
+}
+
+/// What becomes of a subtree that one side alone has.
+pub enum Fate {
+    /// It is new: the other side takes it.
     Carried,
-    // The other side deleted it, and it has no news: it goes.
+    /// The other side deleted it, and it has no news: it goes.
     Dropped,
-    // The other side deleted it, and it has news: it stays, under a mark.
+    /// The other side deleted it, and it has news: it stays, under a mark.
     Contested,
 }
 
-// What becomes of a tree that one side alone has.
-fn fate_of(archive: &Archive, tree: &Tree) -> Fate
+/// What becomes of a tree that one side alone has.
+pub fn fate_of(archive: &Archive, tree: &Tree) -> Fate
     ensures { HasFate archive.now tree.now result }
 {
     if let State::Missing = archive.root() {
@@ -71,11 +86,7 @@ pub fn right_alone(alloc: Global, archive: &Archive, tree: &Tree) -> Result<Side
 fn on_both(tree: &Tree) -> Result<Sides, Memory>
     ensures { IfOk result (λ r. sides_of r ≡ recorded_on_both tree.now) }
 {
-    Ok(Sides {
-        archive: Archive::of_tree(tree)?,
-        left: Some(tree.copy()?),
-        right: Some(tree.copy()?),
-    })
+    Ok(Sides::of(all_as(tree)?))
 }
 
 // Nothing on either side, nor in the archive.

@@ -1,7 +1,7 @@
 //! Walking the names of two trees in one order.
-ghost use Rattle.std.specs.Prelude.{MatchOption, option_copied};
+ghost use Rattle.std.specs.Prelude.{◌≡◌, ◌≤◌, length, MatchOption, option_copied};
 ghost use Rattle.hm_tree.specs.Nodes.{edges};
-ghost use Rattle.hm_reconcile.specs.Walking.{IsSplit, IsAtEnd, IsStep};
+ghost use Rattle.hm_reconcile.specs.Walking.{IsSplit, IsAtEnd, IsStep, place_behind};
 
 use hm_tree::{Name, Tree};
 use std::cmp::Ordering;
@@ -55,5 +55,17 @@ pub fn next_step<'a>(left: &'a Tree, at: usize, right: &'a Tree, other: usize) -
             left: None,
             right: Some(child_there),
         }),
+    }
+}
+
+/// The place behind a name that a side has, or doesn't have.
+pub fn behind(side: &Tree, place: usize, child: Option<&Tree>) -> usize
+    requires { place_behind place (option_copied child) ≤ length (edges side.now) }
+    ensures { result ≡ place_behind place (option_copied child.entry) }
+{
+    // A place below the count has a next one.
+    match child {
+        Some(_) if place < side.count() => place + 1,
+        _ => place,
     }
 }

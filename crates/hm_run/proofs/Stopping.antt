@@ -12,10 +12,11 @@ use Rattle.hm_command.specs.declared.ending.Slot.TheVariants.{Archive, Left, Rig
 use Rattle.hm_command.specs.declared.ending.Refusal.{Refusal}
 use Rattle.hm_command.specs.declared.ending.Refusal.TheVariants.{Usage, SameName, Missing, TooLarge, BadSchema, BadArchive, BadReplica, Overgrown}
 use Rattle.hm_command.specs.declared.ending.Stop.{Stop}
+use Rattle.hm_command.specs.declared.ending.Report.{Report}
 use Rattle.hm_command.specs.declared.ending.Stop.TheVariants.{Refused, ReadFault, WriteFault, Memory}
 use Rattle.hm_command.specs.Words.{FileNames, name_of, apart, meaning}
 use Rattle.hm_run.specs.Steps.{stops, goes_on}
-use Rattle.hm_run.specs.Verdict.{Bytes, Texts, Trees, Synced, Plan, LoadsAll, ReadsAll, Becomes, reconciled, HasConflicts, Measures, within, overgrown, MeasuresAll, Plans, Verdict, texts_of, written}
+use Rattle.hm_run.specs.Verdict.{Bytes, Texts, Trees, Synced, Plan, LoadsAll, ReadsAll, Becomes, reconciled, IsReport, Measures, within, overgrown, MeasuresAll, Plans, Verdict, texts_of, written}
 use Rattle.hm_run.specs.Seen.{itself, Follows, StopsReading}
 use Rattle.hm_run.specs.Writing.{place_of, StopsWriting, WritesAll}
 use Rattle.hm_run.specs.Causes.{HasMeaning, HasStopCause, IsMeant, IsStopState, IsDone, Synchronises}
@@ -52,20 +53,20 @@ meant_by : (words : List Name) (refusal : Refusal) → OfWords refusal → meani
 meant_by words _ usage e = e
 meant_by words _ same_name e = e
 
-pub words_cause : (words : List Name) (refusal : Refusal) (before after : List Failure) (r : Result ℕ Stop) → meaning words ≡ Err refusal → r ≡ Err (Refused refusal) → HasStopCause words before after r
+pub words_cause : (words : List Name) (refusal : Refusal) (before after : List Failure) (r : Result Report Stop) → meaning words ≡ Err refusal → r ≡ Err (Refused refusal) → HasStopCause words before after r
 words_cause words refusal before after r e is =
-    let R : Result ℕ Stop → Type 0 = λ s. HasStopCause words before after s in
+    let R : Result Report Stop → Type 0 = λ s. HasStopCause words before after s in
     subst R (sym is) (meant_by words refusal (of_words words refusal e) e)
 
-pub words_told : (words : List Name) (c : Contents) (refusal : Refusal) (r : Result ℕ Stop) (left : Option Contents) → meaning words ≡ Err refusal → r ≡ Err (Refused refusal) → left ≡ Some c → Synchronises words c r left
+pub words_told : (words : List Name) (c : Contents) (refusal : Refusal) (r : Result Report Stop) (left : Option Contents) → meaning words ≡ Err refusal → r ≡ Err (Refused refusal) → left ≡ Some c → Synchronises words c r left
 unfolding Verdict
 words_told words c refusal r left e is same =
-    let R : Result ℕ Stop → Type 0 = λ s. Synchronises words c s left in
+    let R : Result Report Stop → Type 0 = λ s. Synchronises words c s left in
     subst R (sym is) (record { first = stops (sym e); same = same })
 
 -- ---- loading and reading
 
-reading_by : (A : Type 0) (words : List Name) (files : FileNames) (before after : List Failure) (stop : Stop) → meaning words ≡ Ok files → StopsReading {A = A} (λ at. HasRisen Load (name_of files at) before after) (Err stop) → HasStopCause {A = ℕ} words before after (Err stop)
+reading_by : (A : Type 0) (words : List Name) (files : FileNames) (before after : List Failure) (stop : Stop) → meaning words ≡ Ok files → StopsReading {A = A} (λ at. HasRisen Load (name_of files at) before after) (Err stop) → HasStopCause {A = Report} words before after (Err stop)
 reading_by A words files before after (Refused Usage) meant h = absurd h
 reading_by A words files before after (Refused (SameName one two)) meant h = absurd h
 reading_by A words files before after (Refused (Missing slot)) meant h = record { files = files; is = meant }
@@ -78,9 +79,9 @@ reading_by A words files before after (ReadFault slot) meant h = record { files 
 reading_by A words files before after (WriteFault slot) meant h = absurd h
 reading_by A words files before after Memory meant h = tt
 
-pub reading_cause : (A : Type 0) (words : List Name) (files : FileNames) (before after : List Failure) (stop : Stop) (r : Result ℕ Stop) → r ≡ Err stop → meaning words ≡ Ok files → StopsReading {A = A} (λ at. HasRisen Load (name_of files at) before after) (Err stop) → HasStopCause words before after r
+pub reading_cause : (A : Type 0) (words : List Name) (files : FileNames) (before after : List Failure) (stop : Stop) (r : Result Report Stop) → r ≡ Err stop → meaning words ≡ Ok files → StopsReading {A = A} (λ at. HasRisen Load (name_of files at) before after) (Err stop) → HasStopCause words before after r
 reading_cause A words files before after stop r is meant h =
-    let R : Result ℕ Stop → Type 0 = λ s. HasStopCause words before after s in
+    let R : Result Report Stop → Type 0 = λ s. HasStopCause words before after s in
     subst R (sym is) (reading_by A words files before after stop meant h)
 
 -- a stop without a fault of the store has any cause
@@ -108,9 +109,9 @@ module _ (words : List Name) (c : Contents) (files : FileNames) (meant : meaning
   unfolding Verdict
   loads_first refusal h = goes_on (sym meant) (stops h)
 
-  pub loads_told : (A : Type 0) (seen : A → Bytes) (Q : Slot → Type 0) (stop : Stop) (r : Result ℕ Stop) (left : Option Contents) → r ≡ Err stop → StopsReading {A = A} Q (Err stop) → Follows seen (Err stop) (LoadsAll c files) → left ≡ Some c → Synchronises words c r left
+  pub loads_told : (A : Type 0) (seen : A → Bytes) (Q : Slot → Type 0) (stop : Stop) (r : Result Report Stop) (left : Option Contents) → r ≡ Err stop → StopsReading {A = A} Q (Err stop) → Follows seen (Err stop) (LoadsAll c files) → left ≡ Some c → Synchronises words c r left
   loads_told A seen Q stop r left is h f same =
-      let R : Result ℕ Stop → Type 0 = λ s. Synchronises words c s left in
+      let R : Result Report Stop → Type 0 = λ s. Synchronises words c s left in
       subst R (sym is) (told_by A Q words c stop left h (found_by Bytes A (LoadsAll c files) (Verdict c words) seen stop loads_first f) same)
 
   module _ (bytes : Bytes) (loads : LoadsAll c files (Ok bytes)) where
@@ -118,9 +119,9 @@ module _ (words : List Name) (c : Contents) (files : FileNames) (meant : meaning
     unfolding Verdict
     reads_first refusal h = goes_on (sym meant) (goes_on loads (stops h))
 
-    pub reads_told : (A : Type 0) (seen : A → Trees) (Q : Slot → Type 0) (stop : Stop) (r : Result ℕ Stop) (left : Option Contents) → r ≡ Err stop → StopsReading {A = A} Q (Err stop) → Follows seen (Err stop) (ReadsAll bytes) → left ≡ Some c → Synchronises words c r left
+    pub reads_told : (A : Type 0) (seen : A → Trees) (Q : Slot → Type 0) (stop : Stop) (r : Result Report Stop) (left : Option Contents) → r ≡ Err stop → StopsReading {A = A} Q (Err stop) → Follows seen (Err stop) (ReadsAll bytes) → left ≡ Some c → Synchronises words c r left
     reads_told A seen Q stop r left is h f same =
-        let R : Result ℕ Stop → Type 0 = λ s. Synchronises words c s left in
+        let R : Result Report Stop → Type 0 = λ s. Synchronises words c s left in
         subst R (sym is) (told_by A Q words c stop left h (found_by Trees A (ReadsAll bytes) (Verdict c words) seen stop reads_first f) same)
 
     module _ (before : Trees) (reads : ReadsAll bytes (Ok before)) (after : Synced) (becomes : Becomes before after) (new : Texts) (texts : new ≡ texts_of after) where
@@ -128,9 +129,9 @@ module _ (words : List Name) (c : Contents) (files : FileNames) (meant : meaning
       unfolding Verdict Plans
       measures_first refusal h = goes_on (sym meant) (goes_on loads (goes_on reads (goes_on (reconciled becomes) (stops h))))
 
-      pub measures_told : (refusal : Refusal) (r : Result ℕ Stop) (left : Option Contents) → r ≡ Err (Refused refusal) → MeasuresAll new (Err refusal) → left ≡ Some c → Synchronises words c r left
+      pub measures_told : (refusal : Refusal) (r : Result Report Stop) (left : Option Contents) → r ≡ Err (Refused refusal) → MeasuresAll new (Err refusal) → left ≡ Some c → Synchronises words c r left
       measures_told refusal r left is h same =
-          let R : Result ℕ Stop → Type 0 = λ s. Synchronises words c s left in
+          let R : Result Report Stop → Type 0 = λ s. Synchronises words c s left in
           subst R (sym is) (record { first = measures_first refusal (subst (λ t. MeasuresAll t (Err refusal)) texts h); same = same })
 
       module _ (sizes : MeasuresAll new (Ok tt)) where
@@ -151,15 +152,15 @@ module _ (words : List Name) (c : Contents) (files : FileNames) (meant : meaning
         writes_by A (WriteFault slot) left h = ⊎_elim (λ old. inl (state left (place_of slot) old)) (λ now. inr (state left (place_of slot + 1) now)) h
         writes_by A Memory left h = inr (h.0, state left h.0 h.1)
 
-        pub writes_told : (A : Type 0) (stop : Stop) (r : Result ℕ Stop) (left : Option Contents) → r ≡ Err stop → WritesAll {A = A} c files new (Err stop) left → Synchronises words c r left
+        pub writes_told : (A : Type 0) (stop : Stop) (r : Result Report Stop) (left : Option Contents) → r ≡ Err stop → WritesAll {A = A} c files new (Err stop) left → Synchronises words c r left
         writes_told A stop r left is h =
-            let R : Result ℕ Stop → Type 0 = λ s. Synchronises words c s left in
+            let R : Result Report Stop → Type 0 = λ s. Synchronises words c s left in
             let W : Texts → Type 0 = λ b. WritesAll {A = A} c files b (Err stop) left in
             subst R (sym is) (writes_by A stop left (subst W texts h))
 
-        pub done_told : (conflicts : ℕ) (left : Option Contents) → HasConflicts after.archive conflicts → left ≡ Some (written c files new 3) → IsDone words c conflicts left
+        pub done_told : (report : Report) (left : Option Contents) → IsReport before after report → left ≡ Some (written c files new 3) → IsDone words c report left
         unfolding plan state
-        done_told conflicts left tells is = record { state = state left 3 (is ∙ ap (λ (b : Texts). Some (written c files b 3)) texts); tells = tells }
+        done_told report left tells is = record { state = state left 3 (is ∙ ap (λ (b : Texts). Some (written c files b 3)) texts); tells = tells }
 
 -- ---- the sizes of the new files
 
@@ -173,20 +174,20 @@ measures_all_meant words has new refusal r e (stops h) = measures_meant words ha
 measures_all_meant words has new refusal r e (goes_on h (stops k)) = measures_meant words has Right new.right refusal r e k
 measures_all_meant words has new refusal r e (goes_on h (goes_on k l)) = measures_meant words has Archive new.archive refusal r e l
 
-pub measures_cause : (words : List Name) (files : FileNames) (new : Texts) (refusal : Refusal) (before after : List Failure) (r : Result ℕ Stop) → r ≡ Err (Refused refusal) → meaning words ≡ Ok files → MeasuresAll new (Err refusal) → HasStopCause words before after r
+pub measures_cause : (words : List Name) (files : FileNames) (new : Texts) (refusal : Refusal) (before after : List Failure) (r : Result Report Stop) → r ≡ Err (Refused refusal) → meaning words ≡ Ok files → MeasuresAll new (Err refusal) → HasStopCause words before after r
 measures_cause words files new refusal before after r is meant h =
-    let R : Result ℕ Stop → Type 0 = λ s. HasStopCause words before after s in
+    let R : Result Report Stop → Type 0 = λ s. HasStopCause words before after s in
     subst R (sym is) (measures_all_meant words (record { files = files; is = meant }) new refusal (Err refusal) refl h)
 
 -- ---- the writes
 
-writes_cause_by : (A : Type 0) (words : List Name) (files : FileNames) (before mid after : List Failure) (stop : Stop) → meaning words ≡ Ok files → Extends before mid → StopsWriting {A = A} (λ at. HasRisen Replace (name_of files at) mid after) (Err stop) → HasStopCause {A = ℕ} words before after (Err stop)
+writes_cause_by : (A : Type 0) (words : List Name) (files : FileNames) (before mid after : List Failure) (stop : Stop) → meaning words ≡ Ok files → Extends before mid → StopsWriting {A = A} (λ at. HasRisen Replace (name_of files at) mid after) (Err stop) → HasStopCause {A = Report} words before after (Err stop)
 writes_cause_by A words files before mid after (Refused refusal) meant more h = absurd h
 writes_cause_by A words files before mid after (ReadFault slot) meant more h = absurd h
 writes_cause_by A words files before mid after (WriteFault slot) meant more h = record { files = files; meant = meant; risen = risen_since more h }
 writes_cause_by A words files before mid after Memory meant more h = tt
 
-pub writes_cause : (A : Type 0) (words : List Name) (files : FileNames) (before mid after : List Failure) (stop : Stop) (r : Result ℕ Stop) → r ≡ Err stop → meaning words ≡ Ok files → Extends before mid → StopsWriting {A = A} (λ at. HasRisen Replace (name_of files at) mid after) (Err stop) → HasStopCause words before after r
+pub writes_cause : (A : Type 0) (words : List Name) (files : FileNames) (before mid after : List Failure) (stop : Stop) (r : Result Report Stop) → r ≡ Err stop → meaning words ≡ Ok files → Extends before mid → StopsWriting {A = A} (λ at. HasRisen Replace (name_of files at) mid after) (Err stop) → HasStopCause words before after r
 writes_cause A words files before mid after stop r is meant more h =
-    let R : Result ℕ Stop → Type 0 = λ s. HasStopCause words before after s in
+    let R : Result Report Stop → Type 0 = λ s. HasStopCause words before after s in
     subst R (sym is) (writes_cause_by A words files before mid after stop meant more h)

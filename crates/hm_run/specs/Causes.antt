@@ -10,9 +10,10 @@ use Rattle.hm_command.specs.declared.ending.Slot.{Slot}
 use Rattle.hm_command.specs.declared.ending.Refusal.{Refusal}
 use Rattle.hm_command.specs.declared.ending.Refusal.TheVariants.{Usage, SameName, Missing, TooLarge, BadSchema, BadArchive, BadReplica, Overgrown}
 use Rattle.hm_command.specs.declared.ending.Stop.{Stop}
+use Rattle.hm_command.specs.declared.ending.Report.{Report}
 use Rattle.hm_command.specs.declared.ending.Stop.TheVariants.{Refused, ReadFault, WriteFault, Memory}
 use Rattle.hm_command.specs.Words.{FileNames, name_of, meaning}
-use Rattle.hm_run.specs.Verdict.{Plan, Verdict, stop_state, HasConflicts}
+use Rattle.hm_run.specs.Verdict.{Plan, Verdict, stop_state, IsReport}
 use Rattle.hm_run.specs.Writing.{place_of}
 
 -- the words mean something
@@ -51,18 +52,18 @@ pub record IsStopState (words : List Name) (c : Contents) (left : Option Content
   pub planned : Verdict c words (Ok plan)
   pub is : left ≡ Some (stop_state c plan n)
 
--- the whole plan is carried out, and so many conflicts remain
-pub record IsDone (words : List Name) (c : Contents) (conflicts : ℕ) (left : Option Contents) : Type 0 where
+-- the whole plan is carried out, and the report tells the conflicts that remain
+pub record IsDone (words : List Name) (c : Contents) (report : Report) (left : Option Contents) : Type 0 where
   pub state : IsStopState words c left 3
-  pub tells : HasConflicts state.plan.after.archive conflicts
+  pub tells : IsReport state.plan.before state.plan.after report
 
 -- the refusal is the first one that holds, and nothing has changed
 pub record IsRefused (words : List Name) (c : Contents) (refusal : Refusal) (left : Option Contents) : Type 0 where
   pub first : Verdict c words (Err refusal)
   pub same : left ≡ Some c
 
-abbrev pub Synchronises : List Name → Contents → Result ℕ Stop → Option Contents → Type 0
-Synchronises words c (Ok conflicts) left = IsDone words c conflicts left
+abbrev pub Synchronises : List Name → Contents → Result Report Stop → Option Contents → Type 0
+Synchronises words c (Ok report) left = IsDone words c report left
 Synchronises words c (Err (Refused refusal)) left = IsRefused words c refusal left
 Synchronises words c (Err (ReadFault slot)) left = left ≡ Some c
 Synchronises words c (Err (WriteFault slot)) left = IsStopState words c left (place_of slot) ⊎ IsStopState words c left (place_of slot + 1)

@@ -1,19 +1,23 @@
 -- How a run ends: the cause, what it leaves in the store, and what it puts out.
-use Rattle.std.specs.Prelude.{◌≡◌, ◌⊎◌, ℕ, ◌<◌, ◌≤◌, List, ◌++◌, take, Option, Some, Result, Ok, Err}
+use Rattle.std.specs.Prelude.{◌≡◌, ◌⊎◌, ℕ, ◌<◌, ◌≤◌, List, ◌++◌, length, take, Option, Some, Result, Ok, Err}
 use Rattle.hm_tree.specs.Names.{Name}
 use Rattle.hm_outside.specs.Contents.{Contents}
 use Rattle.hm_outside.specs.Failures.{Extends}
 use Rattle.hm_outside.specs.declared.outside.Failure.{Failure}
-use Rattle.hm_tree.specs.States.{state}
+use Rattle.hm_tree.specs.States.{Path, state}
 use Rattle.hm_schema.specs.Membership.{IsMember}
-use Rattle.hm_safety.specs.Safety.{IsSafe}
-use Rattle.hm_outcome.specs.Trios.{Trio, given, views}
+use Rattle.hm_safety.specs.Safety.{IsTopmostMark, IsSafe}
+use Rattle.hm_outcome.specs.Trios.{Trio, given, views, Differ}
 use Rattle.hm_outcome.specs.Outcomes.{IsOutcome, IsMaximal, IsOnlyOne}
 use Rattle.hm_command.specs.declared.ending.Refusal.{Refusal}
 use Rattle.hm_command.specs.declared.ending.Stop.{Stop}
+use Rattle.hm_command.specs.declared.ending.Report.{Report}
 use Rattle.hm_command.specs.declared.ending.Stop.TheVariants.{Refused, ReadFault, WriteFault, Memory}
 use Rattle.hm_command.specs.declared.ending.Ending.{Ending}
 use Rattle.hm_command.specs.declared.ending.Ending.TheVariants.{Stopped, PutFault, Done}
+use Rattle.hm_report.specs.declared.conflict.Conflict.{Conflict}
+use Rattle.hm_report.specs.Conflicts.{AreExplained}
+use Rattle.hm_report.specs.Text.{report_text}
 use Rattle.hm_command.specs.Lines.{output_of, refusal_status, conflicts_status}
 use Rattle.hm_run.specs.Causes.{HasMeaning, HasStopCause, Synchronises, IsDone}
 use Rattle.hm_run.specs.Seen.{WhereTold}
@@ -28,15 +32,15 @@ pub record Outside : Type 0 where
 
 -- why a run ended so, whatever is told
 abbrev pub HasCause : Ending → List Name → Outside → Outside → Type 0
-HasCause (Stopped stop) words before after = HasStopCause {A = ℕ} words before.failed after.failed (Err stop)
-HasCause (PutFault conflicts) words before after = HasMeaning words × (before.faults < after.faults)
-HasCause (Done conflicts) words before after = HasMeaning words
+HasCause (Stopped stop) words before after = HasStopCause {A = Report} words before.failed after.failed (Err stop)
+HasCause (PutFault report) words before after = HasMeaning words × (before.faults < after.faults)
+HasCause (Done report) words before after = HasMeaning words
 
 -- the contents that it leaves
 abbrev pub Leaves : Ending → List Name → Contents → Option Contents → Type 0
 Leaves (Stopped stop) words c left = Synchronises words c (Err stop) left
-Leaves (PutFault conflicts) words c left = IsDone words c conflicts left
-Leaves (Done conflicts) words c left = IsDone words c conflicts left
+Leaves (PutFault report) words c left = IsDone words c report left
+Leaves (Done report) words c left = IsDone words c report left
 
 -- a first part of the text was put behind these bytes
 abbrev pub PutsPart : List ℕ → List ℕ → Option (List ℕ) → Type 0
@@ -52,8 +56,8 @@ Puts (Stopped (Refused refusal)) w before after out = PutsLine (output_of (Stopp
 Puts (Stopped (ReadFault slot)) w before after out = PutsLine (output_of (Stopped (ReadFault slot))) w before after out
 Puts (Stopped (WriteFault slot)) w before after out = PutsLine (output_of (Stopped (WriteFault slot))) w before after out
 Puts (Stopped Memory) w before after out = out ≡ Some w
-Puts (PutFault conflicts) w before after out = PutsPart (output_of (PutFault conflicts)) w out
-Puts (Done conflicts) w before after out = out ≡ Some (w ++ output_of (Done conflicts))
+Puts (PutFault report) w before after out = PutsPart (output_of (PutFault report)) w out
+Puts (Done report) w before after out = out ≡ Some (w ++ output_of (Done report))
 
 -- a run of these words ends so
 pub record EndsAs (ending : Ending) (words : List Name) (before after : Outside) : Type 0 where
@@ -65,14 +69,14 @@ pub record EndsAs (ending : Ending) (words : List Name) (before after : Outside)
 
 -- ---- how the output makes the end
 
-abbrev pub ending_of : Result ℕ Stop → Ending
-ending_of (Ok conflicts) = Done conflicts
+abbrev pub ending_of : Result Report Stop → Ending
+ending_of (Ok report) = Done report
 ending_of (Err stop) = Stopped stop
 
 -- what a fault of the sink makes of an end: a refusal stays one
 abbrev pub after_fault : Ending → Ending
-after_fault (Done conflicts) = PutFault conflicts
-after_fault (PutFault conflicts) = PutFault conflicts
+after_fault (Done report) = PutFault report
+after_fault (PutFault report) = PutFault report
 after_fault (Stopped stop) = Stopped stop
 
 pub data Finishes (given : Ending) (before after : ℕ) (ending : Ending) : Type 0 where
@@ -82,9 +86,11 @@ pub data Finishes (given : Ending) (before after : ℕ) (ending : Ending) : Type
 
 -- ---- what a user relies on
 
--- the status tells whether the new archive has a mark
-abbrev pub TellsConflicts : Plan → ℕ → Type 0
-TellsConflicts plan status = (n : ℕ) × HasConflicts plan.after.archive n × (status ≡ conflicts_status n)
+-- the status tells whether conflicts remain
+pub record TellsConflicts (plan : Plan) (status : ℕ) : Type 0 where
+  pub conflicts : List Conflict
+  pub remain : HasConflicts plan.before plan.after conflicts
+  pub told : status ≡ conflicts_status (length conflicts)
 
 -- what was read, and what it became
 abbrev pub old_trio : Plan → Trio
@@ -106,6 +112,18 @@ pub record IsSynchronised (words : List Name) (c : Contents) (status : ℕ) (lef
   pub best : IsMaximal plan.before.schema plan.before.schema.root (old_trio plan) (new_trio plan)
   pub only : IsOnlyOne plan.before.schema plan.before.schema.root (old_trio plan) (new_trio plan)
   pub tells : TellsConflicts plan status
+
+-- the conflicts that remain are put behind the bytes that were written before; wherever the new replicas don't agree, one
+-- of them alone stands there or above, and it shows why; and at each of them the new replicas differ
+pub record IsReported (words : List Name) (c : Contents) (w : List ℕ) (status : ℕ) (out : Option (List ℕ)) : Type 0 where
+  pub plan : Plan
+  pub planned : Verdict c words (Ok plan)
+  pub conflicts : List Conflict
+  pub remain : HasConflicts plan.before plan.after conflicts
+  pub told : status ≡ conflicts_status (length conflicts)
+  pub put : out ≡ Some (w ++ report_text conflicts)
+  pub explained : AreExplained plan.before.schema plan.before.schema.root (views (old_trio plan)) (views (new_trio plan)) conflicts
+  pub apart : (p : Path) → IsTopmostMark (state plan.after.archive) p → Differ (views (new_trio plan)) p
 
 -- where there is a plan and nothing outside fails, it is carried out, unless memory runs out
 pub record IsComplete (words : List Name) (c : Contents) (status : ℕ) (left : Option Contents) : Type 0 where

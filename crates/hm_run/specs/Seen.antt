@@ -8,7 +8,7 @@ use Rattle.hm_command.specs.declared.ending.Stop.{Stop}
 use Rattle.hm_command.specs.declared.ending.Stop.TheVariants.{Refused, ReadFault, WriteFault, Memory}
 use Rattle.hm_run.specs.declared.load.Loads.{Loads}
 use Rattle.hm_run.specs.declared.read.Inputs.{Inputs}
-use Rattle.hm_reconcile.specs.declared.Outcome.{Outcome}
+use Rattle.hm_report.specs.declared.outcome.Outcome.{Outcome}
 use Rattle.hm_run.specs.Verdict.{Bytes, Trees, Synced}
 
 abbrev pub bytes_of : Vec ℕ Global → List ℕ

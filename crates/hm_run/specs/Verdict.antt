@@ -13,15 +13,18 @@ use Rattle.hm_schema.specs.Values.{SchemaValue}
 use Rattle.hm_schema.specs.Membership.{IsMember, IsFirstOutside}
 use Rattle.hm_schema_text.specs.SchemaFiles.{IsSchemaFile}
 use Rattle.hm_schema_text.specs.BadLines.{IsFirstBadLine}
-use Rattle.hm_outcome.specs.Trios.{given}
+use Rattle.hm_outcome.specs.Trios.{given, views}
 use Rattle.hm_outcome.specs.Outcomes.{IsOutcome}
-use Rattle.hm_outcome.specs.TopmostMarks.{AreTopmostMarks}
+use Rattle.hm_report.specs.declared.conflict.Conflict.{Conflict}
+use Rattle.hm_report.specs.Conflicts.{AreConflicts}
+use Rattle.hm_report.specs.Text.{report_text}
 use Rattle.hm_outside.specs.Contents.{Contents, held, replaced}
 use Rattle.hm_command.specs.declared.ending.Slot.{Slot}
 use Rattle.hm_command.specs.declared.ending.Slot.TheVariants as slot
 use Rattle.hm_command.specs.declared.ending.ArchiveFault.TheVariants as archive_fault
 use Rattle.hm_command.specs.declared.ending.ReplicaFault.TheVariants as replica_fault
 use Rattle.hm_command.specs.declared.ending.Refusal.{Refusal}
+use Rattle.hm_command.specs.declared.ending.Report.{Report}
 use Rattle.hm_command.specs.declared.ending.Refusal.TheVariants.{Missing, TooLarge, BadSchema, BadArchive, BadReplica, Overgrown}
 use Rattle.hm_command.specs.Words.{FileNames, meaning}
 use Rattle.hm_run.specs.Steps.{Then}
@@ -104,11 +107,21 @@ Becomes before after = IsOutcome before.schema before.schema.root (given before.
 pub data Reconciles (before : Trees) : Result Synced Refusal → Type 0 where
   reconciled : {after : Synced} → Becomes before after → Reconciles before (Ok after)
 
--- so many conflicts remain as the archive has topmost marks
-pub record HasConflicts (o : Archive) (number : ℕ) : Type 0 where
-  pub paths : List Path
-  pub marks : AreTopmostMarks (state o) paths
-  pub number_of : length paths ≡ number
+-- what was read, what it becomes, and the conflicts that remain: in the order of paths, one at each topmost mark of the
+-- new archive and no other, each of which shows why
+abbrev pub HasConflicts : Trees → Synced → List Conflict → Type 0
+HasConflicts before after conflicts = AreConflicts before.schema before.schema.root (views (given before.archive before.left before.right)) (state after.archive) conflicts
+
+-- a report has the text of these conflicts, and their number
+pub record Tells (conflicts : List Conflict) (report : Report) : Type 0 where
+  pub number : report.conflicts ≡ length conflicts
+  pub text : report.text.items ≡ report_text conflicts
+
+-- a report tells the conflicts that remain
+pub record IsReport (before : Trees) (after : Synced) (report : Report) : Type 0 where
+  pub conflicts : List Conflict
+  pub remain : HasConflicts before after conflicts
+  pub tells : Tells conflicts report
 
 -- ---- measuring the new texts
 

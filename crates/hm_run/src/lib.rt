@@ -1,6 +1,8 @@
 //! One run of the program: it reads the files, reconciles them, writes them anew and says how it ended.
 #![tactic(auto)]
 
+#[cfg(test)]
+mod certificates;
 mod load;
 mod make;
 mod measure;

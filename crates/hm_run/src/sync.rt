@@ -1,24 +1,26 @@
 //! The top call.
-ghost use Rattle.std.specs.Prelude.{◌≡◌, ◌⊎◌, ◌≤◌, Some};
+ghost use Rattle.std.specs.Prelude.{◌≡◌, ◌⊎◌, ◌<◌, ◌≤◌, Some};
+ghost use Rattle.hm_outside.specs.Answers.{PutsAfter};
 ghost use Rattle.hm_outside.specs.Failures.{Extends};
+ghost use Rattle.hm_outside.specs.declared.outside.Put.TheVariants as put;
 ghost use Rattle.hm_command.specs.declared.ending.Ending.{Ending as EndingOf};
-ghost use Rattle.hm_command.specs.Lines.{status_of};
+ghost use Rattle.hm_command.specs.Lines.{output_of, status_of};
 ghost use Rattle.hm_run.specs.Seen.{WhereTold};
 ghost use Rattle.hm_run.specs.Causes.{HasStopCause, Synchronises};
-ghost use Rattle.hm_run.specs.Endings.{EndsAs, Finishes, Puts, IsSynchronised, IsComplete, after_fault, ending_of};
+ghost use Rattle.hm_run.specs.Endings.{EndsAs, Finishes, Puts, IsSynchronised, IsReported, IsComplete, after_fault, ending_of};
 
 use crate::load::load_all;
 use crate::make::make;
 use crate::measure::measure_all;
 use crate::read::read_all;
 use crate::write::write_all;
-use hm_command::{Ending, Stop, files_of, output_of, status_of};
+use hm_command::{Ending, Report, Stop, files_of, line_of, status_of};
 use hm_outside::{Put, Sink, Store};
 use hm_tree::Name;
 use std::alloc::Global;
 
-// Reads, reconciles and writes, and says how many conflicts remain.
-fn synchronise<S: Store>(alloc: Global, words: &[Name], store: &mut S) -> Result<usize, Stop>
+// Reads, reconciles and writes, and says what conflicts remain.
+fn synchronise<S: Store>(alloc: Global, words: &[Name], store: &mut S) -> Result<Report, Stop>
     ensures failed { Extends (S.failed store.old) (S.failed store.new) }
     ensures cause { HasStopCause words.now (S.failed store.old) (S.failed store.new) result }
     ensures told { WhereTold (S.contents store.old) (λ c. Synchronises words.now c result (S.contents store.new)) }
@@ -26,10 +28,12 @@ fn synchronise<S: Store>(alloc: Global, words: &[Name], store: &mut S) -> Result
     let files = files_of(words)?;
     let loads = load_all(alloc, store, files)?;
     let inputs = read_all(alloc, &loads)?;
-    let new = make(alloc, &inputs)?;
+    // What was read isn't needed any more, and takes as much memory as the new files.
+    drop(loads);
+    let new = make(alloc, inputs)?;
     measure_all(&new)?;
     write_all(store, files, &new)?;
-    Ok(new.conflicts)
+    Ok(new.report)
 }
 
 // What a fault of the sink makes of an end.
@@ -37,8 +41,23 @@ fn after_fault(ending: Ending) -> Ending
     ensures { result ≡ after_fault ending }
 {
     match ending {
-        Ending::Done(conflicts) | Ending::PutFault(conflicts) => Ending::PutFault(conflicts),
+        Ending::Done(report) | Ending::PutFault(report) => Ending::PutFault(report),
         Ending::Stopped(stop) => Ending::Stopped(stop),
+    }
+}
+
+// Puts out what this end has to say, in one piece.
+fn put_output<K: Sink>(alloc: Global, ending: &Ending, out: &mut K) -> Put
+    ensures faults { K.faults out.old ≤ K.faults out.new }
+    ensures cause { result ≡ put.Failed → K.faults out.old < K.faults out.new }
+    ensures told { WhereTold (K.written out.old) (λ w. PutsAfter w (output_of ending.now) result (K.written out.new)) }
+{
+    match ending {
+        Ending::Stopped(stop) => match line_of(alloc, stop) {
+            Ok(line) => out.put(&line),
+            Err(_) => Put::Memory,
+        },
+        Ending::Done(report) | Ending::PutFault(report) => out.put(&report.text),
     }
 }
 
@@ -51,26 +70,24 @@ fn finish<K: Sink>(alloc: Global, ending: Ending, out: &mut K) -> Ending
     if let Ending::Stopped(Stop::Memory) = ending {
         return ending;
     }
-    let Ok(output) = output_of(alloc, &ending) else {
-        return Ending::Stopped(Stop::Memory);
-    };
-    match out.put(&output) {
+    match put_output(alloc, &ending, out) {
         Put::Done => ending,
         Put::Failed => after_fault(ending),
         Put::Memory => Ending::Stopped(Stop::Memory),
     }
 }
 
-fn ending_of(synchronised: Result<usize, Stop>) -> Ending
+fn ending_of(synchronised: Result<Report, Stop>) -> Ending
     ensures { result ≡ ending_of synchronised }
 {
     match synchronised {
-        Ok(conflicts) => Ending::Done(conflicts),
+        Ok(report) => Ending::Done(report),
         Err(stop) => Ending::Stopped(stop),
     }
 }
 
-/// Synchronises the files that the words name, puts out one line, and answers the exit status.
+/// Synchronises the files that the words name, puts out the conflicts that remain or the line of a refusal, and answers
+/// the exit status.
 pub fn run<S: Store, K: Sink>(alloc: Global, words: &[Name], store: &mut S, out: &mut K) -> u8
     // How each run ends: why, what it leaves in the store, and what it puts out.
     ensures ends { (ending : EndingOf) × (result ≡ status_of ending) × EndsAs ending words.now
@@ -79,6 +96,9 @@ pub fn run<S: Store, K: Sink>(alloc: Global, words: &[Name], store: &mut S, out:
 
     // After 0 and 1 the three files have the new texts, and these hold the one best safe result of what was read.
     ensures synchronised { (result ≡ 0) ⊎ (result ≡ 1) → WhereTold (S.contents store.old) (λ c. IsSynchronised words.now c result (S.contents store.new)) }
+
+    // After 0 and 1 the conflicts that remain are put out, and each difference that is left has its own.
+    ensures reported { (result ≡ 0) ⊎ (result ≡ 1) → WhereTold (S.contents store.old) (λ c. WhereTold (K.written out.old) (λ w. IsReported words.now c w result (K.written out.new))) }
 
     // Refused input changes no file.
     ensures refused { (result ≡ 2) ⊎ (result ≡ 3) → WhereTold (S.contents store.old) (λ c. S.contents store.new ≡ Some c) }

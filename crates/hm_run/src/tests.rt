@@ -122,7 +122,7 @@ const BY_NAMES: [Case; 5] = [
             Some("{\"a\":{\"x\"},\"b\",\"c\"}\n"),
             Some("{\"a\",\"b\",\"c\"}\n"),
         ],
-        output: "conflicts 1\n",
+        output: "conflict /\"a\" earlier\nconflicts 1\n",
         status: 1,
     },
 ];
@@ -139,7 +139,7 @@ const IN_CONFLICT: [Case; 3] = [
             Some("{\"a\":{\"1\"}}\n"),
             Some("{\"b\":{\"2\"}}\n"),
         ],
-        output: "conflicts 2\n",
+        output: "conflict /\"a\" lost /\"a\"/\"1\"\nconflict /\"b\" lost /\"b\"/\"2\"\nconflicts 2\n",
         status: 1,
     },
     Case {
@@ -153,13 +153,13 @@ const IN_CONFLICT: [Case; 3] = [
             Some("{\"a\":{\"2\"},\"b\"}\n"),
             Some("{\"b\"}\n"),
         ],
-        output: "conflicts 1\n",
+        output: "conflict /\"a\" lost /\"a\"/\"2\"\nconflicts 1\n",
         status: 1,
     },
     Case {
         before: [Some("!\n"), Some("{\"B\"}\n"), Some("{\"C\"}\n")],
         after: [Some("!\n"), Some("{\"B\"}\n"), Some("{\"C\"}\n")],
-        output: "conflicts 1\n",
+        output: "conflict / earlier\nconflicts 1\n",
         status: 1,
     },
 ];
@@ -177,7 +177,7 @@ const DELETED: [Case; 4] = [
             Some("{}\n"),
             Some("{\"Bob\":{\"mail\":{\"b\"},\"tel\":{\"1\"}}}\n"),
         ],
-        output: "conflicts 1\n",
+        output: "conflict /\"Bob\" lost /\"Bob\"/\"mail\"\nconflicts 1\n",
         status: 1,
     },
     Case {
@@ -201,7 +201,7 @@ const DELETED: [Case; 4] = [
             Some("{}\n"),
             Some("{\"d\":{\"a\":{\"1\"},\"b\"}}\n"),
         ],
-        output: "conflicts 1\n",
+        output: "conflict /\"d\" lost /\"d\"/\"a\"\nconflicts 1\n",
         status: 1,
     },
     Case {
@@ -221,13 +221,13 @@ const ONE_NAME: [Case; 3] = [
     Case {
         before: [Some("{\"A\"}\n"), Some("{\"B\"}\n"), Some("{\"C\"}\n")],
         after: [Some("!\n"), Some("{\"B\"}\n"), Some("{\"C\"}\n")],
-        output: "conflicts 1\n",
+        output: "conflict / names {\"B\",\"C\"} {\"B\",\"C\"}\nconflicts 1\n",
         status: 1,
     },
     Case {
         before: [Some("!\n"), Some("{\"B\"}\n"), Some("{\"C\"}\n")],
         after: [Some("!\n"), Some("{\"B\"}\n"), Some("{\"C\"}\n")],
-        output: "conflicts 1\n",
+        output: "conflict / earlier\nconflicts 1\n",
         status: 1,
     },
     Case {
@@ -242,14 +242,14 @@ const ONE_NAME: [Case; 3] = [
 const TWO_OF_THREE: [Case; 1] = [Case {
     before: [Some("{}\n"), Some("{\"x\"}\n"), Some("{\"y\",\"z\"}\n")],
     after: [Some("!\n"), Some("{\"x\"}\n"), Some("{\"y\",\"z\"}\n")],
-    output: "conflicts 1\n",
+    output: "conflict / names {\"x\",\"y\",\"z\"} {\"x\",\"y\",\"z\"}\nconflicts 1\n",
     status: 1,
 }];
 
 const NOT_TOGETHER: [Case; 1] = [Case {
     before: [Some("{}\n"), Some("{\"y\"}\n"), Some("{\"z\"}\n")],
     after: [Some("!\n"), Some("{\"y\"}\n"), Some("{\"z\"}\n")],
-    output: "conflicts 1\n",
+    output: "conflict / names {\"y\",\"z\"} {\"y\",\"z\"}\nconflicts 1\n",
     status: 1,
 }];
 
@@ -425,7 +425,7 @@ fn each_name_is_carried_by_itself(rt: HostRuntime) -> Result<(), Fail> {
 }
 
 #[test]
-fn conflicts_stay_and_are_counted(rt: HostRuntime) -> Result<(), Fail> {
+fn conflicts_stay_and_are_told(rt: HostRuntime) -> Result<(), Fail> {
     expect_runs(&rt, rt.alloc(), EVERY, &IN_CONFLICT)
 }
 

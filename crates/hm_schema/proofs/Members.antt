@@ -1,6 +1,6 @@
 -- A tree is a member at a node where its root is allowed there and what stands below each of its names is a member at
 -- the node of that name.
-use Rattle.std.proofs.Common.{◌≡◌, ℕ, Bool, true, false, is_some, [], ◌∷◌, slice_get, Option, Some, None, All, refl, sym, ap, subst, ◌∙◌, option_and_then, IsSome}
+use Rattle.std.proofs.Common.{◌≡◌, ℕ, true, is_some, [], ◌∷◌, slice_get, Option, Some, None, All, refl, sym, ap, subst, ◌∙◌, option_and_then, IsSome}
 use mathlib.Core.Bool.{true≢false}
 use Rattle.std.proofs.lemmas.Option.{same_Some, none-some}
 use Rattle.hm_tree.specs.declared.archive.State.TheVariants.{Present}
@@ -15,7 +15,7 @@ use Rattle.hm_schema.specs.declared.node.NodeId.{NodeId}
 use Rattle.hm_schema.specs.Values.{Names, NodeValue, SchemaValue, node_at, child_at, reached, node_of}
 use Rattle.hm_schema.specs.Permitted.{Permits, PermitsAt, names_of}
 use Rattle.hm_schema.specs.Membership.{down, HasNames, IsTwin, Allows, IsAllowed, IsMember}
-use Rattle.hm_schema.proofs.NamesOf.{names_of-below, same_names, found_value}
+use Rattle.hm_schema.proofs.NamesOf.{names_of-below, same_names, bools, found_value}
 use Rattle.hm_schema.proofs.References.{child_here, child_there}
 
 abbrev pub view : Tree → View
@@ -39,12 +39,6 @@ below_has t k p h = go (below k t) (sym (state_down t k p) ∙ h)
 
 pub has_names : (t : Tree) → HasNames (view t) (names_of t)
 has_names t k = (λ h. has_below t k (sym (names_of-below t k) ∙ h), λ h. names_of-below t k ∙ below_has t k [] h)
-
-bools : (a b : Bool) → (a ≡ true → b ≡ true) → (b ≡ true → a ≡ true) → a ≡ b
-bools true true f g = refl
-bools true false f g = sym (f refl)
-bools false true f g = g refl
-bools false false f g = refl
 
 -- no other set does
 pub names_one : (t : Tree) (names : Names) → HasNames (view t) names → names ≡ names_of t

@@ -15,7 +15,10 @@ use Rattle.std.proofs.lemmas.List.Sums.{sum_by-cons}
 use Rattle.std.proofs.lemmas.List.Elements.{All-head, All-tail}
 use Rattle.hm_tree.specs.Names.{Name, name_cmp}
 use Rattle.hm_tree.specs.Nodes.{Tree, edges, below, first, second, below_all}
+use Rattle.hm_tree.specs.NodeLaws.{edges_sorted}
 use Rattle.hm_tree.proofs.Sorted.{name_total, name_one}
+use Rattle.hm_tree.specs.Sets.{ascending}
+use Rattle.hm_tree.proofs.Ascending.{beside, beside_names, set_of-ascending, ascending_rises, ascending-edges}
 use Rattle.hm_schema.specs.Values.{Names}
 use Rattle.hm_schema.specs.Permitted.{names_of}
 
@@ -26,9 +29,19 @@ tie_one q k e = name_one q k ((Equal-is (name_cmp q k)).0 e)
 pub names_of-below : (t : Tree) (k : Name) → contains (names_of t) k ≡ is_some (below k t)
 names_of-below t k = contains-from_list name_total (map (λ e. e.0) (edges t)) k ∙ sym (is_some-find name_cmp k (edges t))
 
+pub ascending-names_of : (t : Tree) → ascending (names_of t) ≡ map (λ e. e.0) (edges t)
+ascending-names_of t = ascending-edges (edges t) (edges_sorted t)
+
 -- two sets with the same names are equal
 pub same_names : (a b : Names) → ((k : Name) → contains a k ≡ contains b k) → a ≡ b
 same_names a b e = same_set name_total name_one a b e
+
+-- two truth values, each of which is true where the other is, are equal
+pub bools : (a b : Bool) → (a ≡ true → b ≡ true) → (b ≡ true → a ≡ true) → a ≡ b
+bools true true f g = refl
+bools true false f g = sym (f refl)
+bools false true f g = g refl
+bools false false f g = refl
 
 module _ (p : Name → Bool) where
   kept : (s : Names) (q : Name) → contains (retain s p) q ≡ (contains s q && p q)
@@ -84,6 +97,17 @@ module _ (p : Name → Bool) where
         go s false n new rest =
             let same : len (retain (insert s e.0) p) ≡ len (retain s p) = ap len (retain_insert_no s e.0 n) in
             rw n (omega arith)
+
+  -- the same of a set
+  pub len-retain_names : (s : Names) → len (retain s p) ≡ count_by p (ascending s)
+  len-retain_names s =
+      ap (λ s. len (retain s p)) (sym (ap from_list (beside_names (ascending s)) ∙ set_of-ascending s))
+      ∙ len-retain (beside (ascending s)) (ascending_rises s)
+      ∙ count_beside (ascending s)
+    where
+      count_beside : (names : List Name) → count_by (λ e. p e.0) (beside names) ≡ count_by p names
+      count_beside [] = refl
+      count_beside (k ∷ names) = sum_by-cons (λ (e : Name × Unit {0}). cond (p e.0) 1 0) (k, tt) (beside names) ∙ ap (λ n. cond (p k) 1 0 + n) (count_beside names) ∙ sym (sum_by-cons (λ k. cond (p k) 1 0) k names)
 
 -- ---- what holds of each listed name
 

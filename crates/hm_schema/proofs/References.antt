@@ -1,16 +1,18 @@
 -- Nodes of a well formed schema are well formed, and refer to nodes that are there.
-use Rattle.std.proofs.Common.{◌≡◌, ◌<◌, ℕ, List, length, get_or, Option, Some, None, IfSome, IsSome, IsSomeAnd, IsTrue, is_some, false, refl, sym, ap, subst, ◌∙◌, arith}
+use Rattle.std.proofs.Common.{◌≡◌, ◌<◌, ◌≤◌, ◌+◌, ℕ, List, length, get_or, drop, Option, Some, None, IfSome, IsSome, IsSomeAnd, IsTrue, is_some, false, refl, sym, ap, subst, ◌∙◌, arith, option_and_then}
 use Rattle.std.specs.Option.{option_or, option_map}
 use Rattle.std.specs.FinMap.{find}
 use Rattle.std.specs.FinSet.{contains}
-use Rattle.std.proofs.lemmas.List.{length-map}
+use Rattle.std.proofs.lemmas.List.{length-map, drop_all}
 use Rattle.std.proofs.lemmas.Option.{same_Some, none-some, slice_get-map, slice_get_read}
 use Rattle.hm_tree.specs.declared.class.Class.{Class}
 use Rattle.hm_tree.specs.Classes.{IsInClass}
 use Rattle.hm_tree.specs.Names.{Name, name_cmp}
+use Rattle.hm_tree.specs.States.{Path}
+use Rattle.hm_tree.proofs.Paths.{front_is}
 use Rattle.hm_schema.specs.declared.node.NodeId.{NodeId}
 use Rattle.hm_schema.specs.declared.node.Node.{Node}
-use Rattle.hm_schema.specs.Values.{Names, NodeValue, SchemaValue, node_value, schema_value, node_at, child_of, child_at}
+use Rattle.hm_schema.specs.Values.{Names, NodeValue, SchemaValue, node_value, schema_value, node_at, child_of, child_at, reached}
 use Rattle.hm_schema.specs.Permitted.{Permits, PermitsAt, Takes}
 use Rattle.hm_schema.specs.WellFormed.{IsWellFormed, IsWellFormedNode}
 use Rattle.hm_schema.proofs.NamesOf.{found_value}
@@ -49,7 +51,24 @@ module _ (s : SchemaValue) (i : NodeId) (n : NodeValue) (here : node_at s i ≡ 
   pub child_here : (k : Name) → child_of n k ≡ child_at s i k
   child_here k = rw here refl
 
--- the node that is kept at a place
+-- ---- where a path leads, of which i names were passed
+
+module _ (s : SchemaValue) where
+  pub led_down : (i j : NodeId) (p : Path) (n : ℕ) (k : Name) → n < length p → k ≡ get_or p n k → child_at s i k ≡ Some j → reached s i (drop n p) ≡ reached s j (drop (n + 1) p)
+  led_down i j p n k lt e is = ap (reached s i) (front_is p n k lt e) ∙ ap (option_and_then (λ j. reached s j (drop (n + 1) p))) is
+
+  pub leads_on : (i : NodeId) (p : Path) (n : ℕ) (k : Name) → n < length p → k ≡ get_or p n k → IsSome (reached s i (drop n p)) → IsSome (child_at s i k)
+  leads_on i p n k lt e some = go (child_at s i k) (subst IsSome (ap (reached s i) (front_is p n k lt e)) some)
+    where
+      go : (x : Option NodeId) → IsSome (option_and_then (λ j. reached s j (drop (n + 1) p)) x) → IsSome x
+      go None h = h
+      go (Some j) h = refl
+
+  pub led_to : (i : NodeId) (p : Path) (n : ℕ) → length p ≤ n → reached s i (drop n p) ≡ Some i
+  led_to i p n le = ap (reached s i) (drop_all n p le)
+
+-- ---- the node that is kept at a place
+
 pub node_kept : (nodes : List Node) (root : NodeId) (s : SchemaValue) (i : NodeId) (n : Node) → schema_value nodes root ≡ s → i.place < length s.nodes → n ≡ get_or nodes i.place n → node_at s i ≡ Some (node_value n)
 node_kept nodes root s i n e lt at =
     let within : i.place < length nodes = omega (arith, ap (λ (s : SchemaValue). length s.nodes) e, length-map nodes node_value) in

@@ -1,5 +1,5 @@
 -- Small schemas, made by hand for the tests, are well formed.
-use Rattle.std.proofs.Common.{◌≡◌, ℕ, ◌<◌, ◌≤◌, Bool, true, false, ◌||◌, T, IsTrue, List, [], ◌∷◌, Option, Some, None, All, IfSome, refl, sym, ap, subst, ◌∙◌, arith}
+use Rattle.std.proofs.Common.{◌≡◌, ℕ, ◌<◌, ◌≤◌, Bool, true, false, ◌||◌, T, IsTrue, List, [], ◌∷◌, Option, Some, None, All, IfSome, IsSome, refl, sym, ap, subst, ◌∙◌, arith}
 use mathlib.Core.Bool.{true≢false}
 use Rattle.std.specs.List.{list_any}
 use Rattle.std.specs.Ordering.{eq_by_cmp}
@@ -9,10 +9,11 @@ use Rattle.std.proofs.lemmas.Option.{none-some}
 use Rattle.std.proofs.lemmas.List.Elements.{All-nil, All-cons, All-head, All-tail}
 use Rattle.hm_tree.specs.declared.class.Class.{Class}
 use Rattle.hm_tree.specs.Names.{Name, name_cmp}
+use Rattle.hm_tree.specs.States.{Path}
 use Rattle.hm_tree.proofs.Sorted.{name_total}
 use Rattle.hm_schema.specs.declared.node.NodeId.{NodeId}
 use Rattle.hm_schema.specs.declared.node.Shape.{Shape}
-use Rattle.hm_schema.specs.Values.{NodeValue, SchemaValue, is_listed}
+use Rattle.hm_schema.specs.Values.{NodeValue, SchemaValue, is_listed, reached}
 use Rattle.hm_schema.specs.WellFormed.{IsWellFormed, IsWellFormedNode, IsWellFormedShape}
 use Rattle.hm_schema.proofs.NamesOf.{tie_one, found_at_place}
 
@@ -33,6 +34,11 @@ alone class least most = record { shapes = counted least most ∷ []; children =
 
 abbrev pub unlisted_alone : Class → ℕ → Option ℕ → SchemaValue
 unlisted_alone class least most = record { nodes = alone class least most ∷ []; root = record { place = 0 } }
+
+-- each path leads to its one node
+pub unlisted_alone_leads : (class : Class) (least : ℕ) (most : Option ℕ) (p : Path) → IsSome (reached (unlisted_alone class least most) (record { place = 0 }) p)
+unlisted_alone_leads class least most [] = refl
+unlisted_alone_leads class least most (k ∷ p) = unlisted_alone_leads class least most p
 
 in_none : (k : Name) → ¬ (IsTrue (contains (from_list {R = name_cmp} []) k))
 in_none k h = true≢false (sym h ∙ contains-from_list name_total [] k)

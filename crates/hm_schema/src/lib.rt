@@ -1,6 +1,7 @@
 //! Schemas: which names may stand at each place of a tree.
 #![tactic(auto)]
 
+mod named;
 mod node;
 mod permitted;
 mod schema;

@@ -1,25 +1,26 @@
-//! Whether a node permits the names of a tree.
+//! Whether a node permits a set of names.
 ghost use Rattle.std.specs.Prelude.{◌≡◌, ◌↔◌, IsTrue, T, IfSome, IsSome, All};
 ghost use Rattle.std.specs.FinMap.{is_sorted};
 ghost use Rattle.hm_tree.specs.Names.{name_cmp};
 ghost use Rattle.hm_schema.specs.Values.{node_value};
-ghost use Rattle.hm_schema.specs.Permitted.{Permits, Takes, TakesUnlisted, IsWithin, FitsListed, FitsName, unlisted, names_of};
+ghost use Rattle.hm_schema.specs.Permitted.{Permits, Takes, TakesUnlisted, IsWithin, FitsListed, FitsName, unlisted};
 ghost use Rattle.hm_schema.specs.WellFormed.{IsWellFormedShape};
 
+use crate::named::Named;
 use crate::node::{Node, Shape, listed};
-use hm_tree::{Name, Tree};
+use hm_tree::Name;
 
-/// Whether the names of a tree fit one of the shapes of a node.
-pub fn permits(node: &Node, tree: &Tree) -> bool
+/// Whether names fit one of the shapes of a node.
+pub fn permits<N: Named>(node: &Node, names: &N) -> bool
     requires ascending { T (is_sorted name_cmp node.now.children.items) }
     requires shapes { All (IsWellFormedShape (node_value node.now)) node.now.shapes.items }
-    ensures { IsTrue result ↔ Permits (node_value node.now) (names_of tree.now) }
+    ensures { IsTrue result ↔ Permits (node_value node.now) (N.names names.now) }
 {
-    let Some(number) = count_unlisted(node, tree) else {
+    let Some(number) = count_unlisted(node, names) else {
         return false;
     };
     for shape in &node.shapes {
-        if is_within(shape, number) && fits_listed(node, shape, tree) {
+        if is_within(shape, number) && fits_listed(node, shape, names) {
             return true;
         }
     }
@@ -27,14 +28,14 @@ pub fn permits(node: &Node, tree: &Tree) -> bool
 }
 
 // The number of names that aren't listed, if each of them may stand there.
-fn count_unlisted(node: &Node, tree: &Tree) -> Option<u64>
+fn count_unlisted<N: Named>(node: &Node, names: &N) -> Option<u64>
     requires { T (is_sorted name_cmp node.now.children.items) }
-    ensures number { IfSome result (λ number. number ≡ unlisted (node_value node.now) (names_of tree.now)) }
-    ensures taken { IsSome result ↔ TakesUnlisted (node_value node.now) (names_of tree.now) }
+    ensures number { IfSome result (λ number. number ≡ unlisted (node_value node.now) (N.names names.now)) }
+    ensures taken { IsSome result ↔ TakesUnlisted (node_value node.now) (N.names names.now) }
 {
     let mut number = 0;
-    for place in 0..tree.count() {
-        let (name, _) = tree.edge(place);
+    for place in 0..names.count() {
+        let name = names.name(place);
         if listed(&node.children, name).is_some() {
             continue;
         }
@@ -69,14 +70,14 @@ fn is_within(shape: &Shape, number: u64) -> bool
     }
 }
 
-// Whether the listed names of a tree are all that a shape requires, and no others than it allows.
-fn fits_listed(node: &Node, shape: &Shape, tree: &Tree) -> bool
+// Whether the listed names among them are all that a shape requires, and no others than it allows.
+fn fits_listed<N: Named>(node: &Node, shape: &Shape, names: &N) -> bool
     requires ascending { T (is_sorted name_cmp node.now.children.items) }
     requires shape { IsWellFormedShape (node_value node.now) shape.now }
-    ensures { IsTrue result ↔ FitsListed (node_value node.now) shape.now (names_of tree.now) }
+    ensures { IsTrue result ↔ FitsListed (node_value node.now) shape.now (N.names names.now) }
 {
     for child in &node.children {
-        if !fits_name(shape, &child.0, tree) {
+        if !fits_name(shape, &child.0, names) {
             return false;
         }
     }
@@ -84,10 +85,10 @@ fn fits_listed(node: &Node, shape: &Shape, tree: &Tree) -> bool
 }
 
 // The same of one listed name.
-fn fits_name(shape: &Shape, name: &Name, tree: &Tree) -> bool
-    ensures { IsTrue result ↔ FitsName shape.now (names_of tree.now) name.now }
+fn fits_name<N: Named>(shape: &Shape, name: &Name, names: &N) -> bool
+    ensures { IsTrue result ↔ FitsName shape.now (N.names names.now) name.now }
 {
-    if tree.child(name).is_some() {
+    if names.has(name) {
         shape.required.has(name) || shape.optional.has(name)
     } else {
         !shape.required.has(name)

@@ -1,7 +1,7 @@
 //! Schemas.
 ghost use Rattle.std.specs.Prelude.{◌≡◌, ◌↔◌, ◌<◌, IsTrue, IsSome, Some, [], length, IfOk};
 ghost use Rattle.hm_tree.specs.States.{state};
-ghost use Rattle.hm_schema.specs.Values.{schema_value, node_value, node_at, child_at};
+ghost use Rattle.hm_schema.specs.Values.{schema_value, node_value, node_at, child_at, reached};
 ghost use Rattle.hm_schema.specs.Permitted.{PermitsAt, names_of};
 ghost use Rattle.hm_schema.specs.WellFormed.{IsWellFormed, IsWellFormedNode};
 ghost use Rattle.hm_schema.specs.Membership.{IsMember, IsAllowed, HasNoTwins, IsAnswer};
@@ -9,7 +9,7 @@ ghost use Rattle.hm_schema.specs.Membership.{IsMember, IsAllowed, HasNoTwins, Is
 use crate::node::{Node, NodeId};
 use crate::permitted::permits;
 use crate::twins::have_twins;
-use hm_tree::{Memory, Name, Path, Tree};
+use hm_tree::{Memory, Name, NameSet, Path, Tree};
 use std::alloc::Global;
 use std::marker::Model;
 
@@ -69,6 +69,14 @@ impl Schema {
         permits(self.node(id), tree)
     }
 
+    /// Whether a set of names is permitted at a node.
+    pub fn permits_names(&self, id: NodeId, names: &NameSet) -> bool
+        requires { id.place < length self.now.nodes }
+        ensures { IsTrue result ↔ PermitsAt self.now id names.now }
+    {
+        permits(self.node(id), names)
+    }
+
     /// Whether a tree is a member at the root.
     pub fn member(&self, tree: &Tree) -> bool
         ensures { IsTrue result ↔ IsMember self.now self.now.root (state (Some tree.now)) }
@@ -110,6 +118,19 @@ impl Schema {
         ensures in_range { result.place < length self.now.nodes }
     {
         self.node(id).child(name).unwrap()
+    }
+
+    /// The node of a path.
+    pub fn at(&self, path: &Path) -> NodeId
+        requires there { IsSome (reached self.now self.now.root path.now) }
+        ensures node { reached self.now self.now.root path.now ≡ Some result }
+        ensures in_range { result.place < length self.now.nodes }
+    {
+        let mut here = self.root;
+        for name in &path.names {
+            here = self.child(here, name);
+        }
+        here
     }
 
     /// The first path of a tree whose set of names isn't permitted, for schemas without twins: a path stands before

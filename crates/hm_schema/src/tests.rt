@@ -1,6 +1,7 @@
 //! Small schemas, made by hand.
-ghost use Rattle.std.specs.Prelude.{◌≡◌, ◌≤◌, IfOk, IfSome, [], ◌∷◌};
-ghost use Rattle.hm_schema.specs.Values.{node_value};
+ghost use Rattle.std.specs.Prelude.{◌≡◌, ◌≤◌, IfOk, IfSome, IsSome, [], ◌∷◌};
+ghost use Rattle.hm_tree.specs.States.{Path as PathValue};
+ghost use Rattle.hm_schema.specs.Values.{node_value, reached};
 ghost use Rattle.hm_schema.specs.Membership.{HasNoTwins};
 ghost use Rattle.std.specs.FinSet.{from_list};
 
@@ -43,7 +44,8 @@ fn unlisted_alone(
     most: Option<u64>,
 ) -> Result<Schema, Memory>
     requires { IfSome most (λ most. least ≤ most) }
-    ensures { IfOk result HasNoTwins }
+    ensures no_twins { IfOk result HasNoTwins }
+    ensures leads { IfOk result (λ schema. (p : PathValue) → IsSome (reached schema schema.root p)) }
 {
     let root = NodeId { place: 0 };
     let mut shapes = Vec::new(alloc);
@@ -121,6 +123,15 @@ fn two_of_three(alloc: Global) -> Result<Schema, Memory>
     Ok(Schema::new(nodes, NodeId { place: 0 }))
 }
 
+// The set of some names.
+fn set(alloc: Global, names: &[&str]) -> Result<NameSet, Memory> {
+    let mut list = Vec::new(alloc);
+    for text in names {
+        list.push(Name::from_text(alloc, text)?)?;
+    }
+    NameSet::from_list(list)
+}
+
 // Which path is the first outside, as a text with a slash before each name.
 fn first_outside(alloc: Global, schema: &Schema, tree: &Tree) -> Result<Option<String>, Memory>
     requires { HasNoTwins schema.now }
@@ -196,5 +207,37 @@ fn two_of_three_are_permitted(rt: HostRuntime) -> Result<(), Fail> {
         first_outside(alloc, &schema, &tree)?.as_deref(),
         Some("/z")
     );
+    Ok(())
+}
+
+#[test]
+fn sets_of_names_are_permitted(rt: HostRuntime) -> Result<(), Fail> {
+    let alloc = rt.alloc();
+    let schema = two_of_three(alloc)?;
+    let root = schema.root();
+    assert!(rt; schema.permits_names(root, &set(alloc, &[])?));
+    assert!(rt; schema.permits_names(root, &set(alloc, &["z", "x", "z"])?));
+    assert!(rt; !schema.permits_names(root, &set(alloc, &["z", "y", "x"])?));
+    assert!(rt; !schema.permits_names(root, &set(alloc, &["w"])?));
+    let schema = unlisted_alone(alloc, Class::Folded, 1, Some(2))?;
+    let root = schema.root();
+    assert!(rt; schema.permits_names(root, &set(alloc, &["b", "a"])?));
+    assert!(rt; !schema.permits_names(root, &set(alloc, &[])?));
+    assert!(rt; !schema.permits_names(root, &set(alloc, &["a", "B"])?));
+    assert!(rt; !schema.permits_names(root, &set(alloc, &["a", "b", "c"])?));
+    Ok(())
+}
+
+#[test]
+fn a_path_has_a_node(rt: HostRuntime) -> Result<(), Fail> {
+    let alloc = rt.alloc();
+    let schema = unlisted_alone(alloc, Class::Any, 0, None)?;
+    let mut path = Path {
+        names: Vec::new(alloc),
+    };
+    assert_eq!(rt; schema.at(&path), schema.root());
+    path.names.push(Name::from_text(alloc, "a")?)?;
+    path.names.push(Name::from_text(alloc, "b")?)?;
+    assert_eq!(rt; schema.at(&path), schema.root());
     Ok(())
 }

@@ -1,5 +1,5 @@
 -- How an archive is kept: the state of its root, and edges to archives of which none is missing.
-use Rattle.std.proofs.Common.{◌≡◌, ◌≢◌, ℕ, zero, suc, ◌+◌, ◌<◌, ◌≤◌, true, false, cond, ◌&&◌, T, List, [], ◌∷◌, ◌++◌, map, length, take, get_or, Option, Some, None, IsTrue, is_some, slice_get, add-one, refl, sym, ap, subst, ◌∙◌, arith}
+use Rattle.std.proofs.Common.{◌≡◌, ℕ, zero, suc, ◌+◌, ◌<◌, ◌≤◌, true, false, cond, ◌&&◌, T, List, [], ◌∷◌, ◌++◌, map, length, take, get_or, Option, Some, None, IsTrue, is_some, slice_get, add-one, refl, sym, ap, subst, ◌∙◌, arith}
 use Rattle.std.specs.Ordering.{is_lt, eq_by_cmp}
 use Rattle.std.specs.FinMap.{is_sorted, find, put}
 use Rattle.std.specs.List.{insert}
@@ -14,7 +14,7 @@ use Rattle.hm_tree.specs.Names.{Name, name_cmp}
 use Rattle.hm_tree.specs.Nodes.{Node, Tree, edges, below_all, marked}
 use Rattle.hm_tree.specs.NodeLaws.{edges-node, edges_sorted, node-edges, marked_is, is_marked-node, edges-marked}
 use Rattle.hm_tree.specs.Archives.{Archive, under, with_archive, edges_here, recorded, edges-recorded, recorded_unmarked, there, is_there, archive_of, IsKeptArchive}
-use Rattle.hm_tree.specs.States.{state, state_off}
+use Rattle.hm_tree.specs.States.{state}
 use Rattle.hm_tree.specs.Edges.{IsPlaceOf, IsGapFor}
 use Rattle.hm_tree.proofs.Sorted.{put_rank, sorted_put}
 
@@ -103,21 +103,6 @@ state_kept root es o is = sym (ap (λ (a : Archive). state a []) (sym is) ∙ by
     by Present = rw (is_marked-node (there es)) refl
     by Missing = refl
     by Marked = rw marked_is refl
-
--- what it has below a name under which nothing stands, by the state of its root
-module _ (root : State) (es : List (Name × Archive)) (o : Archive) (is : archive_of root es ≡ o) where
-  pub off_marked : root ≡ Marked → Marked ≡ state_off o
-  off_marked e =
-      let by : Marked ≡ state_off (archive_of Marked es) = rw marked_is refl in
-      by ∙ ap (λ (r : State). state_off (archive_of r es)) (sym e) ∙ ap (λ (a : Archive). state_off a) is
-
-  pub off_missing : root ≢ Marked → Missing ≡ state_off o
-  off_missing other = by root other ∙ ap (λ (a : Archive). state_off a) is
-    where
-      by : (r : State) → r ≢ Marked → Missing ≡ state_off (archive_of r es)
-      by Missing other = refl
-      by Present other = rw (is_marked-node (there es)) refl
-      by Marked other = absurd (other refl)
 
 -- ---- putting in an edge, where none is to a missing archive
 

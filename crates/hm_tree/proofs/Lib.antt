@@ -2,6 +2,7 @@ pub mod Sorted
 pub mod Depths
 pub mod Deepest
 pub mod States
+pub mod Paths
 pub mod Extent
 pub mod Kept
 pub mod Presence
@@ -10,3 +11,4 @@ pub mod Classed
 pub mod Folded
 pub mod CleanText
 pub mod NameSets
+pub mod Ascending

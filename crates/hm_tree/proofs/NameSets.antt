@@ -47,7 +47,7 @@ any_at q (x ∷ xs) h = by h.0 h.1 h.2 (λ k lt e. any_at q xs (k, lt, e))
     by zero lt e rest = or_left (tied q x) (list_any (tied q) xs) (ap (tied q) e ∙ tied_self q)
     by (suc k) lt e rest = or_right (tied q x) (list_any (tied q) xs) (rest k (omega arith) e)
 
-at_any : (q : Name) (xs : List Name) → list_any (tied q) xs ≡ true → Contains xs q
+pub at_any : (q : Name) (xs : List Name) → list_any (tied q) xs ≡ true → Contains xs q
 at_any q [] h = absurd (true≢false (sym h))
 at_any q (x ∷ xs) h = by (or_cases (tied q x) (list_any (tied q) xs) h) (λ e. at_any q xs e)
   where

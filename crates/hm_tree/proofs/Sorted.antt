@@ -85,10 +85,6 @@ module _ {X : Type 0} where
   not_found k [] h = refl
   not_found k (e ∷ es) h = rw (h 0 e (omega arith)) (not_found k es (λ j d lt. h (suc j) d (omega arith)))
 
-  pub rank_le : (k : Name) (es : List (Name × X)) → rank k es ≤ length es
-  rank_le k [] = omega arith
-  rank_le k (e ∷ es) = elim (is_lt (name_cmp e.0 k)) as (λ b. cond b (suc (rank k es)) 0 ≤ suc (length es)) [ true ↦ omega (arith, rank_le k es) | false ↦ omega arith ]
-
   -- comparisons with k rise along the list, as a binary search asks
   searchable : (k : Name) (es : List (Name × X)) → T (is_sorted name_cmp es) → IsNonDecreasingBy (λ e. ordering_index (name_cmp e.0 k)) es
   searchable k es h = searchable_from_sorted name_total (λ e. e.0) es k (λ i d low lt.

@@ -1,8 +1,9 @@
 -- How a name is spelled: between two quotes, with what doesn't stand for itself escaped.
-use Rattle.std.specs.Prelude.{◌≡◌, ◌≢◌, ℕ, ◌≤◌, ◌/◌, ◌%◌, Bool, cond, not, ◌||◌, List, [], ◌∷◌, ◌++◌, length, take, flat_map, Option, Some, None, IsUtf8}
+use Rattle.std.specs.Prelude.{◌≡◌, ◌≢◌, ℕ, ◌≤◌, ◌/◌, ◌%◌, Bool, cond, not, ◌||◌, List, [], ◌∷◌, ◌++◌, length, take, codes, flat_map, Option, Some, None, IsUtf8}
 use Rattle.std.specs.Bool.{◌==◌, nat_lt}
 use Rattle.std.specs.Char.{digit_char}
 use Rattle.hm_tree.specs.Names.{Name}
+use Rattle.hm_tree.specs.States.{Path}
 
 -- " and \
 abbrev pub is_quote_or_backslash : ℕ → Bool
@@ -26,6 +27,11 @@ escaped = flat_map spelled_byte
 
 unfoldable pub spelled : Name → List ℕ
 spelled name = 34 ∷ (escaped name ++ 34 ∷ [])
+
+-- a path: a stroke for the root, and else one before the spelling of each name
+abbrev pub path_text : Path → List ℕ
+path_text [] = codes "/"
+path_text (k ∷ p) = flat_map (λ (n : Name). 47 ∷ spelled n) (k ∷ p)
 
 -- what is read at the front of bytes: a name and the length of its spelling; none where no name's spelling stands there
 abbrev pub IsUnspelled : List ℕ → Option (Name × ℕ) → Type 0

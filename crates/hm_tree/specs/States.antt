@@ -16,10 +16,11 @@ state None p = Missing
 state (Some t) [] = cond (is_marked t) Marked Present
 state (Some t) (k ∷ p) = cond (is_marked t) Marked (state (below k t) p)
 
--- what it has at each path whose first name isn't there
-abbrev pub state_off : {m : Bool} → Option (Node m) → State
-state_off None = Missing
-state_off (Some t) = cond (is_marked t) Marked Missing
+-- what stands at a path, if anything does; a mark stands at each path below it
+abbrev pub at_path : {m : Bool} → Option (Node m) → Path → Option (Node m)
+at_path t [] = t
+at_path None (k ∷ p) = None
+at_path (Some t) (k ∷ p) = cond (is_marked t) (Some t) (at_path (below k t) p)
 
 -- an archive is present wherever a tree, or a missing side, is
 abbrev pub IsWithin : Option Tree → Archive → Type 0

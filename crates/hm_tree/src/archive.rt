@@ -4,10 +4,10 @@
 ghost use Rattle.std.specs.Prelude.{◌≡◌, ◌↔◌, IsTrue, ◌<◌, length, OnOk, OnErr, IfOk, [], Some, None, is_some, slice_get, MatchOption};
 ghost use Rattle.hm_tree.specs.Nodes.{marked, empty};
 ghost use Rattle.hm_tree.specs.Archives.{recorded, under, with_archive, edges_here};
-ghost use Rattle.hm_tree.specs.States.{state, state_off};
+ghost use Rattle.hm_tree.specs.States.{state, at_path};
 ghost use Rattle.hm_tree.specs.declared.archive.State.TheVariants.{Present};
 
-use crate::edges::{place_near, place_of};
+use crate::edges::{insert_edge, place_near, place_of};
 use crate::memory::Memory;
 use crate::name::Name;
 use crate::path::Path;
@@ -80,6 +80,16 @@ impl Archive {
         }
     }
 
+    /// The same, with room for so many names.
+    pub fn present_with_capacity(alloc: Global, capacity: usize) -> Result<Archive, Memory>
+        ensures { IfOk result (λ archive. archive ≡ Some empty) }
+    {
+        Ok(Archive {
+            root: State::Present,
+            edges: Vec::with_capacity(alloc, capacity)?,
+        })
+    }
+
     /// What it has at its root.
     pub fn root(&self) -> State
         ensures { result ≡ state self.now [] }
@@ -123,29 +133,40 @@ impl Archive {
         }
     }
 
-    /// What it has at a path.
-    #[tactic(auto, using(crate::proofs::States::archive_steps))]
-    pub fn state(&self, path: &Path) -> State
-        ensures { result ≡ state self.now path.now }
+    /// The archive at a path; none where nothing stands there. A mark stands at each path below it.
+    #[tactic(auto, using(crate::proofs::Paths::archive_steps))]
+    pub fn at(&self, path: &Path) -> Option<&Archive>
+        ensures { MatchOption result (at_path self.now path.now ≡ None) (λ found. found.now ≡ at_path self.now path.now) }
     {
         let mut here = self;
         for name in &path.names {
+            if let State::Marked = here.root() {
+                return Some(here);
+            }
             match here.child(name) {
                 Some(child) => here = child,
-                None => return here.off(),
+                None => return None,
             }
         }
-        here.root()
+        Some(here)
     }
 
-    // What it has below a name under which nothing stands.
-    fn off(&self) -> State
-        ensures { result ≡ state_off self.now }
+    /// What it has at a path.
+    #[tactic(auto, using(crate::proofs::Paths::archive_state))]
+    pub fn state(&self, path: &Path) -> State
+        ensures { result ≡ state self.now path.now }
     {
-        match self.root {
-            State::Marked => State::Marked,
-            _ => State::Missing,
+        match self.at(path) {
+            Some(found) => found.root(),
+            None => State::Missing,
         }
+    }
+
+    /// Gives back the room that its names don't need. What stands below them keeps its room.
+    pub fn fit(&mut self)
+        ensures { self.new ≡ self.old }
+    {
+        self.edges.shrink_to_fit();
     }
 
     /// Puts an archive that isn't missing at a name.
@@ -159,7 +180,7 @@ impl Archive {
         match place_of(&self.edges, &name) {
             Ok(_) => Ok(()),
             Err(at) => {
-                self.edges.insert(at, (name, child))?;
+                insert_edge(&mut self.edges, at, name, child)?;
                 Ok(())
             }
         }

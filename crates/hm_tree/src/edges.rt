@@ -1,9 +1,11 @@
 //! Edges in the order of their names.
-ghost use Rattle.std.specs.Prelude.{T, IfOk, IfErr, IsTrue, length};
+ghost use Rattle.std.specs.Prelude.{◌≡◌, ◌≤◌, T, IfOk, IfErr, OnOk, OnErr, IsTrue, length};
+ghost use Rattle.std.specs.List.{insert};
 ghost use Rattle.std.specs.FinMap.{is_sorted};
 ghost use Rattle.hm_tree.specs.Names.{name_cmp};
 ghost use Rattle.hm_tree.specs.Edges.{IsPlaceOf, IsGapFor};
 
+use crate::memory::Memory;
 use crate::name::Name;
 
 /// Where a name is, or where it would go.
@@ -39,4 +41,23 @@ fn is_past<V>(edges: &[(Name, V)], name: &Name) -> bool
         Some(last) => last.0.order(name).is_lt(),
         None => false,
     }
+}
+
+/// Puts an edge in at a place.
+pub fn insert_edge<V: Drop>(
+    edges: &mut Vec<(Name, V)>,
+    at: usize,
+    name: Name,
+    child: V,
+) -> Result<(), Memory>
+    requires { at ≤ length edges.old.items }
+    ensures ok { OnOk result (edges.new.items ≡ insert edges.old.items at (name, child)) }
+    ensures err { OnErr result (edges.new.items ≡ edges.old.items) }
+{
+    // Many nodes have one edge, and a vector that grows by itself would make room for several.
+    if edges.is_empty() {
+        edges.reserve_exact(1)?;
+    }
+    edges.insert(at, (name, child))?;
+    Ok(())
 }

@@ -1,10 +1,11 @@
-//! The one spelling of a name in a file: between quotes, with what doesn't stand for itself escaped.
+//! The one spelling of a name, between quotes, with what doesn't stand for itself escaped; and that of a path.
 ghost use Rattle.std.specs.Prelude.{◌≡◌, ◌≢◌, ◌<◌, ◌≤◌, ◌∷◌, [], ◌++◌, List, ℕ, length, take, slice_index, false, IfOk, OnOk, OnErr, MatchOption, is_ok, if◌then◌else◌};
-ghost use Rattle.hm_tree.specs.Spelling.{is_quote_or_backslash, is_control, is_plain, spelled_byte, escaped, spelled, IsUnspelled, IsUnspelledByte};
+ghost use Rattle.hm_tree.specs.Spelling.{is_quote_or_backslash, is_control, is_plain, spelled_byte, escaped, spelled, path_text, IsUnspelled, IsUnspelledByte};
 ghost use Rattle.std.specs.Char.{digit_char};
 
 use crate::memory::Memory;
 use crate::name::Name;
+use crate::path::Path;
 use std::alloc::Global;
 
 /// How a name is spelled.
@@ -27,6 +28,35 @@ pub fn append_spelled(name: &Name, out: &mut Vec<u8>) -> Result<(), Memory>
         out.truncate(start);
     }
     appended
+}
+
+/// Appends how a path is spelled: a stroke for the root, else one before the spelling of each name.
+pub fn append_path(path: &Path, out: &mut Vec<u8>) -> Result<(), Memory>
+    ensures ok { OnOk result (out.new.items ≡ out.old.items ++ path_text path.now) }
+    ensures err { OnErr result (out.new.items ≡ out.old.items) }
+{
+    let start = out.len();
+    let appended = append_steps(path, out);
+    if appended.is_err() {
+        out.truncate(start);
+    }
+    appended
+}
+
+// Appends a path name by name; without memory for one of them the names before it stay.
+fn append_steps(path: &Path, out: &mut Vec<u8>) -> Result<(), Memory>
+    ensures ok { OnOk result (out.new.items ≡ out.old.items ++ path_text path.now) }
+    ensures kept { (rest : List ℕ) × (out.new.items ≡ out.old.items ++ rest) }
+{
+    if path.names.is_empty() {
+        out.push(b'/')?;
+        return Ok(());
+    }
+    for name in &path.names {
+        out.push(b'/')?;
+        append_spelled(name, out)?;
+    }
+    Ok(())
 }
 
 // Appends a spelling piece by piece; without memory for one of them the pieces before it stay.

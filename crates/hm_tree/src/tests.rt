@@ -1,5 +1,7 @@
 //! Names, their classes and spellings, sets and paths, with expected values by hand.
-use crate::{Archive, Class, Memory, Name, NameSet, Path, State, Tree, spell_name, unspell_name};
+use crate::{
+    Archive, Class, Memory, Name, NameSet, Path, State, Tree, append_path, spell_name, unspell_name,
+};
 use std::alloc::Global;
 use std::process::Abort;
 use std::test::Fail;
@@ -163,6 +165,29 @@ fn path_of(alloc: Global, texts: &[&str]) -> Result<Path, Memory> {
     Ok(Path { names })
 }
 
+// A path is spelled so.
+fn assert_path_spelled(
+    rt: &impl Abort,
+    alloc: Global,
+    texts: &[&str],
+    spelled: &[u8],
+) -> Result<(), Memory> {
+    let mut bytes = Vec::new(alloc);
+    append_path(&path_of(alloc, texts)?, &mut bytes)?;
+    assert_eq!(rt; bytes.as_slice(), spelled);
+    Ok(())
+}
+
+#[test]
+fn spellings_of_paths(rt: HostRuntime) -> Result<(), Fail> {
+    let alloc = rt.alloc();
+    assert_path_spelled(&rt, alloc, &[], b"/")?;
+    assert_path_spelled(&rt, alloc, &[""], b"/\"\"")?;
+    assert_path_spelled(&rt, alloc, &["a", "b/c"], b"/\"a\"/\"b/c\"")?;
+    assert_path_spelled(&rt, alloc, &["a\"", "\t"], b"/\"a\\\"\"/\"\\x09\"")?;
+    Ok(())
+}
+
 // The tree of the one edge.
 fn edge_to(alloc: Global, text: &str, child: Tree) -> Result<Tree, Memory> {
     let mut tree = Tree::empty(alloc);
@@ -187,6 +212,23 @@ fn paths_of_a_tree(rt: HostRuntime) -> Result<(), Fail> {
         None => assert!(rt; false),
     }
     assert!(rt; tree.child(&Name::from_text(alloc, "b")?).is_none());
+    Ok(())
+}
+
+#[test]
+fn room_is_not_seen(rt: HostRuntime) -> Result<(), Fail> {
+    let alloc = rt.alloc();
+    let mut tree = Tree::with_capacity(alloc, 3)?;
+    assert!(rt; tree.same(&Tree::empty(alloc)));
+    let name = Name::from_text(alloc, "a")?;
+    if tree.child(&name).is_none() {
+        tree.insert(name, Tree::empty(alloc))?;
+    }
+    tree.fit();
+    assert!(rt; tree.same(&edge_to(alloc, "a", Tree::empty(alloc))?));
+    let mut archive = Archive::present_with_capacity(alloc, 3)?;
+    archive.fit();
+    assert!(rt; archive.records(&Tree::empty(alloc)));
     Ok(())
 }
 

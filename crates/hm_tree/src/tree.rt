@@ -4,10 +4,10 @@
 ghost use Rattle.std.specs.Prelude.{◌≡◌, ◌↔◌, IsTrue, ◌<◌, ◌≤◌, length, IfOk, OnOk, OnErr, IfErr, slice_get, Some, None, option_copied};
 ghost use Rattle.hm_tree.specs.Nodes.{edges, below, with_edge, without_edge, depth, deepest, empty};
 ghost use Rattle.hm_tree.specs.Edges.{IsPlaceOf, IsGapFor};
-ghost use Rattle.hm_tree.specs.States.{state};
+ghost use Rattle.hm_tree.specs.States.{state, at_path};
 ghost use Rattle.hm_tree.specs.declared.archive.State.TheVariants.{Present};
 
-use crate::edges::place_of;
+use crate::edges::{insert_edge, place_of};
 use crate::memory::Memory;
 use crate::name::Name;
 use crate::path::Path;
@@ -52,6 +52,16 @@ impl Tree {
         }
     }
 
+    /// The same, with room for so many edges.
+    pub fn with_capacity(alloc: Global, capacity: usize) -> Result<Tree, Memory>
+        ensures { IfOk result (λ tree. tree ≡ empty) }
+    {
+        Ok(Tree {
+            edges: Vec::with_capacity(alloc, capacity)?,
+            deep: 0,
+        })
+    }
+
     /// The number of its edges.
     pub fn count(&self) -> usize
         ensures { result ≡ length (edges self.now) }
@@ -78,19 +88,37 @@ impl Tree {
         }
     }
 
-    /// Whether something stands at a path.
-    #[tactic(auto, using(crate::proofs::States::tree_steps))]
-    pub fn has(&self, path: &Path) -> bool
-        ensures { IsTrue result ↔ (state (Some self.now) path.now ≡ Present) }
+    /// The subtree at a path; none where nothing stands there.
+    #[tactic(auto, using(crate::proofs::Paths::tree_steps))]
+    pub fn at(&self, path: &Path) -> Option<&Tree>
+        ensures { option_copied result ≡ at_path (Some self.now) path.now }
     {
         let mut here = self;
         for name in &path.names {
             match here.child(name) {
                 Some(child) => here = child,
-                None => return false,
+                None => return None,
             }
         }
-        true
+        Some(here)
+    }
+
+    /// Whether something stands at a path.
+    #[tactic(auto, using(crate::proofs::Paths::tree_state))]
+    pub fn has(&self, path: &Path) -> bool
+        ensures { IsTrue result ↔ (state (Some self.now) path.now ≡ Present) }
+    {
+        match self.at(path) {
+            Some(_) => true,
+            None => false,
+        }
+    }
+
+    /// Gives back the room that its edges don't need. Those of its subtrees keep theirs.
+    pub fn fit(&mut self)
+        ensures { self.new ≡ self.old }
+    {
+        self.edges.shrink_to_fit();
     }
 
     /// Adds an edge. A name greater than all others costs no move of edges.
@@ -106,7 +134,7 @@ impl Tree {
                     Some(below) => below,
                     None => return Err(Memory),
                 };
-                self.edges.insert(at, (name, child))?;
+                insert_edge(&mut self.edges, at, name, child)?;
                 self.deep = self.deep.max(below);
                 Ok(())
             }

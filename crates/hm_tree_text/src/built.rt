@@ -32,6 +32,10 @@ pub trait Built: Drop {
         requires behind { T (is_behind name (edges_in (value self.old))) }
         requires there { IsTrue (is_some (value child)) }
         ensures { OnOk result (value self.new ≡ with_archive name (value child) (value self.old)) };
+
+    // Gives back the room that its edges don't need.
+    fn fit(&mut self)
+        ensures { value self.new ≡ value self.old };
 }
 
 impl Built for Tree {
@@ -59,6 +63,10 @@ impl Built for Tree {
     fn add(&mut self, name: Name, child: Tree) -> Result<(), Memory> {
         self.insert(name, child)
     }
+
+    fn fit(&mut self) {
+        self.fit();
+    }
 }
 
 impl Built for Archive {
@@ -85,5 +93,9 @@ impl Built for Archive {
 
     fn add(&mut self, name: Name, child: Archive) -> Result<(), Memory> {
         self.insert(name, child)
+    }
+
+    fn fit(&mut self) {
+        self.fit();
     }
 }

@@ -101,6 +101,7 @@ fn read_inside<B: Built>(
         node.add(edge.name, edge.child)?;
         end = edge.end;
         if !edge.more {
+            node.fit();
             return Ok((node, end));
         }
     }

@@ -1,7 +1,7 @@
 use Rattle.std.proofs.Common.{Option, None, ◌<◌, arith, ℕ, inl, inr, Some, sym, subst, ◌∙◌, refl, option_copied}
 use Rattle.hm_tree.specs.Names.{Name}
 use Rattle.hm_tree.specs.Nodes.{Tree, edges, marked}
-use Rattle.hm_tree.specs.Archives.{Archive, recorded}
+use Rattle.hm_tree.specs.Archives.{recorded}
 use Rattle.hm_outcome.specs.Trios.{Trio, given}
 use Rattle.hm_outcome.specs.Outcomes.{IsOutcome}
 use Rattle.hm_reconcile.specs.Sides.{sides_of}
@@ -10,7 +10,7 @@ use Rattle.hm_reconcile.proofs.Walking.{split_at_start, all_passed}
 use Rattle.hm_reconcile.proofs.Gathered.{IsGathered, gathered_next, gathered, names_refused}
 use Rattle.hm_reconcile.proofs.Nodes.{comes_to, equal_outcome, stopped_outcome, marked_contested, has_node, members_at, gathered_none, size_falls, node_in_range, settled_here, refuted}
 use Rattle.hm_reconcile.proofs.Falling.{side_size}
-use Rattle.hm_reconcile.proofs.node.+reconciling.Goals.{at_node-in-Some-child+in_ok-here-in-Some-child, at_node-in-None+in_ok-here-in-None}
+use Rattle.hm_reconcile.proofs.node.+reconciling.Goals.{at_node-in-Some-child_near+in_ok-here-in-Some-child_near, at_node-in-None+in_ok-here-in-None, at_node-then-not-permits-via-then-not-permits, at_node-then-not-permits-via-else-not-permits+then-not-permits-2}
 use Rattle.hm_reconcile.proofs.node.+reconciling.Goals as goal
 
 pub at_node-returns-then-same : goal.at_node-returns-then-same
@@ -32,8 +32,8 @@ pub at_node-loop-step-init : goal.at_node-loop-step-init
 at_node-loop-step-init t c = record {
   split = split_at_start c.args.left.now c.args.right.now;
   gathered =
-      subst (λ (z : Archive × Tree × Tree). IsGathered c.args.schema.now c.args.id (given c.args.archive.now c.args.left.now c.args.right.now) (Passed c.args.left.now c.args.right.now 0 0) (given z.0 z.1 z.2))
-      (λ x. (sym c.present.ensures x, sym c.empty.ensures x, sym c.empty-2.ensures x))
+      subst (IsGathered c.args.schema.now c.args.id (given c.args.archive.now c.args.left.now c.args.right.now) (Passed c.args.left.now c.args.right.now 0 0))
+      (sym c.in_ok-made.ensures)
       (gathered_none c.args.schema.now c.args.id (given c.args.archive.now c.args.left.now c.args.right.now) c.args.left.now c.args.right.now);
 }
 
@@ -47,7 +47,7 @@ at_node-child-child-requires t c = record {
 pub at_node-at_name-requires : goal.at_node-at_name-requires
 at_node-at_name-requires t c = (
   (let less = size_falls c.args.left.now c.in-Some.step.name.now (option_copied c.in-Some.step.left) 3 c.in-Some.ensures.left_is (omega arith) in subst (λ z. side_size (option_copied c.in-Some.step.left) 3 < z) c.decreases less),
-  (c.child-child.ensures.in_range, (c.requires.no_twins, (c.in-Some.ensures.there, members_at c.args.schema.now c.args.id c.child-child.result c.args.archive.now c.in-Some-child.under.now c.args.left.now c.args.right.now c.in-Some.step.name.now (option_copied c.in-Some.step.left) (option_copied c.in-Some.step.right) c.requires.members c.child-child.ensures.child c.in-Some.ensures.left_is c.in-Some.ensures.right_is))),
+  (c.child-child.ensures.in_range, (c.requires.no_twins, (c.in-Some.ensures.there, members_at c.args.schema.now c.args.id c.child-child.result c.args.archive.now c.in-Some-child_near.under.now c.args.left.now c.args.right.now c.in-Some.step.name.now (option_copied c.in-Some.step.left) (option_copied c.in-Some.step.right) c.requires.members c.child-child.ensures.child c.in-Some.ensures.left_is c.in-Some.ensures.right_is))),
 )
 
 pub at_node-at_new_name-requires : goal.at_node-at_new_name-requires
@@ -62,14 +62,14 @@ at_node-loop-step-preserved t c = record {
   gathered =
       subst (λ (z : ℕ × ℕ × Trio). IsGathered c.args.schema.now c.args.id before (Passed c.args.left.now c.args.right.now z.0 z.1) z.2)
       (λ x. (sym c.behind-at.ensures x, sym c.behind-other.ensures x, sym c.in_ok-put.ensures x))
-      (gathered_next c.args.schema.now c.args.id before (Passed c.args.left.now c.args.right.now c.loop-step.at c.loop-step.other) c.loop-step.made.archive c.loop-step.made.left c.loop-step.made.right c.loop-step.invariant.gathered name step.fresh (sides_of c.match-child.here)
+      (gathered_next c.args.schema.now c.args.id before (Passed c.args.left.now c.args.right.now c.loop-step.at c.loop-step.other) c.loop-step.made.archive c.loop-step.made.left c.loop-step.made.right c.loop-step.invariant.gathered name step.fresh (sides_of c.match-child_near.here)
       (Passed c.args.left.now c.args.right.now (place_behind c.loop-step.at one) (place_behind c.loop-step.other two)) step.passed
-      (elim c.match-child.branch [
-        | at_node-in-Some-child+in_ok-here-in-Some-child w ↦
-            settled_here c.args.schema.now c.args.id c.child-child.result c.args.archive.now w.in-Some-child.under.now c.args.left.now c.args.right.now name one two (sides_of c.match-child.here) c.child-child.ensures.child w.in-Some-child.ensures.0 step.left_is step.right_is
-            (subst (λ z. IsOutcome c.args.schema.now c.child-child.result (record { archive = w.in-Some-child.under.now; left = one; right = two }) (sides_of z)) (sym w.here-is) w.in_ok-here-in-Some-child.ensures)
+      (elim c.match-child_near.branch [
+        | at_node-in-Some-child_near+in_ok-here-in-Some-child_near w ↦
+            settled_here c.args.schema.now c.args.id c.child-child.result c.args.archive.now w.in-Some-child_near.under.now c.args.left.now c.args.right.now name one two (sides_of c.match-child_near.here) c.child-child.ensures.child w.in-Some-child_near.ensures step.left_is step.right_is
+            (subst (λ z. IsOutcome c.args.schema.now c.child-child.result (record { archive = w.in-Some-child_near.under.now; left = one; right = two }) (sides_of z)) (sym w.here-is) w.in_ok-here-in-Some-child_near.ensures)
         | at_node-in-None+in_ok-here-in-None w ↦
-            settled_here c.args.schema.now c.args.id c.child-child.result c.args.archive.now None c.args.left.now c.args.right.now name one two (sides_of c.match-child.here) c.child-child.ensures.child (sym w.in-None.ensures) step.left_is step.right_is
+            settled_here c.args.schema.now c.args.id c.child-child.result c.args.archive.now None c.args.left.now c.args.right.now name one two (sides_of c.match-child_near.here) c.child-child.ensures.child (sym w.in-None.ensures) step.left_is step.right_is
             (subst (λ z. IsOutcome c.args.schema.now c.child-child.result (record { archive = None; left = one; right = two }) (sides_of z)) (sym w.here-is) w.in_ok-here-in-None.ensures)
       ]));
 }
@@ -96,16 +96,11 @@ at_node-returns-then-not-permits t c =
     (stopped_outcome c.args.schema.now c.args.id c.args.archive.now c.args.left.now c.args.right.now c.requires.members
     (names_refused c.args.schema.now c.args.id c.args.archive.now c.args.left.now c.args.right.now c.requires.members (λ mark. c.in_default.not-Marked (c.root.ensures ∙ mark))
     (Passed c.args.left.now c.args.right.now c.loop-step.at c.loop-step.other) (all_passed c.args.left.now c.args.right.now c.loop-step.at c.loop-step.other c.in_default-next_step.ensures)
-    c.loop-step.made.archive c.loop-step.made.left c.loop-step.made.right c.loop-step.invariant.gathered node.0 node.1 (inl (λ permitted. refuted (c.if-not-permits.ensures.1 permitted)))))
-
-pub at_node-returns-then-not-permits-2 : goal.at_node-returns-then-not-permits-2
-at_node-returns-then-not-permits-2 t c =
-    let node = node_in_range c.args.schema.now c.args.id c.requires.in_range in
-    comes_to c.args.schema.now c.args.id (given c.args.archive.now c.args.left.now c.args.right.now) (given (Some marked) c.args.left.now c.args.right.now) c.stopped-then-not-permits-2.result c.stopped-then-not-permits-2.ensures
-    (stopped_outcome c.args.schema.now c.args.id c.args.archive.now c.args.left.now c.args.right.now c.requires.members
-    (names_refused c.args.schema.now c.args.id c.args.archive.now c.args.left.now c.args.right.now c.requires.members (λ mark. c.in_default.not-Marked (c.root.ensures ∙ mark))
-    (Passed c.args.left.now c.args.right.now c.loop-step.at c.loop-step.other) (all_passed c.args.left.now c.args.right.now c.loop-step.at c.loop-step.other c.in_default-next_step.ensures)
-    c.loop-step.made.archive c.loop-step.made.left c.loop-step.made.right c.loop-step.invariant.gathered node.0 node.1 (inr (λ permitted. refuted (c.if-not-permits-2.ensures.1 permitted)))))
+    c.loop-step.made.archive c.loop-step.made.left c.loop-step.made.right c.loop-step.invariant.gathered node.0 node.1
+    (elim c.then-not-permits.branch [
+      | at_node-then-not-permits-via-then-not-permits w ↦ inl (λ permitted. refuted (w.if-not-permits.ensures.1 permitted))
+      | at_node-then-not-permits-via-else-not-permits+then-not-permits-2 w ↦ inr (λ permitted. refuted (w.if-not-permits-2.ensures.1 permitted))
+    ])))
 
 pub at_node-returns : goal.at_node-returns
 at_node-returns t c =

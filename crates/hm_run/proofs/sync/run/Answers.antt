@@ -1,6 +1,6 @@
 use Rattle.hm_run.specs.Endings.{Outside, EndsAs}
 use Rattle.hm_run.proofs.Ending.{ends}
-use Rattle.hm_run.proofs.Relied.{synchronised, refused, complete}
+use Rattle.hm_run.proofs.Relied.{synchronised, reported, refused, complete}
 use Rattle.hm_run.proofs.sync.run.Goals as goal
 
 pub returns : goal.returns
@@ -12,6 +12,7 @@ returns g c =
     record {
       ends = (c.finish-ending.result, c.status_of.ensures, so);
       synchronised = λ at. synchronised c.finish-ending.result c.args.words.now before after c.status_of.result c.status_of.ensures so at;
+      reported = λ at. reported c.finish-ending.result c.args.words.now before after c.status_of.result c.status_of.ensures so at;
       refused = λ at. refused c.finish-ending.result c.args.words.now before after c.status_of.result c.status_of.ensures so at;
       complete = λ f s. complete c.finish-ending.result c.args.words.now before after c.status_of.result c.status_of.ensures so f s;
     }

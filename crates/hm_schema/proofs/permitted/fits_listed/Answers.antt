@@ -4,14 +4,14 @@ use Rattle.std.specs.FinMap.{find}
 use Rattle.hm_tree.specs.Names.{Name, name_cmp}
 use Rattle.hm_schema.specs.declared.node.NodeId.{NodeId}
 use Rattle.hm_schema.specs.Values.{node_value}
-use Rattle.hm_schema.specs.Permitted.{FitsName, names_of}
+use Rattle.hm_schema.specs.Permitted.{FitsName}
 use Rattle.hm_schema.proofs.NamesOf.{found_at_place}
 use Rattle.hm_schema.proofs.Fitting.{fits_all, fits_one}
 use Rattle.hm_schema.proofs.Lists.{all_next, all_done}
 use Rattle.hm_schema.proofs.permitted.fits_listed.Goals as goal
 
 pub returns-then-not-fits_name : goal.returns-then-not-fits_name
-returns-then-not-fits_name c = (
+returns-then-not-fits_name g c = (
   λ f. absurd (false≢true f),
   λ fits.
       let lt : c.loop-child.child-index < length c.args.node.now.children.items = rw (← c.deref-child-items.ensures.value) (search rules) in
@@ -22,11 +22,11 @@ returns-then-not-fits_name c = (
 )
 
 pub loop-child-preserved : goal.loop-child-preserved
-loop-child-preserved c =
-    all_next (λ (e : Name × NodeId). FitsName c.args.shape.now (names_of c.args.tree.now) e.0) c.deref-child-items.result.now _ _ (search rules) c.child-item.is c.loop-child.invariant (c.fits_name.ensures.0 (search rules))
+loop-child-preserved g c =
+    all_next (λ (e : Name × NodeId). FitsName c.args.shape.now (g.N.Named.names c.args.names.now) e.0) c.deref-child-items.result.now _ _ (search rules) c.child-item.is c.loop-child.invariant (c.fits_name.ensures.0 (search rules))
 
 pub returns : goal.returns
-returns c = (
-  λ _. fits_all _ _ _ c.requires.shape (rw (← c.deref-child-items.ensures.value) (all_done (λ (e : Name × NodeId). FitsName c.args.shape.now (names_of c.args.tree.now) e.0) c.deref-child-items.result.now _ (search rules) c.loop-child.invariant)),
+returns g c = (
+  λ _. fits_all _ _ _ c.requires.shape (rw (← c.deref-child-items.ensures.value) (all_done (λ (e : Name × NodeId). FitsName c.args.shape.now (g.N.Named.names c.args.names.now) e.0) c.deref-child-items.result.now _ (search rules) c.loop-child.invariant)),
   λ _. refl,
 )

@@ -1,12 +1,12 @@
 use Rattle.std.proofs.Common.{rules, refl, sym, subst, All}
 use mathlib.Core.Bool.{false≢true}
 use Rattle.hm_schema.specs.Values.{node_value}
-use Rattle.hm_schema.specs.Permitted.{Fits, IsWithin, names_of}
+use Rattle.hm_schema.specs.Permitted.{Fits, IsWithin}
 use Rattle.hm_schema.proofs.Lists.{none_is, all_done}
 use Rattle.hm_schema.proofs.permitted.permits.Goals as goal
 
 pub returns-then-fits_listed : goal.returns-then-fits_listed
-returns-then-fits_listed c = (
+returns-then-fits_listed g c = (
   λ _. (
     c.loop-shape.shape-index,
     c.shape-item.result,
@@ -22,7 +22,7 @@ returns-then-fits_listed c = (
 )
 
 pub returns : goal.returns
-returns c = (
+returns g c = (
   λ f. absurd (false≢true f),
-  λ some. absurd (none_is (λ s. Fits (node_value c.args.node.now) s (names_of c.args.tree.now)) c.args.node.now.shapes.items (subst (λ l. All (λ s. ¬ (Fits (node_value c.args.node.now) s (names_of c.args.tree.now))) l) c.deref-shape-items.ensures.value (all_done (λ s. ¬ (Fits (node_value c.args.node.now) s (names_of c.args.tree.now))) c.deref-shape-items.result.now _ (search rules) c.loop-shape.invariant)) some),
+  λ some. absurd (none_is (λ s. Fits (node_value c.args.node.now) s (g.N.Named.names c.args.names.now)) c.args.node.now.shapes.items (subst (λ l. All (λ s. ¬ (Fits (node_value c.args.node.now) s (g.N.Named.names c.args.names.now))) l) c.deref-shape-items.ensures.value (all_done (λ s. ¬ (Fits (node_value c.args.node.now) s (g.N.Named.names c.args.names.now))) c.deref-shape-items.result.now _ (search rules) c.loop-shape.invariant)) some),
 )

@@ -1,4 +1,4 @@
-use Rattle.std.proofs.Common.{◌-◌, refl, arith}
+use Rattle.std.proofs.Common.{◌-◌, refl, arith, ◌∙◌}
 use Rattle.std.proofs.lemmas.Result.{err_from_is_err_and}
 use Rattle.hm_tree_text.proofs.Gathering.{gathered_none, gathered_more, gathered_all, edge_fails}
 use Rattle.hm_tree_text.proofs.Reached.{not_false, if_ok, if_err, passed, name_fails, below_fails, separator_fails, edge_read, edge_longer, below_nothing, below_mark, full_fails, too_deep, below_inside, inside_fails}
@@ -55,7 +55,7 @@ read_inside-returns-in_err-edge-clause-fault g t c =
     passed _ _ _ _ p.1 p.2 (edge_fails _ _ _ _ _ _ c.loop-node.invariant c.requires _ c.in_err-edge.ensures.fault)
 
 pub read_inside-returns-then-not-edge-clause-text : goal.read_inside-returns-then-not-edge-clause-text
-read_inside-returns-then-not-edge-clause-text g t c = gathered_all _ _ _ _ _ _ c.loop-node.invariant _ _ _ _ c.in_ok-edge.ensures.text _ c.in_ok-add.ensures c.if-not-edge.true
+read_inside-returns-then-not-edge-clause-text g t c = gathered_all _ _ _ _ _ _ c.loop-node.invariant _ _ _ _ c.in_ok-edge.ensures.text _ (c.fit.ensures ∙ c.in_ok-add.ensures) c.if-not-edge.true
 
 pub read_inside-loop-node-smaller : goal.read_inside-loop-node-smaller
 read_inside-loop-node-smaller g t c =

@@ -1,0 +1,16 @@
+pub mod Along
+pub mod CarriedNames
+pub mod Certified
+pub mod ConflictPaths
+pub mod EachEdge
+pub mod FirstNews
+pub mod MarksAlong
+pub mod MarksCounted
+pub mod PathOrder
+pub mod SafeBelow
+pub mod SafeCases
+pub mod SafeTests
+pub mod Showing
+pub mod SortedLists
+pub mod Steps
+pub mod Verdicts

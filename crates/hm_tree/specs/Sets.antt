@@ -1,0 +1,13 @@
+-- The names of a set, in ascending order.
+use Rattle.std.specs.Prelude.{List, [], ◌∷◌, map}
+use Rattle.std.specs.FinMap.{put}
+use Rattle.std.specs.FinSet.{FinSet, items}
+use Rattle.hm_tree.specs.Names.{Name, name_cmp}
+
+-- each name of a list once, in its place
+abbrev pub placed : List Name → List (Name × Unit {0})
+placed [] = []
+placed (k ∷ names) = put name_cmp k tt (placed names)
+
+unfoldable pub ascending : FinSet name_cmp → List Name
+ascending names = map (λ e. e.0) (placed (items names))
