@@ -14,7 +14,7 @@ use Rattle.hm_schema.specs.Membership.{path_cmp}
 use Rattle.hm_outcome.specs.TopmostMarks.{AreTopmostMarks}
 use Rattle.hm_outcome.specs.TopmostList.{topmost_list}
 use Rattle.hm_report.specs.declared.conflict.Conflict.{Conflict}
-use Rattle.hm_certify.proofs.PathOrder.{path_total}
+use Rattle.hm_outcome.proofs.TopmostLists.{path_total}
 use Rattle.hm_certify.proofs.MarksCounted.{listed_count, counted_list, all_marks}
 
 abbrev pub paths_of : List Conflict → List Path

@@ -11,6 +11,5 @@ pub mod SafeBelow
 pub mod SafeCases
 pub mod SafeTests
 pub mod Showing
-pub mod SortedLists
 pub mod Steps
 pub mod Verdicts

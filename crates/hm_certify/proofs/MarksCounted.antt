@@ -13,9 +13,8 @@ use Rattle.hm_safety.specs.Safety.{IsTopmostMark}
 use Rattle.hm_schema.specs.Membership.{path_cmp}
 use Rattle.hm_outcome.specs.TopmostMarks.{AreTopmostMarks}
 use Rattle.hm_outcome.specs.TopmostList.{topmost_list}
-use Rattle.hm_outcome.proofs.TopmostLists.{place_marks, list_marked, list_places, topmost_listed}
-use Rattle.hm_certify.proofs.PathOrder.{path_total}
-use Rattle.hm_certify.proofs.SortedLists.{contained, no_longer}
+use Rattle.hm_outcome.proofs.TopmostLists.{path_total, marks_once, place_marks, list_marked, list_places, topmost_listed}
+use Rattle.hm_outcome.proofs.SortedLists.{contained}
 
 pub one_at_mark : (o : Archive) → state o [] ≡ Marked → length (topmost_list o) ≡ 1
 one_at_mark o m = ap length (list_marked o m)
@@ -45,11 +44,7 @@ passed_some o i n = let all = ap length (list_places o n) in let le = grows (edg
 -- ---- the list of the topmost marks
 
 pub listed_count : (o : Archive) (ps : List Path) → AreTopmostMarks (state o) ps → length ps ≡ length (topmost_list o)
-listed_count o ps h =
-    let list = topmost_listed o in
-    let to = no_longer path_cmp path_total ps (topmost_list o) h.ascending list.ascending (λ p c. (list.each p).1 ((h.each p).0 c)) in
-    let back = no_longer path_cmp path_total (topmost_list o) ps list.ascending h.ascending (λ p c. (h.each p).1 ((list.each p).0 c)) in
-    omega arith
+listed_count o ps h = ap length (marks_once (state o) ps (topmost_list o) h (topmost_listed o))
 
 pub counted_list : (o : Archive) (ps : List Path) → IsStrictlySortedBy path_cmp ps → All (IsTopmostMark (state o)) ps → length ps ≡ length (topmost_list o) → AreTopmostMarks (state o) ps
 counted_list o ps ascending all e =

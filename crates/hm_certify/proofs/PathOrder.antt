@@ -3,17 +3,11 @@ use Rattle.std.proofs.Common.{◌≡◌, ◌↔◌, ℕ, suc, ◌+◌, ◌<◌, 
 use Rattle.std.proofs.lemmas.List.{drop_all, get_or_default}
 use Rattle.std.proofs.lemmas.Bool.{ltb-true, ltb-false}
 use lib.Dec.{ltb}
-use Rattle.std.specs.Cmp.{IsTotalOrder}
-use Rattle.std.specs.Cmp.Lexicographic.{lists_total}
 use Rattle.std.specs.declared.cmp.Ordering.TheVariants.{Less, Equal, Greater}
 use Rattle.hm_tree.specs.Names.{Name}
 use Rattle.hm_tree.specs.States.{Path}
-use Rattle.hm_tree.proofs.Sorted.{name_total}
 use Rattle.hm_schema.specs.Membership.{path_cmp}
 use Rattle.hm_certify.proofs.Verdicts.{is_so, is_not}
-
-pub path_total : IsTotalOrder path_cmp
-path_total = lists_total name_total
 
 pub front : (p : Path) (i : ℕ) (k : Name) → i < length p → k ≡ get_or p i k → drop i p ≡ k ∷ drop (i + 1) p
 front p i k lt e = rw add-one (drop-cons p i k lt ∙ (λ j. sym e j ∷ drop (suc i) p))

@@ -5,6 +5,7 @@ pub mod Settled
 pub mod OneSided
 pub mod Downward
 pub mod Search
+pub mod SortedLists
 pub mod TopmostLists
 pub mod Examples
 pub mod Apart

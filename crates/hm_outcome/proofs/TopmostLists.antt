@@ -6,6 +6,8 @@ use Rattle.std.specs.FinMap.{find, is_sorted}
 use Rattle.std.specs.List.{flat_map, Contains, AllByRecursion}
 use Rattle.std.specs.List.Sorted.{IsStrictlySortedBy}
 use Rattle.std.specs.Option.{option_map}
+use Rattle.std.specs.Cmp.{IsTotalOrder}
+use Rattle.std.specs.Cmp.Lexicographic.{lists_total}
 use mathlib.Core.Bool.{true≢false}
 use Rattle.std.proofs.lemmas.Cmp.{tied_itself}
 use Rattle.std.proofs.lemmas.List.{length-map, get_or-map, get_or_default}
@@ -26,6 +28,7 @@ use Rattle.hm_schema.proofs.NamesOf.{tie_one}
 use Rattle.hm_outcome.specs.TopmostMarks.{AreTopmostMarks}
 use Rattle.hm_outcome.specs.TopmostList.{below_name, marks_of, topmost_list}
 use Rattle.hm_outcome.proofs.Marks.{at_root, below_root}
+use Rattle.hm_outcome.proofs.SortedLists.{contained, no_longer}
 
 -- the marks below an edge
 abbrev pub edge_marks : Name × Node true → List Path
@@ -283,3 +286,14 @@ topmost_listed None = record {
   each = λ p. ((λ c. absurd (nothing_contained p c)), (λ top. absurd (no_mark_of_none p top)));
 }
 topmost_listed (Some t) = node_listed (suc (depth t)) t (omega arith)
+
+-- ---- there is one list of the topmost marks
+
+pub path_total : IsTotalOrder path_cmp
+path_total = lists_total name_total
+
+pub marks_once : (archive : View) (xs ys : List Path) → AreTopmostMarks archive xs → AreTopmostMarks archive ys → xs ≡ ys
+marks_once archive xs ys one other =
+    let forth = no_longer path_cmp path_total xs ys one.ascending other.ascending (λ p c. (other.each p).1 ((one.each p).0 c)) in
+    let back = no_longer path_cmp path_total ys xs other.ascending one.ascending (λ p c. (one.each p).1 ((other.each p).0 c)) in
+    contained path_cmp path_total xs ys one.ascending other.ascending (λ p c. (other.each p).1 ((one.each p).0 c)) (omega arith)

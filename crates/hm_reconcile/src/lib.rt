@@ -13,13 +13,14 @@ mod trees;
 mod walk;
 mod whole;
 
-ghost use Rattle.std.specs.Prelude.{IfOk};
+ghost use Rattle.std.specs.Prelude.{◌≡◌, IfOk, List};
 ghost use Rattle.hm_tree.specs.States.{state, Path};
 ghost use Rattle.hm_safety.specs.Safety.{IsTopmostMark};
 ghost use Rattle.hm_schema.specs.Membership.{HasNoTwins};
-ghost use Rattle.hm_outcome.specs.Trios.{given, views, AreMembers, Differ};
+ghost use Rattle.hm_outcome.specs.Trios.{Trio, given, views, AreMembers, Differ};
 ghost use Rattle.hm_outcome.specs.Outcomes.{IsOutcome, IsMaximal, IsOnlyOne};
-ghost use Rattle.hm_report.specs.Conflicts.{AreConflicts, AreExplained};
+ghost use Rattle.hm_report.specs.declared.conflict.Conflict.{Conflict as ConflictValue};
+ghost use Rattle.hm_report.specs.Conflicts.{AreConflicts, AreExplained, IsOutcomeWith};
 
 use crate::conflicts::conflicts_of;
 use crate::node::at_node;
@@ -45,6 +46,7 @@ pub fn reconcile(
     ensures best { IfOk result (λ o. IsMaximal schema.now schema.now.root (given archive.now left.now right.now) (given o.archive o.left o.right)) }
     ensures only { IfOk result (λ o. IsOnlyOne schema.now schema.now.root (given archive.now left.now right.now) (given o.archive o.left o.right)) }
     ensures conflicts { IfOk result (λ o. AreConflicts schema.now schema.now.root (views (given archive.now left.now right.now)) (state o.archive) o.conflicts.items) }
+    ensures once { IfOk result (λ o. (other : Trio) (conflicts : List ConflictValue) → IsOutcomeWith schema.now schema.now.root (given archive.now left.now right.now) other conflicts → (other ≡ given o.archive o.left o.right) × (conflicts ≡ o.conflicts.items)) }
     ensures explained { IfOk result (λ o. AreExplained schema.now schema.now.root (views (given archive.now left.now right.now)) (views (given o.archive o.left o.right)) o.conflicts.items) }
     ensures apart { IfOk result (λ o. (p : Path) → IsTopmostMark (state o.archive) p → Differ (views (given o.archive o.left o.right)) p) }
 {

@@ -2,7 +2,6 @@
 use Rattle.std.proofs.Common.{◌≡◌, ◌⊎◌, inl, inr, ℕ, ◌<◌, List, [], ◌∷◌, ◌++◌, append-nil, map, length, get_or, refl, sym, ap, subst, ◌∙◌, arith}
 use Rattle.std.specs.List.{Contains}
 use Rattle.std.specs.List.Sorted.{IsStrictlySortedBy}
-use Rattle.std.specs.Ordering.{ordering_then}
 use Rattle.std.specs.declared.cmp.Ordering.TheVariants.{Less, Equal}
 use Rattle.std.proofs.lemmas.Bool.{cases_lt}
 use Rattle.std.proofs.lemmas.Cmp.{tied_itself}
@@ -11,7 +10,6 @@ use Rattle.std.proofs.lemmas.List.Elements.{All-get_or}
 use Rattle.std.proofs.lemmas.Map.Keys.{Less-from_sorted}
 use Rattle.hm_tree.specs.declared.archive.State.TheVariants.{Marked}
 use Rattle.hm_tree.specs.States.{Path, state}
-use Rattle.hm_tree.proofs.Sorted.{name_total}
 use Rattle.hm_tree.proofs.States.{state_unmarked}
 use Rattle.hm_safety.specs.Views.{View}
 use Rattle.hm_safety.specs.Safety.{IsTopmostMark}
@@ -21,6 +19,7 @@ use Rattle.hm_schema.specs.Values.{SchemaValue}
 use Rattle.hm_outcome.specs.Trios.{Trio, views}
 use Rattle.hm_outcome.specs.Outcomes.{IsOutcome}
 use Rattle.hm_outcome.proofs.Marks.{agree_of, topmost_above, IsUnderTopmost}
+use Rattle.hm_outcome.proofs.TopmostLists.{path_total}
 use Rattle.hm_report.specs.declared.conflict.Conflict.{Conflict}
 use Rattle.hm_report.specs.Reasons.{ShowsWhy}
 use Rattle.hm_report.specs.Conflicts.{AreConflicts, AreExplained}
@@ -50,10 +49,6 @@ one_mark o a x b y one two e = elim (one_way a x b y e) [
 ]
 
 -- ---- each path is listed once
-
-path_tied : (p : Path) → path_cmp p p ≡ Equal
-path_tied [] = refl
-path_tied (k ∷ p) = ap (λ o. ordering_then o (path_cmp p p)) (tied_itself name_total k) ∙ path_tied p
 
 abbrev pub paths : List Conflict → List Path
 paths conflicts = map (λ c. c.path) conflicts
@@ -89,7 +84,7 @@ not_later conflicts ascending c d i j lt within here there same =
     let long = length-map conflicts (λ (c : Conflict). c.path) in
     let less = Less-from_sorted path_cmp (paths conflicts) i j c.path ascending lt (omega arith) in
     let later : get_or (paths conflicts) j c.path ≡ d.path = get_or_default (paths conflicts) j c.path d.path (omega arith) ∙ path_of conflicts j d within there in
-    let tie : Equal ≡ Less = sym (path_tied c.path) ∙ sym (λ z. path_cmp (path_of conflicts i c (omega arith) here z) ((later ∙ sym same) z)) ∙ less in
+    let tie : Equal ≡ Less = sym (tied_itself path_total c.path) ∙ sym (λ z. path_cmp (path_of conflicts i c (omega arith) here z) ((later ∙ sym same) z)) ∙ less in
     let no : ⊥ = cc in no
 
 one_conflict : (conflicts : List Conflict) → IsStrictlySortedBy path_cmp (paths conflicts) → (c d : Conflict) → Contains conflicts c → Contains conflicts d → c.path ≡ d.path → c ≡ d

@@ -5,6 +5,8 @@ use Rattle.hm_tree.specs.States.{Path}
 use Rattle.hm_safety.specs.Views.{View, Views, Agree}
 use Rattle.hm_schema.specs.declared.node.NodeId.{NodeId}
 use Rattle.hm_schema.specs.Values.{SchemaValue}
+use Rattle.hm_outcome.specs.Trios.{Trio, views}
+use Rattle.hm_outcome.specs.Outcomes.{IsOutcome}
 use Rattle.hm_outcome.specs.TopmostMarks.{AreTopmostMarks}
 use Rattle.hm_report.specs.declared.conflict.Conflict.{Conflict}
 use Rattle.hm_report.specs.Reasons.{ShowsWhy}
@@ -13,6 +15,11 @@ use Rattle.hm_report.specs.Reasons.{ShowsWhy}
 pub record AreConflicts (s : SchemaValue) (i : NodeId) (before : Views) (archive : View) (conflicts : List Conflict) : Type 0 where
   pub at_marks : AreTopmostMarks archive (map (λ c. c.path) conflicts)
   pub each : All (λ c. ShowsWhy s i before c.path c.why) conflicts
+
+-- all that a reconciling comes to: the outcome, and its conflicts
+pub record IsOutcomeWith (s : SchemaValue) (i : NodeId) (before after : Trio) (conflicts : List Conflict) : Type 0 where
+  pub outcome : IsOutcome s i before after
+  pub remain : AreConflicts s i (views before) (views after).archive conflicts
 
 -- a conflict stands at a path or above it
 pub record IsUnder (p : Path) (c : Conflict) : Type 0 where
