@@ -1,0 +1,184 @@
+# shellcheck shell=bash
+# One check: begin, make files, run, compare, finish. The folder of a check is `now`, and `../want` has what must be in
+# it afterwards.
+
+readonly OLD='{"old"}' NEW='{"new"}' OTHER='{"other"}' BOTH='{"new","other"}'
+# Three files of which A has changed what B has deleted, and the archive that comes of them.
+readonly KEPT='{"old":{"new"}}' GONE='{}' AT_OLD='{"old":!}'
+# A schema that every tree is a member of.
+readonly EVERY=$'harmony schema 1\nroot R\nnode R\n  other any R\n  shape + 0..'
+# The greatest size of a file, the greatest depth of a tree, the most nodes of a schema and the most shapes of a node.
+readonly LARGEST=16777216 DEEPEST=1000 MOST_NODES=1000 MOST_SHAPES=256
+
+passed=0 failed=0 skipped=0
+
+# The names of the four files, and the words of a command that the program is to run under.
+declare -A path
+under=()
+
+# Begins a check in an empty folder.
+begin() {
+    title=$1
+    faults=()
+    under=()
+    path=([schema]=schema [archive]=archive [A]=A [B]=B)
+    cd "$scratch" || exit
+    rm -rf case
+    mkdir -p case/now case/want
+    cd case/now || exit
+}
+
+fault() {
+    faults+=("$1")
+}
+
+finish() {
+    if [[ ${#faults[@]} == 0 ]]; then
+        passed=$((passed + 1))
+    else
+        failed=$((failed + 1))
+        printf 'FAILED %s\n' "${title@Q}"
+        printf '    %s\n' "${faults[@]}"
+    fi
+}
+
+skip() {
+    skipped=$((skipped + 1))
+    printf 'skipped %s: %s\n' "$1" "$2"
+}
+
+# filled SIZE:TEXT: the text, with so many a in place of its dots that it has so many bytes with its line feed
+filled() {
+    local size=${1%%:*} text=${1#*:}
+    local before=${text%%...*} after=${text#*...}
+    printf %s "$before"
+    head -c $((size - ${#before} - ${#after} - 1)) /dev/zero | tr '\0' a
+    printf '%s\n' "$after"
+}
+
+# A tree of one name, in so many bytes.
+text_of_size() {
+    filled "$1:{\"...\"}"
+}
+
+# A tree of so many names, each under the one before, and the last one among those given.
+text_of_depth() {
+    printf '{"a":%.0s' $(seq 2 "$1")
+    printf '%s' "${2:-"{\"a\"}"}"
+    printf '}%.0s' $(seq 2 "$1")
+    printf '\n'
+}
+
+# The schema of every tree, and behind it a comment, in so many bytes.
+schema_of_size() {
+    printf '%s\n#' "$EVERY"
+    head -c $(($1 - ${#EVERY} - 3)) /dev/zero | tr '\0' a
+    printf '\n'
+}
+
+# The schema of every tree, with so many nodes.
+schema_of_nodes() {
+    printf '%s\n' "$EVERY"
+    printf 'node N%d\n  shape\n' $(seq 2 "$1")
+}
+
+# The schema of every tree, whose node has so many shapes.
+schema_of_shapes() {
+    printf '%s\n' "$EVERY"
+    printf '  shape + 0..%d\n' $(seq 2 "$1")
+}
+
+# Makes the file $1 be what $2 says: one of the words below, a size and a text to be filled, or a text without its
+# line feed.
+make() {
+    case $2 in
+    absent) ;;
+    empty) : >"$1" ;;
+    folder) mkdir "$1" ;;
+    largest) text_of_size $LARGEST >"$1" ;;
+    too-large) text_of_size $((LARGEST + 1)) >"$1" ;;
+    deepest) text_of_depth $DEEPEST >"$1" ;;
+    deepest-x) text_of_depth $DEEPEST '{"a","x"}' >"$1" ;;
+    deepest-y) text_of_depth $DEEPEST '{"a","y"}' >"$1" ;;
+    deepest-x-y) text_of_depth $DEEPEST '{"a","x","y"}' >"$1" ;;
+    too-deep) text_of_depth $((DEEPEST + 1)) >"$1" ;;
+    largest-schema) schema_of_size $LARGEST >"$1" ;;
+    most-nodes) schema_of_nodes $MOST_NODES >"$1" ;;
+    too-many-nodes) schema_of_nodes $((MOST_NODES + 1)) >"$1" ;;
+    most-shapes) schema_of_shapes $MOST_SHAPES >"$1" ;;
+    too-many-shapes) schema_of_shapes $((MOST_SHAPES + 1)) >"$1" ;;
+    [1-9]*:*...*) filled "$2" >"$1" ;;
+    *) printf '%s\n' "$2" >"$1" ;;
+    esac
+}
+
+# Makes archive, A and B in a folder, and the schema that every tree is a member of.
+slots() {
+    make "$1/${path[schema]}" "$EVERY"
+    make "$1/${path[archive]}" "$2"
+    make "$1/${path[A]}" "$3"
+    make "$1/${path[B]}" "$4"
+}
+
+# files, archive A B before, archive A B afterwards
+files() {
+    before=("${@:1:3}")
+    after=("${@:4:3}")
+    slots . "${before[@]}"
+    slots ../want "${after[@]}"
+}
+
+# Files of which A has changed, and all as A afterwards.
+change() {
+    files "$OLD" "$NEW" "$OLD" "$NEW" "$NEW" "$NEW"
+}
+
+# Files of which both sides have changed, so that a run changes all three.
+both_change() {
+    files "$OLD" "$NEW" "$OTHER" "$BOTH" "$BOTH" "$BOTH"
+}
+
+# Files of which A has changed, and which are to stay.
+no_change() {
+    files "$OLD" "$NEW" "$OLD" "$OLD" "$NEW" "$OLD"
+}
+
+# stopped_at SLOT: what must be there after a run that stopped at this one, in the order A, B, archive, or at none
+stopped_at() {
+    case $1 in
+    A) slots ../want "${before[@]}" ;;
+    B) slots ../want "${before[0]}" "${after[1]}" "${before[2]}" ;;
+    archive) slots ../want "${before[0]}" "${after[@]:1}" ;;
+    none) slots ../want "${after[@]}" ;;
+    esac
+}
+
+# Makes the schema be what $1 says, before and afterwards.
+with_schema() {
+    rm schema ../want/schema
+    make schema "$1"
+    make ../want/schema "$1"
+}
+
+# Runs the program. A run that a signal ends has a status above 128, and one that doesn't end has 124.
+run() {
+    timeout 60 "${under[@]}" "$program" "$@" 2>../err
+    status=$?
+}
+
+sync() {
+    run sync "${path[schema]}" "${path[archive]}" "${path[A]}" "${path[B]}" >../out
+}
+
+# Compares status, output, standard error and every file of the folder, so also that no other file is left in it, and
+# that what is a symbolic link is one.
+ends() {
+    [[ $status == "$1" ]] || fault "status $status and not $1"
+    printf '%s' "${2:+$2$'\n'}" | cmp -s - ../out || fault "printed $(head -c 200 ../out) and not $2"
+    [[ ! -s ../err ]] || fault "standard error: $(head -c 200 ../err)"
+    diff -rq --no-dereference ../want . >../diff 2>&1 || fault "files: $(head -c 400 ../diff | tr '\n' ';')"
+}
+
+has_mode() {
+    [[ $(stat -c %a "$1") == "$2" ]] || fault "$1 has mode $(stat -c %a "$1") and not $2"
+}

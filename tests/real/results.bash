@@ -1,0 +1,149 @@
+# shellcheck shell=bash
+# What comes of what three files hold, and which of them are refused.
+
+# The schema of an address book: each person has a mail address, and maybe a phone.
+readonly BOOK=$'harmony schema 1\nroot Book\nnode Book\n  other trimmed Person\n  shape + 0..
+node Person\n  edge mail Value\n  edge phone Value\n  shape mail ? phone
+node Value\n  other filled Empty\n  shape + 1..1'
+# A schema by which two names can't stand together.
+readonly EITHER=$'harmony schema 1\nroot R\nnode R\n  edge y Empty\n  edge z Empty\n  shape ? y\n  shape ? z'
+
+# check TITLE, archive A B before, STATUS LINES, archive A B afterwards
+check() {
+    begin "$1"
+    files "$2" "$3" "$4" "$7" "$8" "$9"
+    sync
+    ends "$5" "$6"
+    finish
+}
+
+# Names of which one is there at the most, and each side has another: both stay.
+names_apart() {
+    begin "names that can't stand together"
+    files '{}' '{"y"}' '{"z"}' '!' '{"y"}' '{"z"}'
+    with_schema "$EITHER"
+    sync
+    ends 1 $'conflict / names {"y","z"} {"y","z"}\nconflicts 1'
+    finish
+}
+
+# The names of both sides, in files that are as large as may be.
+largest_new_files() {
+    begin 'the largest new files'
+    slots . absent '8388609:{"..."}' '8388609:{"b..."}'
+    make ../want/schema "$EVERY"
+    { head -c 8388607 A; printf ,; tail -c +2 B; } >../want/A
+    cp ../want/A ../want/B
+    cp ../want/A ../want/archive
+    sync
+    ends 0 agreed
+    finish
+}
+
+# refuse TITLE, archive A B, STATUS LINE: each file stays
+refuse() {
+    check "$1" "$2" "$3" "$4" "$5" "$6" "$2" "$3" "$4"
+}
+
+# first_of_four SCHEMA ARCHIVE A B, STATUS LINE: several files are at fault, and one is told; each file stays
+first_of_four() {
+    begin "the first of four: ${*:5}"
+    files "$2" "$3" "$4" "$2" "$3" "$4"
+    with_schema "$1"
+    sync
+    ends "$5" "$6"
+    finish
+}
+
+# member A: an address book, which comes to be in all three files, though the archive is no address book
+member() {
+    begin "an address book: $1"
+    files "$OLD" "$1" "$1" "$1" "$1" "$1"
+    with_schema "$BOOK"
+    sync
+    ends 0 agreed
+    finish
+}
+
+# outside A B SLOT PATH: one of these is no address book, first at this path
+outside() {
+    begin "no address book: $1 $2"
+    files "$OLD" "$1" "$2" "$OLD" "$1" "$2"
+    with_schema "$BOOK"
+    sync
+    ends 3 "harmony: BadReplica $3 Outside $4"
+    finish
+}
+
+check 'A has changed' "$OLD" "$NEW" "$OLD" 0 agreed "$NEW" "$NEW" "$NEW"
+check 'B has changed' "$OLD" "$OLD" "$NEW" 0 agreed "$NEW" "$NEW" "$NEW"
+check 'both have changed, to the same' "$OLD" "$NEW" "$NEW" 0 agreed "$NEW" "$NEW" "$NEW"
+check 'nothing has changed' "$OLD" "$OLD" "$OLD" 0 agreed "$OLD" "$OLD" "$OLD"
+check 'A has become the empty tree' "$OLD" '{}' "$OLD" 0 agreed '{}' '{}' '{}'
+check 'both have changed, each its own' "$OLD" "$NEW" "$OTHER" 0 agreed "$BOTH" "$BOTH" "$BOTH"
+check 'A has changed what B has deleted' "$OLD" "$KEPT" "$GONE" 1 \
+    $'conflict /"old" lost /"old"/"new"\nconflicts 1' "$AT_OLD" "$KEPT" "$GONE"
+check 'two conflicts' '{"a","b"}' '{"a":{"1"}}' '{"b":{"2"}}' 1 \
+    $'conflict /"a" lost /"a"/"1"\nconflict /"b" lost /"b"/"2"\nconflicts 2' \
+    '{"a":!,"b":!}' '{"a":{"1"}}' '{"b":{"2"}}'
+check 'beside a conflict' '{"a":{"1"},"b"}' '{"a":{"2"},"b"}' '{"b","c"}' 1 \
+    $'conflict /"a" lost /"a"/"2"\nconflicts 1' \
+    '{"a":!,"b","c"}' '{"a":{"2"},"b","c"}' '{"b","c"}'
+names_apart
+check 'no archive, equal' absent "$NEW" "$NEW" 0 agreed "$NEW" "$NEW" "$NEW"
+check 'no archive, different' absent "$NEW" "$OTHER" 0 agreed "$BOTH" "$BOTH" "$BOTH"
+check 'empty archive, equal' empty "$NEW" "$NEW" 0 agreed "$NEW" "$NEW" "$NEW"
+check 'empty archive, different' empty "$NEW" "$OTHER" 0 agreed "$BOTH" "$BOTH" "$BOTH"
+check 'marked archive, equal' '!' "$NEW" "$NEW" 0 agreed "$NEW" "$NEW" "$NEW"
+check 'marked archive, different' '!' "$NEW" "$OTHER" 1 $'conflict / earlier\nconflicts 1' '!' "$NEW" "$OTHER"
+check 'a mark inside the archive, equal' '{"a":!}' '{"a":{"x"}}' '{"a":{"x"}}' 0 agreed \
+    '{"a":{"x"}}' '{"a":{"x"}}' '{"a":{"x"}}'
+check 'a mark inside the archive, different' '{"a":!}' '{"a":{"x"},"b"}' '{"a","c"}' 1 \
+    $'conflict /"a" earlier\nconflicts 1' \
+    '{"a":!,"b","c"}' '{"a":{"x"},"b","c"}' '{"a","b","c"}'
+check 'a mark inside the archive, deleted' '{"a":!}' "$NEW" "$OTHER" 0 agreed "$BOTH" "$BOTH" "$BOTH"
+check 'the largest file' "$OLD" largest "$OLD" 0 agreed largest largest largest
+largest_new_files
+check 'the deepest tree' "$OLD" deepest "$OLD" 0 agreed deepest deepest deepest
+check 'names at the greatest depth' deepest deepest-x deepest-y 0 agreed deepest-x-y deepest-x-y deepest-x-y
+
+refuse 'no archive, A and B' absent absent absent 3 'harmony: Missing A'
+refuse 'archive not ascending' '{"b","a"}' "$OLD" "$OLD" 3 'harmony: BadArchive at 6'
+refuse 'A not ascending' "$OLD" '{"b","a"}' "$OLD" 3 'harmony: BadReplica A BadItem 6'
+refuse 'B not ascending' "$OLD" "$OLD" '{"b","a"}' 3 'harmony: BadReplica B BadItem 6'
+refuse 'A empty' "$OLD" empty "$OLD" 3 'harmony: BadReplica A BadItem 0'
+refuse 'A a mark' "$OLD" '!' "$OLD" 3 'harmony: BadReplica A BadItem 0'
+refuse 'archive too large' too-large "$OLD" "$OLD" 3 'harmony: TooLarge archive'
+refuse 'A too large' "$OLD" too-large "$OLD" 3 'harmony: TooLarge A'
+refuse 'B too large' "$OLD" "$OLD" too-large 3 'harmony: TooLarge B'
+refuse 'A to grow too large' absent '8388610:{"..."}' '8388609:{"b..."}' 3 'harmony: Overgrown A 16777217'
+refuse 'B to grow too large' '{"c":!}' '8388609:{"c":{"1"},"d..."}' '8388620:{"c":{"..."}}' 3 'harmony: Overgrown B 16777217'
+refuse 'archive to grow too large' '{"c":!}' '16777215:{"c","d..."}' '16777211:{"d..."}' 3 'harmony: Overgrown archive 16777217'
+refuse 'archive too deep' too-deep "$OLD" "$OLD" 3 'harmony: BadArchive deep'
+refuse 'A too deep' "$OLD" too-deep "$OLD" 3 'harmony: BadReplica A TooDeep 1001'
+refuse 'B too deep' "$OLD" "$OLD" too-deep 3 'harmony: BadReplica B TooDeep 1001'
+
+# All four are read and measured, in their order, before the first is judged as a text.
+refuse 'no A, and a folder as B' "$OLD" absent folder 3 'harmony: Missing A'
+refuse 'a folder as A, and no B' "$OLD" folder absent 4 'harmony: ReadFault A'
+refuse 'bad archive, and no B' '{"b","a"}' "$OLD" absent 3 'harmony: Missing B'
+refuse 'bad archive, and A too large' '{"b","a"}' too-large "$OLD" 3 'harmony: TooLarge A'
+refuse 'bad archive, and bad A' '{"b","a"}' '{"b","a"}' "$OLD" 3 'harmony: BadArchive at 6'
+first_of_four absent folder absent absent 3 'harmony: Missing schema'
+first_of_four folder absent absent absent 4 'harmony: ReadFault schema'
+first_of_four "$OLD" too-large "$OLD" "$OLD" 3 'harmony: TooLarge archive'
+first_of_four "$OLD" "$OLD" "$OLD" absent 3 'harmony: Missing B'
+first_of_four "$OLD" '{"b","a"}' '{"b","a"}' "$OLD" 3 'harmony: BadSchema 1'
+first_of_four "$BOOK" '{"b","a"}' "$OLD" "$OLD" 3 'harmony: BadArchive at 6'
+first_of_four "$BOOK" "$OLD" "$OLD" '{"b","a"}' 3 'harmony: BadReplica A Outside /"old"'
+
+member '{}'
+member '{"Ann":{"mail":{"ann@example.org"},"phone":{"+44 20"}},"Bob":{"mail":{"b"}}}'
+outside '{}' '{"Ann":{"phone":{"+44 20"}}}' B '/"Ann"'
+outside '{"Ann":{"mail":{"a"},"web":{"w"}}}' '{}' A '/"Ann"'
+outside '{"Ann":{"mail":{"a","b"}}}' '{}' A '/"Ann"/"mail"'
+outside '{"Ann":{"mail":{"a":{"b"}}}}' '{}' A '/"Ann"/"mail"/"a"'
+outside '{"Ann":{"mail":{" "}}}' '{}' A '/"Ann"/"mail"'
+outside '{" Ann":{"mail":{"a"}}}' '{}' A '/'
+outside '{"Ann":{"mail":{"a"}},"Bob","Cid"}' '{}' A '/"Bob"'
+outside '{"\"Ann\" \\":{"mail"}}' '{"Bob"}' A '/"\"Ann\" \\"/"mail"'
