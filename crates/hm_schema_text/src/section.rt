@@ -34,10 +34,11 @@ pub fn begins_node(entry: &Entry) -> bool
 fn length_of_node(entries: &[Entry]) -> usize
     ensures { result ≡ prefix_len (λ e. not (begins_node (entry_value e))) entries.now }
 {
-    entries
-        .iter()
-        .take_while(|entry| !begins_node(entry))
-        .count()
+    let mut length = 0;
+    while length < entries.len() && !begins_node(&entries[length]) {
+        length += 1;
+    }
+    length
 }
 
 /// The lines up to the next that begins a node.

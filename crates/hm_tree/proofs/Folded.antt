@@ -1,11 +1,11 @@
--- The folding of ASCII text.
+-- The folding of a text, and of one of ASCII alone.
 use Rattle.std.proofs.Common.{◌≡◌, ◌≢◌, ◌↔◌, ℕ, ◌+◌, ◌<◌, ◌≤◌, Bool, true, false, not, ◌&&◌, List, [], ◌∷◌, ◌++◌, length, take, get_or, map, refl, sym, ap, ◌∙◌, subst, arith, inl, inr}
-use Rattle.std.specs.Prelude.{IsAscii, encode_utf8_all}
+use Rattle.std.specs.Prelude.{IsAscii, IsUtf8, chars, encode_utf8_all}
 use Rattle.std.specs.Char.{to_ascii_lowercase, is_ascii_uppercase}
 use Rattle.std.proofs.lemmas.Bool.{and_parts, and_from, cases_Bool, not-true}
 use Rattle.std.proofs.lemmas.Bool.Decides.{nat_tests}
 use Rattle.std.proofs.lemmas.List.{take_more, take_all, map-append, same_from_push}
-use Rattle.std.proofs.lemmas.Str.{chars-IsAscii, encodes-IsAscii}
+use Rattle.std.proofs.lemmas.Str.{chars-IsAscii, encodes-IsAscii, encodes-chars, chars_from_encodes}
 use Rattle.std.proofs.lemmas.Str.Ascii.{IsAscii-nil, IsAscii-more, IsAscii-map, lowercase_ascii, All-from_ascii}
 use Rattle.caseless.specs.Caseless.{default_case_fold}
 use Rattle.caseless.proofs.CaselessLemmas.{default_case_fold-ascii}
@@ -59,3 +59,7 @@ lower_all bs i lower le so =
     let fold = folding-ascii bs ascii in
     let is : (lower ≡ true) ↔ (map to_ascii_lowercase bs ≡ bs) = rw all at so.is in
     (λ h. fold ∙ is.0 h, λ h. is.1 (sym fold ∙ h))
+
+-- a text is its own folding where its characters are
+pub folded_text : (t : List ℕ) → IsUtf8 t → (default_case_fold (chars t) ≡ chars t) ↔ (folding t ≡ t)
+folded_text t text = (λ e. ap encode_utf8_all e ∙ encodes-chars t text, λ e. chars_from_encodes (default_case_fold (chars t)) t text e)

@@ -8,6 +8,7 @@ pub mod Kept
 pub mod Presence
 pub mod Spelled
 pub mod Classed
+pub mod Compared
 pub mod Folded
 pub mod CleanText
 pub mod NameSets

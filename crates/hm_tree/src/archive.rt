@@ -1,9 +1,11 @@
 //! Archives.
 #![tactic(auto, using(crate::proofs::Kept::seen))]
 
-ghost use Rattle.std.specs.Prelude.{◌≡◌, ◌↔◌, IsTrue, ◌<◌, length, OnOk, OnErr, IfOk, [], Some, None, is_some, slice_get, MatchOption};
-ghost use Rattle.hm_tree.specs.Nodes.{marked, empty};
-ghost use Rattle.hm_tree.specs.Archives.{recorded, under, with_archive, edges_here};
+ghost use Rattle.std.specs.Prelude.{◌≡◌, ◌↔◌, IsTrue, T, ◌<◌, length, OnOk, OnErr, IfOk, [], Some, None, is_some, slice_get, MatchOption};
+ghost use Rattle.std.specs.FinMap.{is_sorted};
+ghost use Rattle.hm_tree.specs.Names.{name_cmp};
+ghost use Rattle.hm_tree.specs.Nodes.{node, marked, empty};
+ghost use Rattle.hm_tree.specs.Archives.{recorded, under, with_archive, edges_here, there, is_there};
 ghost use Rattle.hm_tree.specs.States.{state, at_path};
 ghost use Rattle.hm_tree.specs.declared.archive.State.TheVariants.{Present};
 
@@ -90,6 +92,25 @@ impl Archive {
         })
     }
 
+    /// Present at the root, with these names, which rise, and what stands there, of which nothing is missing.
+    pub fn of_edges(edges: Vec<(Name, Archive)>) -> Archive
+        requires rise { T (is_sorted name_cmp (there edges.items)) }
+        requires there { T (is_there edges.items) }
+        ensures { result ≡ Some (node (there edges.items)) }
+    {
+        Archive {
+            root: State::Present,
+            edges,
+        }
+    }
+
+    /// Its names right below a present root, in their order, and what stands there.
+    pub fn into_edges(self) -> Vec<(Name, Archive)>
+        ensures { result.items ≡ edges_here self }
+    {
+        self.edges
+    }
+
     /// What it has at its root.
     pub fn root(&self) -> State
         ensures { result ≡ state self.now [] }
@@ -160,13 +181,6 @@ impl Archive {
             Some(found) => found.root(),
             None => State::Missing,
         }
-    }
-
-    /// Gives back the room that its names don't need. What stands below them keeps its room.
-    pub fn fit(&mut self)
-        ensures { self.new ≡ self.old }
-    {
-        self.edges.shrink_to_fit();
     }
 
     /// Puts an archive that isn't missing at a name.

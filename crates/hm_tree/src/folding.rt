@@ -1,21 +1,16 @@
 //! Full case folding.
-ghost use Rattle.std.specs.Prelude.{◌≡◌, ◌↔◌, IsTrue, IfOk, MatchOption, IsAscii};
+ghost use Rattle.std.specs.Prelude.{◌≡◌, ◌↔◌, IsTrue, MatchOption, IsAscii};
 ghost use Rattle.hm_tree.specs.Classes.{folding};
 
-use crate::memory::Memory;
-use caseless::default_case_fold_str;
-use std::alloc::Global;
+use caseless::Caseless;
 
 /// Whether a text equals its own full case folding.
-pub fn is_own_folding(alloc: Global, text: &str) -> Result<bool, Memory>
-    ensures { IfOk result (λ own. IsTrue own ↔ (folding text.now ≡ text.now)) }
+pub fn is_own_folding(text: &str) -> bool
+    ensures { IsTrue result ↔ (folding text.now ≡ text.now) }
 {
     match is_ascii_folding(text.as_bytes()) {
-        Some(own) => Ok(own),
-        None => {
-            let folded = default_case_fold_str(alloc, text)?;
-            Ok(folded.as_str() == text)
-        }
+        Some(own) => own,
+        None => text.chars().default_case_fold().eq(text.chars()),
     }
 }
 

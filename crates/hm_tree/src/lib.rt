@@ -13,6 +13,7 @@ mod path;
 mod spelling;
 #[cfg(test)]
 mod tests;
+mod text;
 mod tree;
 mod within;
 

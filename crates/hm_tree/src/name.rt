@@ -8,6 +8,7 @@ use crate::class::{Class, is_filled, is_trimmed};
 use crate::cleaning::{clean_bytes, is_clean};
 use crate::folding::is_own_folding;
 use crate::memory::Memory;
+use crate::text::Text;
 use std::alloc::Global;
 use std::cmp::Ordering;
 use std::marker::Model;
@@ -15,22 +16,16 @@ use std::marker::Model;
 /// A name: a text, seen by contracts as its UTF-8 bytes.
 #[derive(Drop)]
 pub struct Name {
-    text: String,
-    // Whether the text equals its own full case folding.
-    folded: bool,
+    text: Text,
 }
 
 impl Model for Name {
-    ghost use Rattle.std.specs.Prelude.{List, ℕ, string_bytes};
+    ghost use Rattle.std.specs.Prelude.{List, ℕ};
+    ghost use Rattle.hm_tree.specs.Texts.{text_bytes};
 
     ghost Value = { List ℕ };
 
-    ghost use Rattle.std.specs.Prelude.{◌≡◌, ◌↔◌, IsTrue};
-    ghost use Rattle.hm_tree.specs.Classes.{folding};
-
-    ghost view = { λ n. string_bytes n.text };
-
-    ghost invariant = { λ n. IsTrue n.folded ↔ (folding (string_bytes n.text) ≡ string_bytes n.text) };
+    ghost view = { λ n. text_bytes n.text };
 }
 
 impl Name {
@@ -38,15 +33,18 @@ impl Name {
     pub fn from_text(alloc: Global, text: &str) -> Result<Name, Memory>
         ensures { IfOk result (λ name. name ≡ text.now) }
     {
-        Name::from_string(alloc, String::from_str(alloc, text)?)
+        Ok(Name {
+            text: Text::of_str(alloc, text)?,
+        })
     }
 
     /// The name with the bytes of a text, which it takes over.
     pub fn from_string(alloc: Global, text: String) -> Result<Name, Memory>
         ensures { IfOk result (λ name. name ≡ string_bytes text) }
     {
-        let folded = is_own_folding(alloc, text.as_str())?;
-        Ok(Name { text, folded })
+        Ok(Name {
+            text: Text::of_string(text),
+        })
     }
 
     /// The name of what is left of a text where each CRLF and each other CR is made LF, and control characters other than tab and LF are dropped.
@@ -72,7 +70,7 @@ impl Name {
             Class::Clean => is_clean(self.bytes()),
             Class::Filled => is_filled(self.bytes()),
             Class::Trimmed => is_trimmed(self.bytes()),
-            Class::Folded => is_trimmed(self.bytes()) && self.folded,
+            Class::Folded => is_trimmed(self.bytes()) && is_own_folding(self.text()),
         }
     }
 
@@ -87,7 +85,7 @@ impl Name {
     pub fn bytes(&self) -> &[u8]
         ensures { result.now ≡ self.now }
     {
-        self.text.as_bytes()
+        self.text.as_str().as_bytes()
     }
 
     /// An equal name.
@@ -95,8 +93,7 @@ impl Name {
         ensures { IfOk result (λ name. name ≡ self.now) }
     {
         Ok(Name {
-            text: self.text.clone()?,
-            folded: self.folded,
+            text: self.text.copy()?,
         })
     }
 

@@ -1,5 +1,5 @@
 //! The one spelling of a name, between quotes, with what doesn't stand for itself escaped; and that of a path.
-ghost use Rattle.std.specs.Prelude.{◌≡◌, ◌≢◌, ◌<◌, ◌≤◌, ◌∷◌, [], ◌++◌, List, ℕ, length, take, slice_index, false, IfOk, OnOk, OnErr, MatchOption, is_ok, if◌then◌else◌};
+ghost use Rattle.std.specs.Prelude.{◌≡◌, ◌≢◌, ◌+◌, ◌<◌, ◌≤◌, ◌∷◌, [], ◌++◌, List, ℕ, length, take, slice_index, false, IfOk, OnOk, OnErr, MatchOption, is_ok, if◌then◌else◌};
 ghost use Rattle.hm_tree.specs.Spelling.{is_quote_or_backslash, is_control, is_plain, spelled_byte, escaped, spelled, path_text, IsUnspelled, IsUnspelledByte};
 ghost use Rattle.std.specs.Char.{digit_char};
 
@@ -7,6 +7,7 @@ use crate::memory::Memory;
 use crate::name::Name;
 use crate::path::Path;
 use std::alloc::Global;
+use std::str;
 
 /// How a name is spelled.
 pub fn spell_name(alloc: Global, name: &Name) -> Result<Vec<u8>, Memory>
@@ -148,6 +149,30 @@ pub fn unspell_name(alloc: Global, bytes: &[u8]) -> Result<Option<(Name, usize)>
 
 // The same behind the first quote.
 fn unspell_rest(alloc: Global, rest: &[u8]) -> Result<Option<(Name, usize)>, Memory>
+    ensures { IfOk result (IsUnspelled (34 ∷ rest.now)) }
+{
+    let plain = plain_len(rest);
+    if plain < rest.len() && rest[plain] == b'"' {
+        unspell_plain(alloc, rest, plain)
+    } else {
+        unspell_escaped(alloc, rest)
+    }
+}
+
+// The same where that quote stands behind bytes that stand for themselves. Most names are spelled so, and are read where they stand.
+fn unspell_plain(alloc: Global, rest: &[u8], plain: usize) -> Result<Option<(Name, usize)>, Memory>
+    requires within { plain < length rest.now }
+    requires spelled { take (plain + 1) rest.now ≡ escaped (take plain rest.now) ++ 34 ∷ [] }
+    ensures { IfOk result (IsUnspelled (34 ∷ rest.now)) }
+{
+    match str::from_utf8(&rest[..plain]) {
+        Ok(text) => Ok(Some((Name::from_text(alloc, text)?, plain + 2))),
+        Err(_) => Ok(None),
+    }
+}
+
+// The same where something is escaped, or no quote follows.
+fn unspell_escaped(alloc: Global, rest: &[u8]) -> Result<Option<(Name, usize)>, Memory>
     ensures { IfOk result (IsUnspelled (34 ∷ rest.now)) }
 {
     let Some((text, length)) = unescape(alloc, rest)? else {

@@ -3,6 +3,7 @@ use crate::{
     Archive, Class, Memory, Name, NameSet, Path, State, Tree, append_path, spell_name, unspell_name,
 };
 use std::alloc::Global;
+use std::mem::size_of;
 use std::process::Abort;
 use std::test::Fail;
 
@@ -60,6 +61,34 @@ fn classes_of_letters(rt: HostRuntime) -> Result<(), Fail> {
     assert_eq!(rt; classes_of(alloc, "ss")?, FOLDED);
     assert_eq!(rt; classes_of(alloc, "\u{e9}")?, FOLDED);
     assert_eq!(rt; classes_of(alloc, "\u{c9}")?, TRIMMED);
+    assert_eq!(rt; classes_of(alloc, "a\u{e9}")?, FOLDED);
+    assert_eq!(rt; classes_of(alloc, "\u{e9}B")?, TRIMMED);
+    assert_eq!(rt; classes_of(alloc, "\u{e9}\u{1f80}")?, TRIMMED);
+    Ok(())
+}
+
+// Each edge of a tree has a name in it, so what a name takes is what a tree takes.
+#[test]
+fn room_of_a_name(rt: HostRuntime) {
+    assert!(rt; size_of::<Name>() <= 32);
+}
+
+// Of 16 bytes a name still lies in the value, of 17 no more.
+#[test]
+fn short_and_long_names(rt: HostRuntime) -> Result<(), Fail> {
+    let alloc = rt.alloc();
+    let short = Name::from_text(alloc, "abcdefghijklmnop")?;
+    let long = Name::from_text(alloc, "abcdefghijklmnopq")?;
+    assert_eq!(rt; short.text(), "abcdefghijklmnop");
+    assert_eq!(rt; long.text(), "abcdefghijklmnopq");
+    assert_eq!(rt; short.copy()?.text(), short.text());
+    assert_eq!(rt; long.copy()?.text(), long.text());
+    assert!(rt; short.order(&long).is_lt());
+    assert!(rt; !short.same(&long));
+    let string = String::from_str(alloc, "abcdefghijklmnop")?;
+    assert!(rt; Name::from_string(alloc, string)?.same(&short));
+    let string = String::from_str(alloc, "abcdefghijklmnopq")?;
+    assert!(rt; Name::from_string(alloc, string)?.same(&long));
     Ok(())
 }
 
@@ -106,6 +135,12 @@ fn spellings(rt: HostRuntime) -> Result<(), Fail> {
     let alloc = rt.alloc();
     assert_spelled(&rt, alloc, "", b"\"\"")?;
     assert_spelled(&rt, alloc, "abc", b"\"abc\"")?;
+    assert_spelled(
+        &rt,
+        alloc,
+        "abcdefghijklmnopqrs",
+        b"\"abcdefghijklmnopqrs\"",
+    )?;
     assert_spelled(&rt, alloc, "a\"b\\c", b"\"a\\\"b\\\\c\"")?;
     assert_spelled(
         &rt,
@@ -224,11 +259,20 @@ fn room_is_not_seen(rt: HostRuntime) -> Result<(), Fail> {
     if tree.child(&name).is_none() {
         tree.insert(name, Tree::empty(alloc))?;
     }
-    tree.fit();
     assert!(rt; tree.same(&edge_to(alloc, "a", Tree::empty(alloc))?));
-    let mut archive = Archive::present_with_capacity(alloc, 3)?;
-    archive.fit();
+    let archive = Archive::present_with_capacity(alloc, 3)?;
     assert!(rt; archive.records(&Tree::empty(alloc)));
+    Ok(())
+}
+
+#[test]
+#[tactic(auto, using(crate::specs::NodeLaws::edges_sorted))]
+fn edges_taken_apart_and_put_together(rt: HostRuntime) -> Result<(), Fail> {
+    let alloc = rt.alloc();
+    let tree = edge_to(alloc, "a", edge_to(alloc, "b", Tree::empty(alloc))?)?;
+    let again = Tree::of_edges(tree.into_edges())?;
+    assert_eq!(rt; again.count(), 1);
+    assert_eq!(rt; again.depth(), 2);
     Ok(())
 }
 

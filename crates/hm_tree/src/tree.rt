@@ -1,8 +1,10 @@
 //! Trees.
 #![tactic(auto, using(crate::proofs::Sorted::seen))]
 
-ghost use Rattle.std.specs.Prelude.{◌≡◌, ◌↔◌, IsTrue, ◌<◌, ◌≤◌, length, IfOk, OnOk, OnErr, IfErr, slice_get, Some, None, option_copied};
-ghost use Rattle.hm_tree.specs.Nodes.{edges, below, with_edge, without_edge, depth, deepest, empty};
+ghost use Rattle.std.specs.Prelude.{◌≡◌, ◌↔◌, IsTrue, T, ◌<◌, ◌≤◌, length, IfOk, OnOk, OnErr, IfErr, IfSome, slice_get, Some, None, option_copied};
+ghost use Rattle.std.specs.FinMap.{is_sorted};
+ghost use Rattle.hm_tree.specs.Names.{name_cmp};
+ghost use Rattle.hm_tree.specs.Nodes.{node, edges, below, with_edge, without_edge, depth, deepest, empty};
 ghost use Rattle.hm_tree.specs.Edges.{IsPlaceOf, IsGapFor};
 ghost use Rattle.hm_tree.specs.States.{state, at_path};
 ghost use Rattle.hm_tree.specs.declared.archive.State.TheVariants.{Present};
@@ -62,6 +64,24 @@ impl Tree {
         })
     }
 
+    /// The tree with these edges, whose names rise.
+    pub fn of_edges(edges: Vec<(Name, Tree)>) -> Result<Tree, Memory>
+        requires { T (is_sorted name_cmp edges.items) }
+        ensures { IfOk result (λ tree. tree ≡ node edges.items) }
+    {
+        let Some(deep) = depth_above(&edges) else {
+            return Err(Memory);
+        };
+        Ok(Tree { edges, deep })
+    }
+
+    /// Its edges, in the order of their names.
+    pub fn into_edges(self) -> Vec<(Name, Tree)>
+        ensures { result.items ≡ edges self }
+    {
+        self.edges
+    }
+
     /// The number of its edges.
     pub fn count(&self) -> usize
         ensures { result ≡ length (edges self.now) }
@@ -112,13 +132,6 @@ impl Tree {
             Some(_) => true,
             None => false,
         }
-    }
-
-    /// Gives back the room that its edges don't need. Those of its subtrees keep theirs.
-    pub fn fit(&mut self)
-        ensures { self.new ≡ self.old }
-    {
-        self.edges.shrink_to_fit();
     }
 
     /// Adds an edge. A name greater than all others costs no move of edges.
@@ -210,6 +223,17 @@ impl Tree {
             deep: self.deep,
         })
     }
+}
+
+// The depth that edges make; none where that is no `usize`.
+fn depth_above(edges: &[(Name, Tree)]) -> Option<usize>
+    ensures { IfSome result (λ deep. deep ≡ deepest edges.now) }
+{
+    let mut deep = 0;
+    for edge in edges {
+        deep = deep.max(edge.1.depth().checked_add(1)?);
+    }
+    Some(deep)
 }
 
 // The depth that edges make, of which a bound is known. The first edge as deep as the bound ends the search.

@@ -1,15 +1,14 @@
 -- Names that are greater than all names of edges.
-use Rattle.std.proofs.Common.{◌≡◌, ℕ, zero, suc, ◌<◌, ◌↔◌, ◌-◌, Bool, T, List, [], ◌∷◌, ◌++◌, length, get_or, Some, None, slice_get, refl, sym, ap, subst, ◌∙◌, arith}
+use Rattle.std.proofs.Common.{◌≡◌, ℕ, zero, suc, ◌<◌, ◌↔◌, ◌-◌, T, List, [], ◌∷◌, ◌++◌, length, get_or, Some, slice_get, refl, sym, ap, subst, ◌∙◌, arith}
 use Rattle.std.specs.Ordering.{is_lt, nat_cmp, ordering_then}
 use Rattle.std.specs.Cmp.{nat_cmp_is}
 use Rattle.std.specs.Cmp.Lexicographic.{slice_cmp}
 use Rattle.std.specs.declared.cmp.Ordering.{Ordering}
 use Rattle.std.specs.declared.cmp.Ordering.TheVariants.{Less, Equal, Greater}
-use Rattle.std.specs.FinMap.{is_sorted, find, put}
+use Rattle.std.specs.FinMap.{is_sorted}
 use Rattle.hm_tree.specs.Names.{Name, name_cmp}
-use Rattle.hm_tree.specs.Nodes.{Node, edges, node, with_edge, both, first, second, below_all}
-use Rattle.hm_tree.specs.NodeLaws.{edges-node, edges_sorted}
-use Rattle.hm_tree.proofs.Sorted.{name_total, back_less}
+use Rattle.hm_tree.specs.Nodes.{both, first, second, below_all}
+use Rattle.hm_tree.proofs.Sorted.{name_total}
 use Rattle.std.specs.Str.{IsUtf8}
 use Rattle.std.proofs.lemmas.Str.{IsUtf8-from_ascii, IsUtf8-append}
 use Rattle.hm_tree_text.specs.Reading.{is_behind, IsAfter}
@@ -36,15 +35,6 @@ module _ {X : Type 0} where
   last_behind n (e ∷ []) k x at h = let head : e ≡ (k, x) = cc in ap (λ (d : Name × X). name_cmp d.0 n) (sym head) ∙ is_less _ (first _ _ h)
   last_behind n (e ∷ (f ∷ es)) k x at h = last_behind n (f ∷ es) k x (subst (λ i. slice_get (e ∷ (f ∷ es)) i ≡ Some (k, x)) (let s : length (e ∷ (f ∷ es)) - 1 ≡ suc (length (f ∷ es) - 1) = omega arith in s) at) (second _ _ h)
 
-  -- it isn't among them, and goes to the end
-  pub behind_none : (n : Name) (es : List (Name × X)) → T (is_behind n es) → find name_cmp n es ≡ None
-  behind_none n [] h = refl
-  behind_none n (e ∷ es) h = let back = back_less n e.0 (is_less _ (first _ _ h)) in rw back (behind_none n es (second _ _ h))
-
-  pub put_behind : (n : Name) (x : X) (es : List (Name × X)) → T (is_behind n es) → put name_cmp n x es ≡ es ++ (n, x) ∷ []
-  put_behind n x [] h = refl
-  put_behind n x (e ∷ es) h = let back = back_less n e.0 (is_less _ (first _ _ h)) in rw back (ap (λ l. e ∷ l) (put_behind n x es (second _ _ h)))
-
   all_below_more : (k n : Name) (x : X) (es : List (Name × X)) → T (below_all k es) → name_cmp k n ≡ Less → T (below_all k (es ++ (n, x) ∷ []))
   all_below_more k n x [] h less = both _ _ (less_is _ less) tt
   all_below_more k n x (e ∷ es) h less = both _ _ (first _ _ h) (all_below_more k n x es (second _ _ h) less)
@@ -61,12 +51,6 @@ module _ {X : Type 0} where
   pub behind_sorted : (n : Name) (x : X) (es more : List (Name × X)) → T (is_sorted name_cmp (es ++ (n, x) ∷ more)) → T (is_behind n es)
   behind_sorted n x [] more h = tt
   behind_sorted n x (e ∷ es) more h = both _ _ (below_among e.0 n x es more (first _ _ h)) (behind_sorted n x es more (second _ _ h))
-
--- an edge behind all others
-pub edges-with_last : {m : Bool} (n : Name) (c t : Node m) → T (is_behind n (edges t)) → edges (with_edge n c t) ≡ edges t ++ (n, c) ∷ []
-edges-with_last n c t h =
-    let e = put_behind n c (edges t) h in
-    ap (λ es. edges (node es)) e ∙ edges-node (edges t ++ (n, c) ∷ []) (sorted_behind n c (edges t) (edges_sorted t) h)
 
 module _ {X : Type 0} where
   -- a name is greater than all exactly where it is greater than the last

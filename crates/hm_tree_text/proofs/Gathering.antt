@@ -1,107 +1,141 @@
 -- What is read of a node, edge by edge.
-use Rattle.std.proofs.Common.{◌≡◌, ℕ, ◌+◌, ◌<◌, ◌≤◌, Bool, true, false, T, List, [], ◌∷◌, ◌++◌, length, drop, Some, sym, ap, subst, ◌∙◌, arith, inl, inr}
+use Rattle.std.proofs.Common.{◌≡◌, ℕ, ◌+◌, ◌<◌, ◌≤◌, Bool, true, false, T, List, [], ◌∷◌, ◌++◌, length, take, drop, Some, refl, sym, ap, subst, ◌∙◌, arith, inl, inr, length-append}
+use Rattle.std.proofs.lemmas.List.{take_all, drop_all, take-append-le, drop-append-le}
 use Rattle.std.specs.List.{AllByRecursion}
-use Rattle.hm_tree.specs.Names.{Name}
-use Rattle.hm_tree.specs.Nodes.{Node, edges, with_edge, empty, is_marked, depth, deepest}
-use Rattle.hm_tree.specs.NodeLaws.{edges_sorted, depth-edges, is_marked-node}
-use Rattle.hm_tree.specs.Archives.{Archive, with_archive}
+use Rattle.std.specs.FinMap.{is_sorted}
+use Rattle.hm_tree.specs.Names.{Name, name_cmp}
+use Rattle.hm_tree.specs.Nodes.{Node, node, depth, deepest}
+use Rattle.hm_tree.specs.NodeLaws.{edges-node, depth-node}
+use Rattle.hm_tree.specs.Archives.{Archive}
 use Rattle.hm_tree_text.specs.declared.fault.TextFault.{TextFault}
 use Rattle.hm_tree_text.specs.declared.fault.TextFault.TheVariants.{BadTree, TooDeep, Memory}
-use Rattle.hm_tree_text.specs.Text.{HasTextNames, edge_text, separator, inside, commas}
-use Rattle.hm_tree_text.specs.Reading.{StandsAt, is_behind, edges_in, IsEdge, IsInside, BeginsWith, IsEdgeRead, IsInsideRead}
+use Rattle.hm_tree_text.specs.Text.{edge_text, separator, inside, commas}
+use Rattle.hm_tree_text.specs.Reading.{StandsAt, IsEdge, IsInside, BeginsWith, IsEdgeRead, IsInsideRead}
 use Rattle.hm_tree_text.specs.Failing.{Fails, OpensInside, OpensEdge}
+use Rattle.hm_tree_text.specs.Pending.{valued_edges, MakeNode}
 use Rattle.hm_tree_text.proofs.Parts.{fault_behind}
-use Rattle.hm_tree_text.proofs.Behind.{edges-with_last}
-use Rattle.hm_tree_text.proofs.Listed.{Edges, edges_empty, empty_unmarked, commas_last, inside_last, IsTextEdge, names_from_edges, edges_from_names, all_last}
-use Rattle.hm_tree_text.proofs.Forms.{edge_inside, inside_edge, empty_names}
+use Rattle.hm_tree_text.proofs.Behind.{sorted_behind}
+use Rattle.hm_tree_text.proofs.Listed.{Edges, commas_last, inside_last, IsTextEdge, all_last}
+use Rattle.hm_tree_text.proofs.Forms.{edge_inside, inside_edge, listed_names}
 use Rattle.hm_tree_text.proofs.Deep.{deep_edge, edge_deep}
+use Rattle.hm_tree_text.proofs.Making.{valued-last, make_last}
 
--- what was read of a node since its brace: the edges so far, each with a comma behind it
-pub record Gathered (m : Bool) (room : ℕ) (bytes : List ℕ) (start : ℕ) (value : Archive) (end : ℕ) : Type 0 where
-  pub node : Node true
-  pub is : value ≡ Some node
-  pub unmarked : is_marked node ≡ false
-  pub names : HasTextNames m node.shape
-  pub shallow : deepest (edges node) ≤ room + 1
-  pub stands : StandsAt bytes start (commas (edges node)) end
+-- ---- the edges of a node: what was read of it since its brace, with a comma behind each
+
+pub record Gathered (m : Bool) (room : ℕ) (bytes : List ℕ) (start : ℕ) (es : Edges) (end : ℕ) : Type 0 where
+  pub sorted : T (is_sorted name_cmp es)
+  pub names : AllByRecursion (IsTextEdge m) es
+  pub shallow : deepest es ≤ room + 1
+  pub stands : StandsAt bytes start (commas es) end
 
 module _ (m : Bool) (room : ℕ) (bytes : List ℕ) (start : ℕ) where
-  pub gathered_none : (value : Archive) → value ≡ Some empty → start ≤ length bytes → Gathered m room bytes start value start
-  gathered_none value is le = record {
-    node = empty;
-    is = is;
-    unmarked = empty_unmarked;
-    names = empty_names m;
-    shallow = let d = ap (λ (es : Edges). deepest es) edges_empty in omega arith;
-    stands = record { spelled = ap (λ (es : Edges). commas es ++ drop start bytes) (sym edges_empty); within = le };
-  }
+  gathered_nothing : start ≤ length bytes → Gathered m room bytes start [] start
+  gathered_nothing le = record { sorted = tt; names = tt; shallow = omega arith; stands = record { spelled = refl; within = le } }
 
-  module _ (value : Archive) (end : ℕ) (g : Gathered m room bytes start value end) where
-    pub gathered_edges : edges_in value ≡ edges g.node
-    gathered_edges = ap edges_in g.is
+  module _ (es : Edges) (end : ℕ) (g : Gathered m room bytes start es end) where
+    module _ (name : Name) (added : Archive) (more : Bool) (next : ℕ) (e : IsEdgeRead m room es bytes end name added more next) where
+      abbrev with_last : Edges
+      with_last = es ++ (name, e.child) ∷ []
 
-    module _ (name : Name) (added : Archive) (more : Bool) (next : ℕ) (e : IsEdgeRead m room (edges_in value) bytes end name added more next) (new : Archive) (is : new ≡ with_archive name added value) where
-      with_new : Node true
-      with_new = with_edge name e.child g.node
+      sorted_last : T (is_sorted name_cmp with_last)
+      sorted_last = sorted_behind name e.child es g.sorted e.after
 
-      new_is : new ≡ Some with_new
-      unfolding with_new
-      new_is = is ∙ (λ i. with_archive name (e.read.is i) (g.is i))
-
-      edges_new : edges with_new ≡ edges g.node ++ (name, e.child) ∷ []
-      unfolding with_new
-      edges_new = edges-with_last name e.child g.node (subst (λ es. T (is_behind name es)) gathered_edges e.after)
-
-      unmarked_new : is_marked with_new ≡ false
-      unfolding with_new
-      unmarked_new = is_marked-node _
-
-      names_new : HasTextNames m with_new.shape
-      names_new = names_from_edges m with_new unmarked_new (subst (AllByRecursion (IsTextEdge m)) (sym edges_new) (all_last m (edges g.node) (name, e.child) (edges_from_names m g.node g.names) (record { is_text = e.is_text; names = e.read.names })))
+      names_last : AllByRecursion (IsTextEdge m) with_last
+      names_last = all_last m es (name, e.child) g.names (record { is_text = e.is_text; names = e.read.names })
 
       deepest_last : (es : Edges) (c : Node true) (n : ℕ) → deepest es ≤ n → depth c + 1 ≤ n → deepest (es ++ (name, c) ∷ []) ≤ n
       deepest_last [] c n h d = omega arith
       deepest_last (f ∷ es) c n h d = let l = deepest_last es c n (omega arith) d in omega arith
 
-      shallow_new : deepest (edges with_new) ≤ room + 1
-      shallow_new = subst (λ (es : Edges). deepest es ≤ room + 1) (sym edges_new) (deepest_last (edges g.node) e.child (room + 1) g.shallow (let s = e.read.shallow in omega arith))
+      shallow_last : deepest with_last ≤ room + 1
+      shallow_last = deepest_last es e.child (room + 1) g.shallow (let s = e.read.shallow in omega arith)
 
-      pub gathered_more : more ≡ true → Gathered m room bytes start new next
-      gathered_more comma = record {
-        node = with_new;
-        is = new_is;
-        unmarked = unmarked_new;
-        names = names_new;
-        shallow = shallow_new;
+      gathered_last : more ≡ true → Gathered m room bytes start with_last next
+      gathered_last comma = record {
+        sorted = sorted_last;
+        names = names_last;
+        shallow = shallow_last;
         stands = record {
-          spelled = g.stands.spelled ∙ ap (λ l. commas (edges g.node) ++ l) (e.stands.spelled ∙ ap (λ b. (edge_text name e.child.shape ++ separator b ∷ []) ++ drop next bytes) comma) ∙ sym (commas_last (edges g.node) (name, e.child) (drop next bytes)) ∙ ap (λ (es : Edges). commas es ++ drop next bytes) (sym edges_new);
+          spelled = g.stands.spelled ∙ ap (λ l. commas es ++ l) (e.stands.spelled ∙ ap (λ b. (edge_text name e.child.shape ++ separator b ∷ []) ++ drop next bytes) comma) ∙ sym (commas_last es (name, e.child) (drop next bytes));
           within = e.stands.within;
         };
       }
 
-      some_edges : (es : Edges) (f : Name × Node true) → 0 < length (es ++ f ∷ [])
-      some_edges [] f = omega arith
-      some_edges (d ∷ es) f = omega arith
-
-      pub gathered_all : more ≡ false → IsInsideRead m (room + 1) bytes start new next
-      gathered_all brace = record {
-        node = with_new;
-        read = record { is = new_is; names = names_new; shallow = let d = depth-edges with_new in let s = shallow_new in omega arith };
-        some = subst (λ (es : Edges). 0 < length es) (sym edges_new) (some_edges (edges g.node) (name, e.child));
+      gathered_whole : more ≡ false → (value : Archive) → value ≡ Some (node with_last) → IsInsideRead m (room + 1) bytes start value next
+      gathered_whole brace value is = record {
+        node = node with_last;
+        read = record { is = is; names = listed_names m with_last sorted_last names_last; shallow = let d = depth-node with_last sorted_last in let s = shallow_last in omega arith };
+        some = subst (λ (es : Edges). 0 < length es) (sym (edges-node with_last sorted_last)) (let l = length-append es ((name, e.child) ∷ []) in omega arith);
         stands = record {
-          spelled = g.stands.spelled ∙ ap (λ l. commas (edges g.node) ++ l) (e.stands.spelled ∙ ap (λ b. (edge_text name e.child.shape ++ separator b ∷ []) ++ drop next bytes) brace) ∙ inside_last (edges g.node) (name, e.child) (drop next bytes) ∙ ap (λ (es : Edges). inside es ++ drop next bytes) (sym edges_new);
+          spelled = g.stands.spelled ∙ ap (λ l. commas es ++ l) (e.stands.spelled ∙ ap (λ b. (edge_text name e.child.shape ++ separator b ∷ []) ++ drop next bytes) brace) ∙ inside_last es (name, e.child) (drop next bytes) ∙ ap (λ (es : Edges). inside es ++ drop next bytes) (sym (edges-node with_last sorted_last));
           within = e.stands.within;
         };
       }
 
     -- where no edge follows, the node doesn't go on
-    pub edge_fails : start ≤ length bytes → (fault : TextFault) → Fails (IsEdge m (edges_in value)) (OpensEdge m room (edges_in value)) bytes end fault → Fails (IsInside m) (OpensInside m room) bytes start fault
-    edge_fails le (BadTree at) h =
-        let f = subst (λ es. Fails (IsEdge m es) (OpensEdge m room es) bytes end (BadTree at)) gathered_edges h in (
-          fault_behind (IsEdge m (edges g.node)) (IsInside m) (λ _. Unit {0}) (commas (edges g.node)) (edge_inside m (edges g.node) (edges_sorted g.node) (edges_from_names m g.node g.names)) (λ y _. inside_edge m (edges g.node) y) bytes start end at le g.stands tt (λ _ _ _ _ _. tt) f.0,
-          λ d. elim (deep_edge m room (edges g.node) (drop end bytes) g.shallow (subst (BeginsWith (OpensInside m room)) g.stands.spelled d)) [ inl o ↦ f.1 o | inr e ↦ f.0.longest.none e ],
-        )
-    edge_fails le TooDeep h =
-        let f = subst (λ es. Fails (IsEdge m es) (OpensEdge m room es) bytes end TooDeep) gathered_edges h in
-        subst (BeginsWith (OpensInside m room)) (sym g.stands.spelled) (edge_deep m room g.node g.names (drop end bytes) f)
-    edge_fails le Memory h = tt
+    pub edge_fails : start ≤ length bytes → (fault : TextFault) → Fails (IsEdge m es) (OpensEdge m room es) bytes end fault → Fails (IsInside m) (OpensInside m room) bytes start fault
+    edge_fails le (BadTree at) f = (
+      fault_behind (IsEdge m es) (IsInside m) (λ _. Unit {0}) (commas es) (edge_inside m es g.sorted g.names) (λ y _. inside_edge m es y) bytes start end at le g.stands tt (λ _ _ _ _ _. tt) f.0,
+      λ d. elim (deep_edge m room es (drop end bytes) g.shallow (subst (BeginsWith (OpensInside m room)) g.stands.spelled d)) [ inl o ↦ f.1 o | inr e ↦ f.0.longest.none e ],
+    )
+    edge_fails le TooDeep f =
+        let same = edges-node es g.sorted in
+        subst (BeginsWith (OpensInside m room)) (sym g.stands.spelled)
+        (subst (λ (l : Edges). BeginsWith (OpensInside m room) (commas l ++ drop end bytes)) same
+        (edge_deep m room (node es) (listed_names m es g.sorted g.names) (drop end bytes) (subst (λ (l : Edges). BeginsWith (OpensEdge m room l) (drop end bytes)) (sym same) f)))
+    edge_fails le Memory f = tt
+
+-- ---- the same of pending edges, behind those of the nodes around
+
+pub record Stacked {X : Type 0} (value : X → Archive) (m : Bool) (room : ℕ) (bytes : List ℕ) (at : ℕ) (around now : List (Name × X)) (start end : ℕ) : Type 0 where
+  pub from : start ≤ length now
+  pub around_kept : take start now ≡ around
+  pub make : MakeNode value (drop start now)
+  pub gathered : Gathered m room bytes at (valued_edges value (drop start now)) end
+
+module _ {X : Type 0} (value : X → Archive) (m : Bool) (room : ℕ) (bytes : List ℕ) (at : ℕ) (around : List (Name × X)) (start : ℕ) where
+  pub gathered_none : start ≡ length around → at ≤ length bytes → Stacked value m room bytes at around around start at
+  gathered_none is le = record {
+    from = omega arith;
+    around_kept = take_all start around (omega arith);
+    make = subst (MakeNode value) (sym none) (record { all_there = tt; rise = tt });
+    gathered = subst (λ (es : List (Name × X)). Gathered m room bytes at (valued_edges value es) at) (sym none) (gathered_nothing m room bytes at le);
+  }
+    where
+      none : drop start around ≡ []
+      none = drop_all start around (omega arith)
+
+module _ {X : Type 0} (value : X → Archive) (m : Bool) (room : ℕ) (bytes : List ℕ) (at : ℕ) (around now : List (Name × X)) (start : ℕ) where
+  module _ (end : ℕ) (s : Stacked value m room bytes at around now start end) (name : Name) (child : X) (more : Bool) (next : ℕ) (e : IsEdgeRead m room (valued_edges value (drop start now)) bytes end name (value child) more next) (held new : List (Name × X)) (same : held ≡ now) (pushed : new ≡ held ++ (name, child) ∷ []) where
+    new_is : new ≡ now ++ (name, child) ∷ []
+    new_is = pushed ∙ ap (λ l. l ++ (name, child) ∷ []) same
+
+    new_from : start ≤ length new
+    new_from = let l = ap length new_is in let k = length-append now ((name, child) ∷ []) in let f = s.from in omega arith
+
+    new_around : take start new ≡ around
+    new_around = ap (take start) new_is ∙ take-append-le start now ((name, child) ∷ []) s.from ∙ s.around_kept
+
+    new_own : drop start new ≡ drop start now ++ (name, child) ∷ []
+    new_own = ap (drop start) new_is ∙ drop-append-le start now ((name, child) ∷ []) s.from
+
+    new_edges : valued_edges value (drop start new) ≡ valued_edges value (drop start now) ++ (name, e.child) ∷ []
+    new_edges = ap (valued_edges value) new_own ∙ valued-last value (drop start now) name child e.child e.read.is
+
+    new_make : MakeNode value (drop start new)
+    new_make = subst (MakeNode value) (sym new_own) (make_last value (drop start now) name child e.child e.read.is s.make e.after)
+
+    pub taken_make : (taken : List (Name × X)) → taken ≡ drop start new → MakeNode value taken
+    taken_make taken whole = subst (MakeNode value) (sym whole) new_make
+
+    pub gathered_more : more ≡ true → Stacked value m room bytes at around new start next
+    gathered_more comma = record {
+      from = new_from;
+      around_kept = new_around;
+      make = new_make;
+      gathered = subst (λ (l : Edges). Gathered m room bytes at l next) (sym new_edges) (gathered_last m room bytes at _ end s.gathered name (value child) more next e comma);
+    }
+
+    pub gathered_all : more ≡ false → (built : Archive) (taken : List (Name × X)) → taken ≡ drop start new → built ≡ Some (node (valued_edges value taken)) → IsInsideRead m (room + 1) bytes at built next
+    gathered_all brace built taken whole is =
+        gathered_whole m room bytes at _ end s.gathered name (value child) more next e brace built (is ∙ ap (λ (l : List (Name × X)). Some (node (valued_edges value l))) whole ∙ ap (λ (l : Edges). Some (node l)) new_edges)

@@ -6,9 +6,9 @@ mod Behind
 mod Listed
 mod Deep
 mod Forms
+mod Making
 mod Gathering
 mod Putting
-mod Adding
 mod Reached
 mod Whole
 mod Utf8

@@ -1,5 +1,5 @@
 -- The text of a node by the list of its edges.
-use Rattle.std.proofs.Common.{◌≡◌, ℕ, Bool, true, false, T, List, [], ◌∷◌, ◌++◌, length, refl, sym, ap, subst, ◌∙◌, append_assoc, arith}
+use Rattle.std.proofs.Common.{◌≡◌, ℕ, Bool, true, false, List, [], ◌∷◌, ◌++◌, length, refl, sym, ap, subst, ◌∙◌, append_assoc, arith}
 use Rattle.std.specs.List.{AllByRecursion}
 use Rattle.std.specs.Str.{IsUtf8}
 use mathlib.Core.Bool.{true≢false}
@@ -8,7 +8,6 @@ use Rattle.hm_tree.specs.Nodes.{Shape, bare, mark, edge, Node, edges, node, empt
 use Rattle.hm_tree.specs.NodeLaws.{same_node, node-edges, node-nil, edges-node, edges_sorted, edges-marked, shape_checked}
 use Rattle.hm_tree.specs.Spelling.{spelled}
 use Rattle.hm_tree_text.specs.Text.{whole, below, further, text, HasTextNames, edge_text, separator, is_more, inside, commas}
-use Rattle.hm_tree_text.specs.Reading.{is_behind}
 use Rattle.hm_tree_text.proofs.Spelling.{edge_apart}
 
 abbrev pub Edges : Type 0
@@ -187,10 +186,6 @@ module _ (m : Bool) where
   pub all_among : (es : Edges) (e : Name × Node true) (more : Edges) → AllByRecursion (IsTextEdge m) (es ++ e ∷ more) → IsTextEdge m e
   all_among [] e more h = h.0
   all_among (f ∷ es) e more h = all_among es e more h.1
-
-pub nil_behind : {X : Type 0} (n : Name) (es : List (Name × X)) → length es ≡ 0 → T (is_behind n es)
-nil_behind n [] e = tt
-nil_behind n (d ∷ es) e = absurd (omega arith)
 
 pub bare_unmarked : (t : Node true) → t.shape ≡ bare → is_marked t ≡ true → ⊥
 bare_unmarked t none m = let no : bare ≡ mark = sym none ∙ shape_mark t m in cc

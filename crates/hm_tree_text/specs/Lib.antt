@@ -5,6 +5,7 @@ pub mod Opening
 pub mod Faults
 pub mod Reading
 pub mod Failing
+pub mod Pending
 pub mod Characters
 pub mod NameRest
 pub mod Writing

@@ -19,11 +19,6 @@ abbrev pub IsAfter : Option Name → Name → Type 0
 IsAfter None name = Unit {0}
 IsAfter (Some last) name = name_cmp last name ≡ Less
 
--- the edges of an archive, none where its root is missing
-abbrev pub edges_in : Archive → List (Name × Node true)
-edges_in None = []
-edges_in (Some t) = edges t
-
 -- this text stands in the bytes from one place to another
 pub record StandsAt (bytes : List ℕ) (start : ℕ) (part : List ℕ) (end : ℕ) : Type 0 where
   pub spelled : drop start bytes ≡ part ++ drop end bytes

@@ -1,16 +1,13 @@
-//! What is read: a tree or an archive, edge by edge.
-ghost use Rattle.std.specs.Prelude.{◌≡◌, ◌↔◌, Bool, true, false, T, IsTrue, OnOk, Option, Some, MatchOption, is_some, option_copied, []};
-ghost use Rattle.hm_tree.specs.Archives.{Archive as ArchiveValue, recorded, with_archive};
-ghost use Rattle.hm_tree.specs.Names.{Name as NameValue};
-ghost use Rattle.hm_tree.specs.Nodes.{Node, empty, marked};
-ghost use Rattle.hm_tree.specs.States.{state};
-ghost use Rattle.hm_tree.specs.declared.archive.State.TheVariants.{Present};
-ghost use Rattle.hm_tree_text.specs.Reading.{IsAfter, is_behind, edges_in};
+//! What is read: a tree or an archive, node by node.
+ghost use Rattle.std.specs.Prelude.{◌≡◌, Bool, true, false, IfOk, Some, MatchOption};
+ghost use Rattle.hm_tree.specs.Archives.{Archive as ArchiveValue, recorded};
+ghost use Rattle.hm_tree.specs.Nodes.{empty, marked, node};
+ghost use Rattle.hm_tree_text.specs.Pending.{valued_edges, MakeNode};
 
 use hm_tree::{Archive, Memory, Name, Tree};
 use std::alloc::Global;
 
-// What is read. Edges are added in the order of their names.
+// What is read.
 pub trait Built: Drop {
     // whether marks may stand in it
     ghost marks: { Bool };
@@ -24,18 +21,10 @@ pub trait Built: Drop {
     fn mark(alloc: Global) -> Option<Self>
         ensures { MatchOption result (marks ≡ false) (λ mark. (marks ≡ true) × (value mark ≡ Some marked)) };
 
-    fn greatest(&self) -> Option<&Name>
-        ensures { (name : NameValue) → T (is_behind name (edges_in (value self.now))) ↔ IsAfter (option_copied result) name };
-
-    fn add(&mut self, name: Name, child: Self) -> Result<(), Memory>
-        requires present { state (value self.old) [] ≡ Present }
-        requires behind { T (is_behind name (edges_in (value self.old))) }
-        requires there { IsTrue (is_some (value child)) }
-        ensures { OnOk result (value self.new ≡ with_archive name (value child) (value self.old)) };
-
-    // Gives back the room that its edges don't need.
-    fn fit(&mut self)
-        ensures { value self.new ≡ value self.old };
+    // The node with these edges.
+    fn of_edges(edges: Vec<(Name, Self)>) -> Result<Self, Memory>
+        requires { MakeNode value edges.items }
+        ensures { IfOk result (λ built. value built ≡ Some (node (valued_edges value edges.items))) };
 }
 
 impl Built for Tree {
@@ -51,21 +40,11 @@ impl Built for Tree {
         None
     }
 
-    fn greatest(&self) -> Option<&Name> {
-        let count = self.count();
-        if count == 0 {
-            return None;
-        }
-        let (name, _) = self.edge(count - 1);
-        Some(name)
-    }
-
-    fn add(&mut self, name: Name, child: Tree) -> Result<(), Memory> {
-        self.insert(name, child)
-    }
-
-    fn fit(&mut self) {
-        self.fit();
+    fn of_edges(edges: Vec<(Name, Tree)>) -> Result<Tree, Memory>
+        requires { MakeNode (λ t. Some (recorded t)) edges.items }
+        ensures { IfOk result (λ built. Some (recorded built) ≡ Some (node (valued_edges (λ t. Some (recorded t)) edges.items))) }
+    {
+        Tree::of_edges(edges)
     }
 }
 
@@ -82,20 +61,10 @@ impl Built for Archive {
         Some(Archive::marked(alloc))
     }
 
-    fn greatest(&self) -> Option<&Name> {
-        let count = self.count();
-        if count == 0 {
-            return None;
-        }
-        let (name, _) = self.edge(count - 1);
-        Some(name)
-    }
-
-    fn add(&mut self, name: Name, child: Archive) -> Result<(), Memory> {
-        self.insert(name, child)
-    }
-
-    fn fit(&mut self) {
-        self.fit();
+    fn of_edges(edges: Vec<(Name, Archive)>) -> Result<Archive, Memory>
+        requires { MakeNode (λ o. o) edges.items }
+        ensures { IfOk result (λ built. built ≡ Some (node (valued_edges (λ o. o) edges.items))) }
+    {
+        Ok(Archive::of_edges(edges))
     }
 }

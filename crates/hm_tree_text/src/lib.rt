@@ -18,6 +18,7 @@ mod built;
 mod character;
 mod fault;
 mod name_fault;
+mod pending;
 mod place;
 mod reader;
 mod writer;

@@ -1,16 +1,18 @@
 //! Reading: a place in the borrowed bytes, and a function for each form of the grammar.
-ghost use Rattle.std.specs.Prelude.{◌≡◌, ◌↔◌, ℕ, ◌+◌, ◌<◌, ◌≤◌, true, false, List, [], ◌∷◌, ◌++◌, T, IsTrue, IfOk, IfErr, IsUtf8, length, drop, Option, Some, MatchOption, option_copied};
+ghost use Rattle.std.specs.Prelude.{◌≡◌, ◌↔◌, ℕ, ◌+◌, ◌<◌, ◌≤◌, true, false, List, [], ◌∷◌, ◌++◌, T, IsTrue, IfOk, IfErr, OnOk, IsUtf8, length, drop, Option, Some, MatchOption, option_copied};
 ghost use Rattle.hm_tree.specs.Nodes.{marked};
 ghost use Rattle.hm_tree.specs.Spelling.{spelled};
 ghost use Rattle.hm_tree_text.specs.Files.{IsTreeText, IsArchiveText};
 ghost use Rattle.hm_tree_text.specs.Faults.{Faults, TreeFaults, ArchiveFaults};
 ghost use Rattle.hm_tree_text.specs.Opening.{Opens};
-ghost use Rattle.hm_tree_text.specs.Reading.{StandsAt, IsAfter, edges_in, IsName, IsEdge, IsBelow, IsInside, IsWhole, IsFile, IsInsideRead, IsBelowRead, IsWholeRead, IsEdgeRead, IsFileRead, BeginsWith};
+ghost use Rattle.hm_tree_text.specs.Reading.{StandsAt, IsAfter, IsName, IsEdge, IsBelow, IsInside, IsWhole, IsFile, IsInsideRead, IsBelowRead, IsWholeRead, IsEdgeRead, IsFileRead, BeginsWith};
+ghost use Rattle.hm_tree_text.specs.Pending.{valued_edges, MakeNode};
 ghost use Rattle.hm_tree_text.specs.Failing.{OpensInside, OpensBelow, OpensEdge, Fails, FailsAlone};
 
 use crate::built::Built;
 use crate::fault::TextFault;
 use crate::name_fault::name_fault;
+use crate::pending::{add_edge, last_name, take_edges};
 use crate::place::is_at;
 use hm_tree::{Archive, Memory, Name, Tree, unspell_name};
 use std::alloc::Global;
@@ -78,50 +80,58 @@ fn read_whole<B: Built>(alloc: Global, bytes: &[u8]) -> Result<(B, usize), TextF
     if is_at(bytes, 1, b'}') {
         return Ok((B::empty(alloc), 2));
     }
-    read_inside(alloc, bytes, 1, DEEPEST - 1)
+    let mut pending = Vec::new(alloc);
+    read_inside(alloc, bytes, 1, DEEPEST - 1, &mut pending)
 }
 
 // The edges of a node behind its brace, to the other brace and the place behind it; room is how many further braces
-// may be open below.
+// may be open below. The pending edges of the nodes around it are kept.
 #[cycle(reading)]
 fn read_inside<B: Built>(
     alloc: Global,
     bytes: &[u8],
     at: usize,
     room: usize,
+    pending: &mut Vec<(Name, B)>,
 ) -> Result<(B, usize), TextFault>
     requires { at ≤ length bytes.now }
     ensures text { IfOk result (λ read. IsInsideRead B.marks (room + 1) bytes.now at (B.value read.0) read.1) }
     ensures fault { IfErr result (Fails (IsInside B.marks) (OpensInside B.marks room) bytes.now at) }
+    ensures kept { OnOk result (pending.new.items ≡ pending.old.items) }
 {
-    let mut node = B::empty(alloc);
+    let start = pending.len();
     let mut end = at;
     loop {
-        let edge = read_edge(alloc, bytes, end, room, &node)?;
-        node.add(edge.name, edge.child)?;
+        let edge = read_edge(alloc, bytes, end, room, pending, start)?;
+        add_edge(pending, edge.name, edge.child)?;
         end = edge.end;
         if !edge.more {
-            node.fit();
-            return Ok((node, end));
+            let edges = take_edges(pending, start)?;
+            return Ok((B::of_edges(edges)?, end));
         }
     }
 }
 
-// The edge at a place, whose name comes behind those of a node, with the comma or the brace behind it.
+// The edge at a place, whose name comes behind those of its node, with the comma or the brace behind it. The edges of
+// its node are those from `start` on.
 #[cycle(reading)]
 fn read_edge<B: Built>(
     alloc: Global,
     bytes: &[u8],
     at: usize,
     room: usize,
-    before: &B,
+    pending: &mut Vec<(Name, B)>,
+    start: usize,
 ) -> Result<Edge<B>, TextFault>
-    requires { at ≤ length bytes.now }
-    ensures text { IfOk result (λ edge. IsEdgeRead B.marks room (edges_in (B.value before.now)) bytes.now at edge.name (B.value edge.child) edge.more edge.end) }
-    ensures fault { IfErr result (Fails (IsEdge B.marks (edges_in (B.value before.now))) (OpensEdge B.marks room (edges_in (B.value before.now))) bytes.now at) }
+    requires place { at ≤ length bytes.now }
+    requires from { start ≤ length pending.old.items }
+    requires before { MakeNode B.value (drop start pending.old.items) }
+    ensures text { IfOk result (λ edge. IsEdgeRead B.marks room (valued_edges B.value (drop start pending.old.items)) bytes.now at edge.name (B.value edge.child) edge.more edge.end) }
+    ensures fault { IfErr result (Fails (IsEdge B.marks (valued_edges B.value (drop start pending.old.items))) (OpensEdge B.marks room (valued_edges B.value (drop start pending.old.items))) bytes.now at) }
+    ensures kept { OnOk result (pending.new.items ≡ pending.old.items) }
 {
-    let (name, behind) = read_name(alloc, bytes, at, before.greatest())?;
-    let (child, last) = read_below(alloc, bytes, behind, room)?;
+    let (name, behind) = read_name(alloc, bytes, at, last_name(pending, start))?;
+    let (child, last) = read_below(alloc, bytes, behind, room, pending)?;
     if is_at(bytes, last, b',') {
         Ok(Edge {
             name,
@@ -148,10 +158,12 @@ fn read_below<B: Built>(
     bytes: &[u8],
     at: usize,
     room: usize,
+    pending: &mut Vec<(Name, B)>,
 ) -> Result<(B, usize), TextFault>
     requires { at ≤ length bytes.now }
     ensures text { IfOk result (λ read. IsBelowRead B.marks room bytes.now at (B.value read.0) read.1) }
     ensures fault { IfErr result (Fails (IsBelow B.marks) (OpensBelow B.marks room) bytes.now at) }
+    ensures kept { OnOk result (pending.new.items ≡ pending.old.items) }
 {
     if !is_at(bytes, at, b':') {
         return Ok((B::empty(alloc), at));
@@ -165,7 +177,7 @@ fn read_below<B: Built>(
     if room == 0 {
         return Err(TextFault::TooDeep);
     }
-    read_inside(alloc, bytes, at + 2, room - 1)
+    read_inside(alloc, bytes, at + 2, room - 1, pending)
 }
 
 // The mark at a place, if there is one where marks may stand.

@@ -1,5 +1,5 @@
 use Rattle.std.proofs.Common.{◌+◌, ◌*◌, ◌-◌, length}
-use Rattle.hm_tree_text.proofs.Gathering.{Gathered}
+use Rattle.hm_tree_text.proofs.Gathering.{Stacked}
 use Rattle.hm_tree_text.proofs.reader.+reading.Given as goal
 
 abbrev pub decreases-read_below : goal.decreases-read_below
@@ -11,8 +11,8 @@ decreases-read_edge g l = 3 * l.room + 1
 abbrev pub decreases-read_inside : goal.decreases-read_inside
 decreases-read_inside g l = 3 * l.room + 2
 
-abbrev pub invariant-read_inside-loop-node : goal.invariant-read_inside-loop-node
-invariant-read_inside-loop-node g l = Gathered g.B.Built.marks l.room l.bytes l.at (g.B.Built.value l.node) l.end
+abbrev pub invariant-read_inside-loop-edge : goal.invariant-read_inside-loop-edge
+invariant-read_inside-loop-edge g l = Stacked g.B.Built.value g.B.Built.marks l.room l.bytes l.at l.fn.pending.items l.pending.items l.start l.end
 
-abbrev pub decreases-read_inside-loop-node : goal.decreases-read_inside-loop-node
-decreases-read_inside-loop-node g l = length l.bytes - l.end
+abbrev pub decreases-read_inside-loop-edge : goal.decreases-read_inside-loop-edge
+decreases-read_inside-loop-edge g l = length l.bytes - l.end

@@ -1,6 +1,6 @@
 use Rattle.std.proofs.Common.{Some, ap, ◌∙◌}
 use Rattle.hm_tree.specs.Archives.{recorded}
-use Rattle.hm_tree_text.proofs.Adding.{recorded_empty}
+use Rattle.hm_tree_text.proofs.Making.{recorded_empty}
 use Rattle.hm_tree_text.proofs.built.TreeBuilt.empty.Goals as goal
 
 pub returns : goal.returns

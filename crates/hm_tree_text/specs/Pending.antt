@@ -1,0 +1,19 @@
+-- Edges as they are read: names, and what was built behind each, which has the value of an archive.
+use Rattle.std.specs.Prelude.{true, T, List, map}
+use Rattle.std.specs.FinMap.{is_sorted}
+use Rattle.hm_tree.specs.Names.{Name, name_cmp}
+use Rattle.hm_tree.specs.Nodes.{Node}
+use Rattle.hm_tree.specs.Archives.{Archive, there, is_there}
+
+-- each name with the value behind it
+abbrev pub with_values : {X : Type 0} → (X → Archive) → List (Name × X) → List (Name × Archive)
+with_values value es = map (λ e. (e.0, value e.1)) es
+
+-- the same as edges of a node, which lead to nodes
+abbrev pub valued_edges : {X : Type 0} → (X → Archive) → List (Name × X) → List (Name × Node true)
+valued_edges value es = there (with_values value es)
+
+-- a node has these edges: nothing is missing behind them, and their names rise
+pub record MakeNode {X : Type 0} (value : X → Archive) (es : List (Name × X)) : Type 0 where
+  pub all_there : T (is_there (with_values value es))
+  pub rise : T (is_sorted name_cmp (valued_edges value es))
