@@ -17,7 +17,7 @@ use Rattle.hm_outcome.proofs.Search.{same_or_differ}
 use Rattle.hm_outcome.proofs.Forced.{contested_stays}
 
 -- where both sides have the same, a side is to have what it has
-carried_same : (archive mine other : View) (q : Path) → mine q ≡ other q → IsCarried archive mine other q ↔ Has mine q
+pub carried_same : (archive mine other : View) (q : Path) → mine q ≡ other q → IsCarried archive mine other q ↔ Has mine q
 carried_same archive mine other q same = (to, λ has. on_both has (sym same ∙ has))
   where
     to : IsCarried archive mine other q → Has mine q

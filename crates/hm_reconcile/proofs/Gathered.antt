@@ -23,13 +23,13 @@ use Rattle.hm_schema.specs.Membership.{down, HasNames, IsMember, HasNoTwins}
 use Rattle.hm_schema.proofs.NamesOf.{tie_one, names_of-below}
 use Rattle.hm_outcome.specs.Trios.{Trio, given, views, AreMembers}
 use Rattle.hm_outcome.specs.Carried.{IsCarried, on_both, clashing, kept, brought, AreCarried}
-use Rattle.hm_outcome.specs.Contested.{IsContested, refused}
 use Rattle.hm_outcome.specs.Outcomes.{IsOutcome}
 use Rattle.hm_outcome.proofs.Forced.{turned, safe_turned, has_carried, carried_has}
 use Rattle.hm_outcome.proofs.Settled.{chained, equal_sides}
 use Rattle.hm_outcome.proofs.Downward.{child, views_below, views_child, carried_below, TakesNames, downward}
 use Rattle.hm_reconcile.specs.Walking.{IsInEither}
 use Rattle.hm_reconcile.specs.Gathering.{with_side, with_trio}
+use Rattle.hm_reconcile.specs.Naming.{ArePermitted}
 
 -- nothing stands in any of the three
 abbrev pub nothing : Trio
@@ -55,15 +55,21 @@ module _ (k : Name) where
   side_there q apart None t = refl
   side_there q apart (Some c) t = below_with q k c t ∙ ap (λ b. cond b (Some c) (below q t)) apart
 
-  archive_here : (c : Archive) (o : Archive) → state o [] ≡ Present → under k o ≡ None → under k (with_archive k c o) ≡ c
+  pub archive_here : (c : Archive) (o : Archive) → state o [] ≡ Present → under k o ≡ None → under k (with_archive k c o) ≡ c
   archive_here c None present none = let no : ⊥ = cc in absurd no
   archive_here None (Some t) present none = none
   archive_here (Some c) (Some t) present none = below_with k k c t ∙ ap (λ b. cond b (Some c) (below k t)) (tied_same k)
 
-  archive_there : (q : Name) → eq_by_cmp name_cmp q k ≡ false → (c : Archive) (o : Archive) → under q (with_archive k c o) ≡ under q o
+  pub archive_there : (q : Name) → eq_by_cmp name_cmp q k ≡ false → (c : Archive) (o : Archive) → under q (with_archive k c o) ≡ under q o
   archive_there q apart c None = refl
   archive_there q apart None (Some t) = refl
   archive_there q apart (Some c) (Some t) = below_with q k c t ∙ ap (λ b. cond b (Some c) (below q t)) apart
+
+-- a present root stays so
+pub still_present : (k : Name) (c : Archive) (o : Archive) → state o [] ≡ Present → state (with_archive k c o) [] ≡ Present
+still_present k c None present = present
+still_present k None (Some t) present = present
+still_present k (Some c) (Some t) present = ap (λ m. cond m Marked Present) (is_marked-node (put name_cmp k c (edges t)))
 
 module _ (s : SchemaValue) (i : NodeId) (before : Trio) (passed : Name → Type 0) (o : Archive) (a b : Tree) (h : IsGathered s i before passed (given o a b)) (k : Name) (fresh : ¬ (passed k)) (here : Trio) where
   abbrev pub made : Trio
@@ -84,14 +90,9 @@ module _ (s : SchemaValue) (i : NodeId) (before : Trio) (passed : Name → Type 
     right = side_there k q apart here.right b x;
   }
 
-  still_present : (c : Archive) (o : Archive) → state o [] ≡ Present → state (with_archive k c o) [] ≡ Present
-  still_present c None present = present
-  still_present None (Some t) present = present
-  still_present (Some c) (Some t) present = ap (λ m. cond m Marked Present) (is_marked-node (put name_cmp k c (edges t)))
-
   pub gathered_next : (now : Name → Type 0) → ((q : Name) → now q ↔ (passed q ⊎ (q ≡ k))) → ((j : NodeId) → child_at s i k ≡ Some j → IsOutcome s j (child k before) here) → IsGathered s i before now made
   gathered_next now grows settled = record {
-    archive = still_present here.archive o h.archive;
+    archive = still_present k here.archive o h.archive;
     settled = λ q was j leads. go q j leads ((grows q).0 was) (eq_by_cmp name_cmp q k) refl;
     rest = λ q not_now. untouched q not_now (eq_by_cmp name_cmp q k) refl;
   }
@@ -242,7 +243,7 @@ module _ (s : SchemaValue) (i : NodeId) (o : Archive) (a b : Tree) (members : Ar
     has = tree_names t;
   }
 
-  pub gathered : HasNoTwins s → PermitsAt s i (names_of made_left) → PermitsAt s i (names_of made_right) → IsOutcome s i before after
+  gathered : HasNoTwins s → PermitsAt s i (names_of made_left) → PermitsAt s i (names_of made_right) → IsOutcome s i before after
   gathered no_twins left right = downward s i before after no_twins members (record {
     unmarked = unmarked;
     has_left = state_root a;
@@ -258,18 +259,6 @@ module _ (s : SchemaValue) (i : NodeId) (o : Archive) (a b : Tree) (members : Ar
     right_names = takes left.node left.is made_right (state o) (state (Some b)) (state (Some a)) carried_right right;
   })
 
-  pub names_refused : (node : NodeValue) → node_at s i ≡ Some node → ¬ (PermitsAt s i (names_of made_left)) ⊎ ¬ (PermitsAt s i (names_of made_right)) → IsContested s i (views before) []
-  names_refused node is not_permitted = refused {left = names_of made_left} {right = names_of made_right} (record {
-    has_left = state_root a;
-    has_right = state_root b;
-    unmarked = unmarked;
-    are_left = carried_left;
-    are_right = carried_right;
-    node = node;
-    is = is;
-    refused = by not_permitted;
-  })
-    where
-      by : ¬ (PermitsAt s i (names_of made_left)) ⊎ ¬ (PermitsAt s i (names_of made_right)) → ¬ (Permits node (names_of made_left)) ⊎ ¬ (Permits node (names_of made_right))
-      by (inl no_left) = inl (λ p. no_left (record { node = node; is = is; permitted = p }))
-      by (inr no_right) = inr (λ p. no_right (record { node = node; is = is; permitted = p }))
+  -- where each side may have the names that it is to have
+  pub gathered_permitted : HasNoTwins s → ArePermitted s i (views before) → IsOutcome s i before after
+  gathered_permitted no_twins permitted = gathered no_twins (permitted.left (names_of made_left) carried_left) (permitted.right (names_of made_right) carried_right)

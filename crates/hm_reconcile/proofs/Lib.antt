@@ -7,3 +7,11 @@ pub mod TopmostAppend
 pub mod FirstNews
 pub mod CarriedNames
 pub mod Shown
+pub mod Fronts
+pub mod Under
+pub mod Held
+pub mod TakingOff
+pub mod SameNames
+pub mod Naming
+pub mod Alike
+pub mod Steps

@@ -69,11 +69,11 @@ members_at s i j o c a b k one two members leads left right = record {
 
 -- ---- the loop
 
-none_below : {m : Bool} (k : Name) → below k (empty {m = m}) ≡ None
+pub none_below : {m : Bool} (k : Name) → below k (empty {m = m}) ≡ None
 unfolding edges edges_of empty
 none_below k = refl
 
-root_there : state (Some (empty {m = true})) [] ≡ Present
+pub root_there : state (Some (empty {m = true})) [] ≡ Present
 unfolding is_marked empty
 root_there = refl
 
@@ -84,7 +84,7 @@ gathered_none s i before a b = record {
   rest = λ k fresh. λ x. record { archive = none_below k x; left = none_below k x; right = none_below k x };
 }
 
-pub size_falls : (a : Tree) (k : Name) (one : Option Tree) (work : ℕ) → one ≡ below k a → work ≤ 4 → side_size one work < 4 * depth a + 2
+pub size_falls : (a : Tree) (k : Name) (one : Option Tree) (work : ℕ) → one ≡ below k a → work ≤ 3 → side_size one work < 4 * depth a + 1
 size_falls a k None work is small = omega arith
 size_falls a k (Some c) work is small = let less = depth_below k a c (sym is) in omega arith
 

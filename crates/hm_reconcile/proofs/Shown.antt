@@ -1,8 +1,7 @@
 -- What shows why a path is contested, by what stands there.
-use Rattle.std.proofs.Common.{◌≡◌, ◌≢◌, ◌↔◌, inl, inr, Bool, List, [], ◌∷◌, ◌++◌, get_or, Option, Some, None, refl, sym, ap, subst, ◌∙◌}
+use Rattle.std.proofs.Common.{◌≡◌, ◌≢◌, ◌↔◌, inl, inr, Bool, [], ◌∷◌, ◌++◌, Option, Some, None, refl, sym, ap, subst, ◌∙◌}
 use Rattle.std.specs.Ordering.{ordering_then}
 use Rattle.std.proofs.lemmas.Cmp.{tied_itself}
-use Rattle.std.proofs.lemmas.List.{get_or_default}
 use Rattle.hm_tree.specs.declared.archive.State.TheVariants.{Present, Marked}
 use Rattle.hm_tree.specs.Nodes.{Node, Tree}
 use Rattle.hm_tree.specs.Archives.{Archive}
@@ -11,23 +10,18 @@ use Rattle.hm_tree.proofs.Paths.{state_at, state_here, stands, stands_not}
 use Rattle.hm_tree.proofs.Sorted.{name_total}
 use Rattle.hm_safety.specs.Views.{View, Views}
 use Rattle.hm_safety.specs.Changes.{IsLost}
-use Rattle.hm_safety.specs.Safety.{IsTopmostMark}
-use Rattle.hm_schema.specs.declared.node.NodeId.{NodeId}
-use Rattle.hm_schema.specs.Values.{Names, SchemaValue}
+use Rattle.hm_schema.specs.Values.{Names}
 use Rattle.hm_schema.specs.Membership.{down, path_cmp}
 use Rattle.hm_outcome.specs.Trios.{given, views}
 use Rattle.hm_outcome.specs.Carried.{IsCarried, AreCarried}
 use Rattle.hm_outcome.specs.Contested.{AreRefused, IsContested, earlier, lost, refused}
 use Rattle.hm_outcome.proofs.Downward.{carried_below}
 use Rattle.hm_outcome.proofs.Settled.{chained, one_set, has_and_lacks}
-use Rattle.hm_report.specs.Conflicts.{AreConflicts}
-use Rattle.hm_report.specs.declared.conflict.Conflict.{Conflict}
 use Rattle.hm_report.specs.declared.conflict.Why.TheVariants as why
-use Rattle.hm_report.proofs.Explained.{listed_path}
 use Rattle.hm_report.specs.Reasons.{IsFirstNews, LosesFirst, ShowsWhy}
 use Rattle.hm_report.specs.Reasons as reason
 use Rattle.hm_reconcile.specs.FirstNews.{IsNewsFrom}
-use Rattle.hm_reconcile.specs.Showing.{IsContestedSomewhere, ShowsWherever, ShowConflicts}
+use Rattle.hm_reconcile.specs.Showing.{IsContestedSomewhere, ShowsWherever}
 
 -- ---- below a path, as from the root
 
@@ -36,12 +30,12 @@ same_front : (p q r : Path) → path_cmp (p ++ q) (p ++ r) ≡ path_cmp q r
 same_front [] q r = refl
 same_front (k ∷ p) q r = ap (λ o. ordering_then o (path_cmp (p ++ q) (p ++ r))) (tied_itself name_total k) ∙ same_front p q r
 
-carried_down : (p : Path) (archive mine other : View) (q : Path) → IsCarried archive mine other (p ++ q) ↔ IsCarried (down p archive) (down p mine) (down p other) q
+pub carried_down : (p : Path) (archive mine other : View) (q : Path) → IsCarried archive mine other (p ++ q) ↔ IsCarried (down p archive) (down p mine) (down p other) q
 carried_down [] archive mine other q = (λ c. c, λ c. c)
 carried_down (k ∷ p) archive mine other q =
     chained (carried_below k archive mine other (p ++ q)) (carried_down p (down (k ∷ []) archive) (down (k ∷ []) mine) (down (k ∷ []) other) q)
 
-carried_up : (p : Path) (archive mine other : View) (names : Names) → AreCarried (down p archive) (down p mine) (down p other) [] names → AreCarried archive mine other p names
+pub carried_up : (p : Path) (archive mine other : View) (names : Names) → AreCarried (down p archive) (down p mine) (down p other) [] names → AreCarried archive mine other p names
 carried_up p archive mine other names are k = chained (are k) (let both = carried_down p archive mine other (k ∷ []) in (both.1, both.0))
 
 down_is : {m : Bool} (t : Option (Node m)) (p : Path) (u : Option (Node m)) → u ≡ at_path t p → down p (state t) ≡ state u
@@ -142,15 +136,3 @@ module _ (o h : Archive) (a b : Tree) (p : Path) (at : h ≡ at_path o p) where
       right_shown left_at right_at q n s i (lost present (inl l)) = absurd (stands_not a p left_at l.has)
       right_shown left_at right_at q n s i (lost present (inr l)) = reason.lost present (inr (record { lost = l; first = first_from b t q right_at n }))
       right_shown left_at right_at q n s i (refused r) = absurd (stands_not a p left_at r.has_left)
-
--- ---- the conflicts of an outcome
-
--- what shows why wherever it is contested shows why at the node at which it is
-pub shown_conflicts : (s : SchemaValue) (i : NodeId) (v : Views) (archive : View) (conflicts : List Conflict) → ((p : Path) → IsTopmostMark archive p → IsContested s i v p) → ShowConflicts v archive conflicts → AreConflicts s i v archive conflicts
-shown_conflicts s i v archive conflicts contested shown = record {
-  at_marks = shown.at_marks;
-  each = λ k d lt.
-      let c : Conflict = get_or conflicts k d in
-      let mark = (shown.at_marks.each c.path).0 (listed_path conflicts c (k, lt, get_or_default conflicts k c d lt)) in
-      shown.each k d lt s i (contested c.path mark);
-}

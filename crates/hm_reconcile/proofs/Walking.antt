@@ -19,7 +19,7 @@ use Rattle.hm_reconcile.specs.Walking.{StandsBefore, IsSplit, IsAmong, Passed, I
 pub not_before_itself : (k : Name) → name_cmp k k ≡ Less → ⊥
 not_before_itself k e = let bad : Equal ≡ Less = sym (tied_itself name_total k) ∙ e in cc
 
-rising : (t : Tree) (i j : ℕ) (e f : Name × Tree) → i < j → slice_get (edges t) i ≡ Some e → slice_get (edges t) j ≡ Some f → name_cmp e.0 f.0 ≡ Less
+pub rising : (t : Tree) (i j : ℕ) (e f : Name × Tree) → i < j → slice_get (edges t) i ≡ Some e → slice_get (edges t) j ≡ Some f → name_cmp e.0 f.0 ≡ Less
 rising t i j e f lt a b =
     let less = rises (edges t) (edges_sorted t) i j e lt (slice_get_within (edges t) j f b) in
     rw (get_or_from_slice_get (edges t) i e e a, get_or_from_slice_get (edges t) j f e b) at less
@@ -42,7 +42,7 @@ find_place k (x ∷ es) c e = go (eq_by_cmp name_cmp k x.0) refl e (find_place k
 
 -- ---- the next name
 
-abbrev IsBefore : Name → List (Name × Tree) → ℕ → Type 0
+abbrev pub IsBefore : Name → List (Name × Tree) → ℕ → Type 0
 IsBefore n es from = (j : ℕ) (f : Name × Tree) → from ≤ j → slice_get es j ≡ Some f → name_cmp n f.0 ≡ Less
 
 -- one name more of those in front

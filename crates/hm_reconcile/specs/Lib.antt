@@ -6,3 +6,8 @@ pub mod Appending
 pub mod FirstNews
 pub mod Taking
 pub mod Showing
+pub mod Holding
+pub mod Naming
+pub mod Taken
+pub mod Alike
+pub mod Reconciled

@@ -1,9 +1,11 @@
 //! Reconciling two replicas against the archive of what they last agreed on.
 #![tactic(auto)]
 
+mod apart;
 mod carried;
 mod conflicts;
 mod marks;
+mod names;
 mod news;
 mod node;
 mod paths;
@@ -13,14 +15,10 @@ mod trees;
 mod walk;
 mod whole;
 
-ghost use Rattle.std.specs.Prelude.{◌≡◌, IfOk, List};
-ghost use Rattle.hm_tree.specs.States.{state, Path};
-ghost use Rattle.hm_safety.specs.Safety.{IsTopmostMark};
+ghost use Rattle.std.specs.Prelude.{IfOk};
 ghost use Rattle.hm_schema.specs.Membership.{HasNoTwins};
-ghost use Rattle.hm_outcome.specs.Trios.{Trio, given, views, AreMembers, Differ};
-ghost use Rattle.hm_outcome.specs.Outcomes.{IsOutcome, IsMaximal, IsOnlyOne};
-ghost use Rattle.hm_report.specs.declared.conflict.Conflict.{Conflict as ConflictValue};
-ghost use Rattle.hm_report.specs.Conflicts.{AreConflicts, AreExplained, IsOutcomeWith};
+ghost use Rattle.hm_outcome.specs.Trios.{given, views, AreMembers};
+ghost use Rattle.hm_reconcile.specs.Reconciled.{IsReconciled};
 
 use crate::conflicts::conflicts_of;
 use crate::node::at_node;
@@ -42,16 +40,25 @@ pub fn reconcile(
 ) -> Result<Outcome, Memory>
     requires no_twins { HasNoTwins schema.now }
     requires members { AreMembers schema.now schema.now.root (views (given archive.now left.now right.now)) }
-    ensures outcome { IfOk result (λ o. IsOutcome schema.now schema.now.root (given archive.now left.now right.now) (given o.archive o.left o.right)) }
-    ensures best { IfOk result (λ o. IsMaximal schema.now schema.now.root (given archive.now left.now right.now) (given o.archive o.left o.right)) }
-    ensures only { IfOk result (λ o. IsOnlyOne schema.now schema.now.root (given archive.now left.now right.now) (given o.archive o.left o.right)) }
-    ensures conflicts { IfOk result (λ o. AreConflicts schema.now schema.now.root (views (given archive.now left.now right.now)) (state o.archive) o.conflicts.items) }
-    ensures once { IfOk result (λ o. (other : Trio) (conflicts : List ConflictValue) → IsOutcomeWith schema.now schema.now.root (given archive.now left.now right.now) other conflicts → (other ≡ given o.archive o.left o.right) × (conflicts ≡ o.conflicts.items)) }
-    ensures explained { IfOk result (λ o. AreExplained schema.now schema.now.root (views (given archive.now left.now right.now)) (views (given o.archive o.left o.right)) o.conflicts.items) }
-    ensures apart { IfOk result (λ o. (p : Path) → IsTopmostMark (state o.archive) p → Differ (views (given o.archive o.left o.right)) p) }
+    ensures { IfOk result (IsReconciled schema.now (given archive.now left.now right.now)) }
+{
+    reconcile_owned(alloc, schema, archive.copy()?, left.copy()?, right.copy()?)
+}
+
+/// The same of an archive and two members that aren't needed any more: what stays as it is is moved, not copied.
+pub fn reconcile_owned(
+    alloc: Global,
+    schema: &Schema,
+    archive: Archive,
+    left: Tree,
+    right: Tree,
+) -> Result<Outcome, Memory>
+    requires no_twins { HasNoTwins schema.now }
+    requires members { AreMembers schema.now schema.now.root (views (given archive left right)) }
+    ensures { IfOk result (IsReconciled schema.now (given archive left right)) }
 {
     let made = at_node(alloc, schema, schema.root(), archive, left, right)?;
-    let conflicts = conflicts_of(alloc, archive, left, right, &made.archive)?;
+    let conflicts = conflicts_of(alloc, &made.held, &made.left, &made.right, &made.archive)?;
     Ok(Outcome {
         archive: made.archive,
         left: made.left,

@@ -3,8 +3,9 @@ ghost use Rattle.std.specs.Prelude.{◌≡◌, IfOk};
 ghost use Rattle.hm_reconcile.specs.Sides.{sides_of, on_left, on_right, recorded_on_both, on_neither, Settles};
 ghost use Rattle.hm_reconcile.specs.Fates.{HasFate};
 ghost use Rattle.hm_reconcile.specs.Gathering.{outcome_of};
+ghost use Rattle.hm_reconcile.specs.Holding.{Holds};
 
-use crate::trees::{Trees, all_as};
+use crate::trees::Trees;
 use hm_tree::{Archive, Memory, State, Tree};
 use std::alloc::Global;
 
@@ -14,17 +15,21 @@ pub struct Sides {
     pub archive: Archive,
     pub left: Option<Tree>,
     pub right: Option<Tree>,
+    /// At each topmost mark of the archive, what the archive before held there.
+    pub held: Archive,
 }
 
 impl Sides {
     /// Both sides are there.
     pub fn of(made: Trees) -> Sides
-        ensures { sides_of result ≡ outcome_of made }
+        ensures outcome { sides_of result ≡ outcome_of made }
+        ensures held { result.held ≡ made.held }
     {
         Sides {
             archive: made.archive,
             left: Some(made.left),
             right: Some(made.right),
+            held: made.held,
         }
     }
 }
@@ -53,40 +58,49 @@ pub fn fate_of(archive: &Archive, tree: &Tree) -> Fate
 }
 
 /// What becomes of a subtree that the left side alone has.
-pub fn left_alone(alloc: Global, archive: &Archive, tree: &Tree) -> Result<Sides, Memory>
-    ensures { IfOk result (λ r. Settles tree.now (on_left archive.now tree.now) (sides_of r)) }
+pub fn left_alone(alloc: Global, archive: Archive, tree: Tree) -> Result<Sides, Memory>
+    ensures outcome { IfOk result (λ r. Settles tree (on_left archive tree) (sides_of r)) }
+    ensures held { IfOk result (λ r. Holds archive r.archive r.held) }
 {
-    match fate_of(archive, tree) {
-        Fate::Carried => on_both(tree),
+    match fate_of(&archive, &tree) {
+        Fate::Carried => on_both(alloc, tree),
         Fate::Dropped => Ok(nowhere(alloc)),
         Fate::Contested => Ok(Sides {
             archive: Archive::marked(alloc),
-            left: Some(tree.copy()?),
+            left: Some(tree),
             right: None,
+            held: archive,
         }),
     }
 }
 
 /// What becomes of a subtree that the right side alone has.
-pub fn right_alone(alloc: Global, archive: &Archive, tree: &Tree) -> Result<Sides, Memory>
-    ensures { IfOk result (λ r. Settles tree.now (on_right archive.now tree.now) (sides_of r)) }
+pub fn right_alone(alloc: Global, archive: Archive, tree: Tree) -> Result<Sides, Memory>
+    ensures outcome { IfOk result (λ r. Settles tree (on_right archive tree) (sides_of r)) }
+    ensures held { IfOk result (λ r. Holds archive r.archive r.held) }
 {
-    match fate_of(archive, tree) {
-        Fate::Carried => on_both(tree),
+    match fate_of(&archive, &tree) {
+        Fate::Carried => on_both(alloc, tree),
         Fate::Dropped => Ok(nowhere(alloc)),
         Fate::Contested => Ok(Sides {
             archive: Archive::marked(alloc),
             left: None,
-            right: Some(tree.copy()?),
+            right: Some(tree),
+            held: archive,
         }),
     }
 }
 
 // A tree on both sides, and in the archive.
-fn on_both(tree: &Tree) -> Result<Sides, Memory>
-    ensures { IfOk result (λ r. sides_of r ≡ recorded_on_both tree.now) }
+fn on_both(alloc: Global, tree: Tree) -> Result<Sides, Memory>
+    ensures { IfOk result (λ r. sides_of r ≡ recorded_on_both tree) }
 {
-    Ok(Sides::of(all_as(tree)?))
+    Ok(Sides {
+        archive: Archive::of_tree(&tree)?,
+        left: Some(tree.copy()?),
+        right: Some(tree),
+        held: Archive::missing(alloc),
+    })
 }
 
 // Nothing on either side, nor in the archive.
@@ -97,5 +111,6 @@ fn nowhere(alloc: Global) -> Sides
         archive: Archive::missing(alloc),
         left: None,
         right: None,
+        held: Archive::missing(alloc),
     }
 }

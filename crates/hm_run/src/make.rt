@@ -8,7 +8,7 @@ ghost use Rattle.hm_run.specs.Making.{new_bytes, all_as, IsMade};
 
 use crate::read::Inputs;
 use hm_command::Report;
-use hm_reconcile::{reconcile, side_for_all};
+use hm_reconcile::{reconcile_owned, side_for_all};
 use hm_report::{Conflict, Outcome, write_report};
 use hm_tree::{Memory, Tree};
 use hm_tree_text::{write_archive, write_tree};
@@ -78,14 +78,12 @@ pub fn make(alloc: Global, inputs: Inputs) -> Result<NewFiles, Memory>
     if let Some(side) = side_for_all(&inputs.archive, &inputs.left, &inputs.right) {
         return spell_for_all(alloc, side);
     }
-    let outcome = reconcile(
-        alloc,
-        &inputs.schema,
-        &inputs.archive,
-        &inputs.left,
-        &inputs.right,
-    )?;
-    // The old trees aren't needed any more.
-    drop(inputs);
+    let Inputs {
+        schema,
+        archive,
+        left,
+        right,
+    } = inputs;
+    let outcome = reconcile_owned(alloc, &schema, archive, left, right)?;
     spell(alloc, &outcome)
 }
