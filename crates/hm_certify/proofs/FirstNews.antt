@@ -20,7 +20,7 @@ use Rattle.hm_outcome.proofs.Downward.{state_under}
 use Rattle.hm_report.specs.Reasons.{IsFirstNews}
 use Rattle.hm_certify.specs.News.{IsWithinBefore}
 use Rattle.hm_certify.proofs.Verdicts.{is_not}
-use Rattle.hm_certify.proofs.PathOrder.{front}
+use Rattle.hm_tree.proofs.Paths.{front_is}
 
 -- first news at or below the root
 abbrev pub IsFirst : Archive → Tree → Path → Type 0
@@ -120,7 +120,7 @@ module _ (o : Archive) (t : Tree) (names : Path) (here : Archive) (side : Tree) 
 
   module _ (k : Name) (within : i < length names) (at : k ≡ get_or names i k) where
     next : IsFirst o t names → IsFirst here side (k ∷ drop (i + 1) names)
-    next f = subst (IsFirst here side) (front names i k within at) (on.0 f)
+    next f = subst (IsFirst here side) (front_is names i k within at) (on.0 f)
 
     pub on_above : state here [] ≢ Present → IsTrue false ↔ IsFirst o t names
     on_above n = is_not (λ f. news_above here side k (drop (i + 1) names) n (next f))
@@ -132,5 +132,5 @@ module _ (o : Archive) (t : Tree) (names : Path) (here : Archive) (side : Tree) 
       pub on_down : IsWithinBefore side here k → (c : Tree) (d : Archive) → below k side ≡ Some c → d ≡ under k here → NewsOn o t names d c (i + 1)
       on_down before c d is under_is = (
         λ f. subst (λ (x : Archive). IsFirst x c (drop (i + 1) names)) (sym under_is) ((news_step here side k (drop (i + 1) names) present c is before).0 (next f)),
-        λ f. on.1 (subst (IsFirst here side) (sym (front names i k within at)) ((news_step here side k (drop (i + 1) names) present c is before).1 (subst (λ (x : Archive). IsFirst x c (drop (i + 1) names)) under_is f))),
+        λ f. on.1 (subst (IsFirst here side) (sym (front_is names i k within at)) ((news_step here side k (drop (i + 1) names) present c is before).1 (subst (λ (x : Archive). IsFirst x c (drop (i + 1) names)) under_is f))),
       )

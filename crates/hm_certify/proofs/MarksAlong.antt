@@ -10,7 +10,7 @@ use Rattle.hm_safety.specs.Safety.{IsTopmostMark}
 use Rattle.hm_outcome.proofs.Marks.{at_root, below_root}
 use Rattle.hm_outcome.proofs.Downward.{state_under, none_above_below}
 use Rattle.hm_certify.proofs.Verdicts.{is_not}
-use Rattle.hm_certify.proofs.PathOrder.{front}
+use Rattle.hm_tree.proofs.Paths.{front_is}
 
 mark_under : (o : Archive) (k : Name) (p : Path) → state o [] ≢ Marked → IsTopmostMark (state o) (k ∷ p) ↔ IsTopmostMark (state (under k o)) p
 mark_under o k p n = (
@@ -34,7 +34,7 @@ module _ (o here : Archive) (p : Path) (i : ℕ) (on : FoundOn o here p i) where
 
   module _ (k : Name) (within : i < length p) (at : k ≡ get_or p i k) where
     here_is : IsTopmostMark (state here) (drop i p) → IsTopmostMark (state here) (k ∷ drop (i + 1) p)
-    here_is m = subst (IsTopmostMark (state here)) (front p i k within at) m
+    here_is m = subst (IsTopmostMark (state here)) (front_is p i k within at) m
 
     pub on_mark : state here [] ≡ Marked → IsTrue false ↔ IsTopmostMark (state o) p
     on_mark marked = is_not (λ m. (here_is (on.0 m)).topmost [] (k ∷ drop (i + 1) p) refl (λ e. (let f : ⊥ = cc in f)) marked)
@@ -42,5 +42,5 @@ module _ (o here : Archive) (p : Path) (i : ℕ) (on : FoundOn o here p i) where
     pub on_down : state here [] ≢ Marked → (child : Archive) → child ≡ under k here → FoundOn o child p (i + 1)
     on_down n child is = (
       λ m. subst (λ (c : Archive). IsTopmostMark (state c) (drop (i + 1) p)) (sym is) ((mark_under here k (drop (i + 1) p) n).0 (here_is (on.0 m))),
-      λ m. on.1 (subst (IsTopmostMark (state here)) (sym (front p i k within at)) ((mark_under here k (drop (i + 1) p) n).1 (subst (λ (c : Archive). IsTopmostMark (state c) (drop (i + 1) p)) is m))),
+      λ m. on.1 (subst (IsTopmostMark (state here)) (sym (front_is p i k within at)) ((mark_under here k (drop (i + 1) p) n).1 (subst (λ (c : Archive). IsTopmostMark (state c) (drop (i + 1) p)) is m))),
     )

@@ -1,5 +1,5 @@
 -- The order of paths, name by name.
-use Rattle.std.proofs.Common.{◌≡◌, ◌↔◌, ℕ, suc, ◌+◌, ◌<◌, ◌≤◌, add-one, [], ◌∷◌, length, drop, drop-cons, get_or, Bool, true, false, IsTrue, refl, sym, ◌∙◌, arith}
+use Rattle.std.proofs.Common.{◌≡◌, ◌↔◌, ℕ, ◌<◌, ◌≤◌, [], length, drop, get_or, Bool, true, false, IsTrue, refl, sym, ◌∙◌, arith}
 use Rattle.std.proofs.lemmas.List.{drop_all, get_or_default}
 use Rattle.std.proofs.lemmas.Bool.{ltb-true, ltb-false}
 use lib.Dec.{ltb}
@@ -8,9 +8,7 @@ use Rattle.hm_tree.specs.Names.{Name}
 use Rattle.hm_tree.specs.States.{Path}
 use Rattle.hm_schema.specs.Membership.{path_cmp}
 use Rattle.hm_certify.proofs.Verdicts.{is_so, is_not}
-
-pub front : (p : Path) (i : ℕ) (k : Name) → i < length p → k ≡ get_or p i k → drop i p ≡ k ∷ drop (i + 1) p
-front p i k lt e = rw add-one (drop-cons p i k lt ∙ (λ j. sym e j ∷ drop (suc i) p))
+use Rattle.hm_tree.proofs.Paths.{front_is}
 
 -- two paths that were the same up to a place
 abbrev pub SameUpTo : Path → Path → ℕ → Type 0
@@ -23,7 +21,7 @@ module _ (p q : Path) (i : ℕ) (same : SameUpTo p q i) where
     where
       go : (rest : Path) → rest ≡ [] → path_cmp p q ≡ Less → ⊥
       go rest e less =
-          let greater : path_cmp p q ≡ Greater = same ∙ (λ j. path_cmp (front p i k in_p at_p j) (drop_all i q end j)) in
+          let greater : path_cmp p q ≡ Greater = same ∙ (λ j. path_cmp (front_is p i k in_p at_p j) (drop_all i q end j)) in
           let bad : Greater ≡ Less = sym greater ∙ less in cc
 
   pub other_ends : i < length p → length q ≤ i → IsTrue false ↔ (path_cmp p q ≡ Less)
@@ -37,7 +35,7 @@ module _ (p q : Path) (i : ℕ) (same : SameUpTo p q i) where
       go true e =
           let lt = ltb-true (length p) (length q) e in
           let in_q : i < length q = omega arith in
-          is_so (same ∙ (λ j. path_cmp (drop_all i p end j) (front q i (get_or q i []) in_q (get_or_default q i [] (get_or q i []) in_q) j)))
+          is_so (same ∙ (λ j. path_cmp (drop_all i p end j) (front_is q i (get_or q i []) in_q (get_or_default q i [] (get_or q i []) in_q) j)))
       go false e =
           let le = ltb-false (length p) (length q) e in
           let end_q : length q ≤ i = omega arith in

@@ -1,5 +1,5 @@
 -- What conflicts show, by what stands at their paths.
-use Rattle.std.proofs.Common.{◌≡◌, ◌⊎◌, ◌↔◌, ◌<◌, length, Bool, true, false, not, IsTrue, IsSome, Bor, MatchOption, option_copied, option_and_then, [], ◌∷◌, ◌++◌, Option, Some, None, refl, sym, ap, subst, ◌∙◌, inl, inr, arith}
+use Rattle.std.proofs.Common.{◌≡◌, ◌⊎◌, ◌↔◌, ◌<◌, length, Bool, true, false, not, IsTrue, IsSome, is_some, Bor, MatchOption, option_copied, option_and_then, [], ◌∷◌, ◌++◌, Option, Some, None, refl, sym, ap, subst, ◌∙◌, inl, inr, arith}
 use mathlib.Core.Bool.{false≢true}
 use Rattle.std.proofs.lemmas.Option.{none-some, same_Some, slice_get_cases}
 use Rattle.hm_tree.specs.declared.archive.State.TheVariants.{Missing, Present, Marked}
@@ -31,9 +31,9 @@ use Rattle.hm_certify.proofs.Verdicts.{is_so, is_not, as_well}
 use Rattle.hm_certify.proofs.Along.{loses_along, name_carried, carried_along, differ_along}
 
 -- what Archive::at found
-pub at_found : (r : Option (Bor Archive)) (x : Archive) → MatchOption r (x ≡ None) (λ found. found.now ≡ x) → archive_or_none (option_copied r) ≡ x
+pub at_found : (r : Option (Bor Archive)) (x : Archive) → MatchOption r (x ≡ None) (λ found. (found.now ≡ x) × IsTrue (is_some found.now)) → archive_or_none (option_copied r) ≡ x
 at_found None x e = sym e
-at_found (Some c) x e = e
+at_found (Some c) x e = e.0
 
 -- ---- an earlier mark
 

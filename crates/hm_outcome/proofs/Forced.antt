@@ -15,15 +15,12 @@ use Rattle.hm_schema.specs.Values.{Names, NodeValue, SchemaValue, node_of}
 use Rattle.hm_schema.specs.Permitted.{Permits}
 use Rattle.hm_schema.specs.Membership.{down, HasNames, IsMember}
 use Rattle.hm_schema.proofs.NamesOf.{same_names, bools}
-use Rattle.hm_outcome.specs.Trios.{Trio, views, AreMembers}
+use Rattle.hm_outcome.specs.Trios.{Trio, views, turned, AreMembers}
 use Rattle.hm_outcome.specs.Carried.{IsCarried, on_both, clashing, kept, brought, AreCarried}
 use Rattle.hm_outcome.specs.Contested.{AreRefused, IsContested, earlier, lost, refused}
 use Rattle.hm_outcome.proofs.Marks.{agree_same, agree_of, agrees, is_marked_or_not, state_above, state_reaches, topmost_below}
 
 -- ---- the two sides change places
-
-abbrev pub turned : Trio → Trio
-turned t = record { archive = t.archive; left = t.right; right = t.left }
 
 stop_turned : {A B C D : Type 0} → (A × B) ⊎ (C ⊎ D) → (B × A) ⊎ (D ⊎ C)
 stop_turned (inl both) = inl (both.1, both.0)

@@ -13,16 +13,17 @@ use Rattle.hm_tree.specs.States.{Path, state}
 use Rattle.hm_tree.proofs.States.{state_root, state_down, state_unmarked, state_marked, state-recorded}
 use Rattle.hm_safety.specs.Views.{View, Has, Lacks, Agree, both_present, both_missing}
 use Rattle.hm_safety.specs.Changes.{IsLost, Clash}
-use Rattle.hm_safety.specs.Safety.{IsTopmostMark, IsSafe}
+use Rattle.hm_safety.specs.Safety.{IsTopmostMark}
 use Rattle.hm_schema.specs.declared.node.NodeId.{NodeId}
 use Rattle.hm_schema.specs.Values.{Names, NodeValue, SchemaValue, node_of}
 use Rattle.hm_schema.specs.Permitted.{Permits}
 use Rattle.hm_schema.specs.Membership.{down, HasNames, IsMember}
 use Rattle.hm_schema.proofs.NamesOf.{same_names}
-use Rattle.hm_outcome.specs.Trios.{Trio, views, recorded_side, AreMembers}
+use Rattle.hm_outcome.specs.Trios.{Trio, views, turned, recorded_side, AreMembers}
 use Rattle.hm_outcome.specs.Carried.{IsCarried, on_both, clashing, kept, brought}
 use Rattle.hm_outcome.specs.Contested.{IsContested, earlier, lost, refused, IsTopmostContested}
 use Rattle.hm_outcome.specs.Outcomes.{IsOutcome}
+use Rattle.hm_outcome.proofs.Forced.{safe_turned}
 
 -- ---- states
 
@@ -102,35 +103,20 @@ not_root e = cc
 
 -- ---- left and right exchanged
 
-abbrev mirrored : Trio → Trio
-mirrored t = record { archive = t.archive; left = t.right; right = t.left }
-
 module _ (s : SchemaValue) (i : NodeId) where
-  mirrored_contested : (t : Trio) (p : Path) → IsContested s i (views t) p → IsContested s i (views (mirrored t)) p
-  mirrored_contested t p (earlier m d) = earlier m (d.0, λ a. d.1 (agree_back _ _ a))
-  mirrored_contested t p (lost h (inl l)) = lost h (inr l)
-  mirrored_contested t p (lost h (inr l)) = lost h (inl l)
-  mirrored_contested t p (refused r) = refused (record { has_left = r.has_right; has_right = r.has_left; unmarked = r.unmarked; are_left = r.are_right; are_right = r.are_left; node = r.node; is = r.is; refused = elim r.refused [ inl n ↦ inr n | inr n ↦ inl n ] })
+  contested_turned : (t : Trio) (p : Path) → IsContested s i (views t) p → IsContested s i (views (turned t)) p
+  contested_turned t p (earlier m d) = earlier m (d.0, λ a. d.1 (agree_back _ _ a))
+  contested_turned t p (lost h (inl l)) = lost h (inr l)
+  contested_turned t p (lost h (inr l)) = lost h (inl l)
+  contested_turned t p (refused r) = refused (record { has_left = r.has_right; has_right = r.has_left; unmarked = r.unmarked; are_left = r.are_right; are_right = r.are_left; node = r.node; is = r.is; refused = elim r.refused [ inl n ↦ inr n | inr n ↦ inl n ] })
 
-  mirrored_topmost : (t : Trio) (p : Path) → IsTopmostContested s i (views t) p → IsTopmostContested s i (views (mirrored t)) p
-  mirrored_topmost t p top = record { contested = mirrored_contested t p top.contested; topmost = λ q r e n c. top.topmost q r e n (mirrored_contested (mirrored t) q c) }
+  topmost_turned : (t : Trio) (p : Path) → IsTopmostContested s i (views t) p → IsTopmostContested s i (views (turned t)) p
+  topmost_turned t p top = record { contested = contested_turned t p top.contested; topmost = λ q r e n c. top.topmost q r e n (contested_turned (turned t) q c) }
 
-  mirrored_safe : (before after : Trio) → IsSafe (views before) (views after) → IsSafe (views (mirrored before)) (views (mirrored after))
-  mirrored_safe before after h = record {
-    keeps_left = h.keeps_right;
-    keeps_right = h.keeps_left;
-    left_from_right = h.right_from_left;
-    right_from_left = h.left_from_right;
-    agrees_or_stops = λ p. elim (h.agrees_or_stops p) [ inl m ↦ inl m | inr e ↦ inr (e.1, e.0) ];
-    stop_leaves_left = h.stop_leaves_right;
-    stop_leaves_right = h.stop_leaves_left;
-    stops_at = λ p top. elim (h.stops_at p top) [ inl both ↦ inl (both.1, both.0) | inr (inl l) ↦ inr (inr l) | inr (inr l) ↦ inr (inl l) ];
-  }
-
-  mirrored_outcome : (before after : Trio) → IsOutcome s i before after → IsOutcome s i (mirrored before) (mirrored after)
-  mirrored_outcome before after h = record {
-    safe = record { safe = mirrored_safe before after h.safe.safe; members = record { left = h.safe.members.right; right = h.safe.members.left } };
-    marks = λ p. (λ m. mirrored_topmost before p ((h.marks p).0 m), λ c. (h.marks p).1 (mirrored_topmost (mirrored before) p c));
+  pub outcome_turned : (before after : Trio) → IsOutcome s i before after → IsOutcome s i (turned before) (turned after)
+  outcome_turned before after h = record {
+    safe = record { safe = safe_turned before after h.safe.safe; members = record { left = h.safe.members.right; right = h.safe.members.left } };
+    marks = λ p. (λ m. topmost_turned before p ((h.marks p).0 m), λ c. (h.marks p).1 (topmost_turned (turned before) p c));
   }
 
   -- without marks, and where nothing is contested, topmost marks stand where they have to
@@ -221,7 +207,7 @@ module _ (s : SchemaValue) (i : NodeId) where
   left_unchanged a b = settled_right (recorded_side a) a b (inr (λ p. subst (λ x. Agree x (state a p)) (sym (state-recorded_side a p)) (agrees _ (state_unmarked a p))))
 
   pub right_unchanged : (a b : Option Tree) → IsMember s i (state a) → IsOutcome s i (record { archive = recorded_side b; left = a; right = b }) (record { archive = recorded_side a; left = a; right = a })
-  right_unchanged a b m = mirrored_outcome _ _ (left_unchanged b a m)
+  right_unchanged a b m = outcome_turned _ _ (left_unchanged b a m)
 
   -- ---- one side is missing, and the other lies within the archive
 
@@ -259,9 +245,6 @@ module _ (s : SchemaValue) (i : NodeId) where
       where
         unmarked : Missing ≢ Marked
         unmarked e = cc
-
-  pub taken_out_right : (o : Archive) (b : Option Tree) → ((p : Path) → Has (state b) p → Has (state o) p) → IsOutcome s i (record { archive = o; left = None; right = b }) (record { archive = None; left = None; right = None })
-  taken_out_right o b within = mirrored_outcome _ _ (taken_out o b within)
 
   -- ---- a contested root
 

@@ -40,3 +40,7 @@ pub record AreMembers (s : SchemaValue) (i : NodeId) (v : Views) : Type 0 where
 pub record IsSafeUnder (s : SchemaValue) (i : NodeId) (before after : Views) : Type 0 where
   pub safe : IsSafe before after
   pub members : AreMembers s i after
+
+-- the same with its two sides exchanged
+abbrev pub turned : Trio → Trio
+turned t = record { archive = t.archive; left = t.right; right = t.left }

@@ -14,9 +14,9 @@ use Rattle.hm_schema.specs.Membership.{IsMember}
 use Rattle.hm_outcome.specs.Trios.{views}
 use Rattle.hm_outcome.specs.Contested.{IsContested, earlier, lost}
 use Rattle.hm_outcome.specs.Outcomes.{IsOutcome}
-use Rattle.hm_outcome.proofs.Settled.{has_and_lacks, left_unchanged, right_unchanged, stopped}
-use Rattle.hm_outcome.proofs.Search.{within_or_news, agree_has, has_agree}
-use Rattle.hm_reconcile.specs.Sides.{on_left, on_right, recorded_on_both}
+use Rattle.hm_outcome.proofs.Settled.{has_and_lacks, right_unchanged, stopped}
+use Rattle.hm_outcome.proofs.Search.{within_or_news, agree_has}
+use Rattle.hm_reconcile.specs.Sides.{on_left, recorded_on_both}
 
 missing_none : (o : Archive) → state o [] ≡ Missing → o ≡ None
 missing_none None e = refl
@@ -39,9 +39,6 @@ module _ (s : SchemaValue) (i : NodeId) (o : Archive) (t : Tree) where
     pub left_taken : IsOutcome s i (on_left o t) (recorded_on_both t)
     left_taken = rw (missing_none o unknown) (right_unchanged s i (Some t) None member)
 
-    pub right_taken : IsOutcome s i (on_right o t) (recorded_on_both t)
-    right_taken = rw (missing_none o unknown) (left_unchanged s i None (Some t) member)
-
   -- where the archive knows it, and it isn't within the archive, it is contested
   module _ (known : state o [] ≢ Missing) (apart : ¬ (IsWithin (Some t) o)) where
     lost_here : IsLost (state o) (state (Some t)) (state {m = false} None) []
@@ -52,14 +49,6 @@ module _ (s : SchemaValue) (i : NodeId) (o : Archive) (t : Tree) where
     left_contested Present e = lost e (inl lost_here)
     left_contested Marked e = earlier e ([], λ a. has_and_lacks (agree_has a (state_root t)) refl)
 
-    right_contested : (r : State) → state o [] ≡ r → IsContested s i (views (on_right o t)) []
-    right_contested Missing e = absurd (known e)
-    right_contested Present e = lost e (inr lost_here)
-    right_contested Marked e = earlier e ([], λ a. has_and_lacks (has_agree a (state_root t)) refl)
-
     module _ (member : IsMember s i (state (Some t))) where
       pub left_stopped : IsOutcome s i (on_left o t) (on_left (Some marked) t)
       left_stopped = stopped s i (on_left o t) (left_contested (state o []) refl) (record { left = member; right = missing_member s i })
-
-      pub right_stopped : IsOutcome s i (on_right o t) (on_right (Some marked) t)
-      right_stopped = stopped s i (on_right o t) (right_contested (state o []) refl) (record { left = missing_member s i; right = member })

@@ -21,10 +21,10 @@ use Rattle.hm_schema.specs.Values.{NodeValue, SchemaValue, node_at, child_at}
 use Rattle.hm_schema.specs.Permitted.{Permits, PermitsAt, names_of}
 use Rattle.hm_schema.specs.Membership.{down, HasNames, IsMember, HasNoTwins}
 use Rattle.hm_schema.proofs.NamesOf.{tie_one, names_of-below}
-use Rattle.hm_outcome.specs.Trios.{Trio, given, views, AreMembers}
+use Rattle.hm_outcome.specs.Trios.{Trio, given, views, turned, AreMembers}
 use Rattle.hm_outcome.specs.Carried.{IsCarried, on_both, clashing, kept, brought, AreCarried}
 use Rattle.hm_outcome.specs.Outcomes.{IsOutcome}
-use Rattle.hm_outcome.proofs.Forced.{turned, safe_turned, has_carried, carried_has}
+use Rattle.hm_outcome.proofs.Forced.{safe_turned, has_carried, carried_has}
 use Rattle.hm_outcome.proofs.Settled.{chained, equal_sides}
 use Rattle.hm_outcome.proofs.Downward.{child, views_below, views_child, carried_below, TakesNames, downward}
 use Rattle.hm_reconcile.specs.Walking.{IsInEither}

@@ -1,5 +1,6 @@
 //! What becomes of a subtree that one side alone has.
 ghost use Rattle.std.specs.Prelude.{◌≡◌, IfOk};
+ghost use Rattle.hm_outcome.specs.Trios.{turned};
 ghost use Rattle.hm_reconcile.specs.Sides.{sides_of, on_left, on_right, recorded_on_both, on_neither, Settles};
 ghost use Rattle.hm_reconcile.specs.Fates.{HasFate};
 ghost use Rattle.hm_reconcile.specs.Gathering.{outcome_of};
@@ -30,6 +31,19 @@ impl Sides {
             left: Some(made.left),
             right: Some(made.right),
             held: made.held,
+        }
+    }
+
+    /// The same with its two sides exchanged.
+    fn turned(self) -> Sides
+        ensures outcome { sides_of result ≡ turned (sides_of self) }
+        ensures held { result.held ≡ self.held }
+    {
+        Sides {
+            archive: self.archive,
+            left: self.right,
+            right: self.left,
+            held: self.held,
         }
     }
 }
@@ -79,16 +93,7 @@ pub fn right_alone(alloc: Global, archive: Archive, tree: Tree) -> Result<Sides,
     ensures outcome { IfOk result (λ r. Settles tree (on_right archive tree) (sides_of r)) }
     ensures held { IfOk result (λ r. Holds archive r.archive r.held) }
 {
-    match fate_of(&archive, &tree) {
-        Fate::Carried => on_both(alloc, tree),
-        Fate::Dropped => Ok(nowhere(alloc)),
-        Fate::Contested => Ok(Sides {
-            archive: Archive::marked(alloc),
-            left: None,
-            right: Some(tree),
-            held: archive,
-        }),
-    }
+    Ok(left_alone(alloc, archive, tree)?.turned())
 }
 
 // A tree on both sides, and in the archive.

@@ -1,5 +1,5 @@
 -- What stands at a path.
-use Rattle.std.proofs.Common.{◌≡◌, ◌≢◌, ℕ, suc, ◌+◌, ◌<◌, ◌≤◌, add-one, drop-cons, length, drop, get_or, append-nil, Bool, true, false, cond, [], ◌∷◌, ◌++◌, Option, Some, None, refl, sym, ap, ◌∙◌}
+use Rattle.std.proofs.Common.{◌≡◌, ◌≢◌, ℕ, suc, ◌+◌, ◌<◌, ◌≤◌, add-one, drop-cons, length, drop, get_or, append-nil, Bool, true, false, cond, [], ◌∷◌, ◌++◌, Option, Some, None, IsTrue, is_some, refl, sym, ap, ◌∙◌}
 use Rattle.std.proofs.lemmas.List.{drop_all}
 use Rattle.hm_tree.specs.declared.archive.State.TheVariants.{Missing, Present, Marked}
 use Rattle.hm_tree.specs.Names.{Name}
@@ -64,6 +64,19 @@ archive_down (Some t) p i k lt e n = ap (at_path (Some t)) (front_is p i k lt e)
 
 pub archive_off : (o : Archive) (p : Path) (i : ℕ) (k : Name) → i < length p → k ≡ get_or p i k → state o [] ≢ Marked → under k o ≡ None → at_path o (drop i p) ≡ None
 archive_off o p i k lt e n gone = archive_down o p i k lt e n ∙ ap (λ a. at_path a (drop (i + 1) p)) gone ∙ nothing_below (drop (i + 1) p)
+
+-- nothing stands at any path of a missing archive, and else something stands at the root
+pub archive_gone : (o : Archive) (p : Path) → state o [] ≡ Missing → at_path o p ≡ None
+archive_gone None p m = nothing_below p
+archive_gone (Some t) p m = absurd (go (is_marked t) m)
+  where
+    go : (b : Bool) → cond b Marked Present ≡ Missing → ⊥
+    go true m = let f : ⊥ = cc in f
+    go false m = let f : ⊥ = cc in f
+
+pub archive_there : (o : Archive) → state o [] ≢ Missing → IsTrue (is_some o)
+archive_there None n = absurd (n refl)
+archive_there (Some t) n = refl
 
 pub ruleset archive_steps = (archive_mark, archive_off, at_end)
 

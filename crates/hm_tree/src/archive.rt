@@ -1,11 +1,12 @@
 //! Archives.
 #![tactic(auto, using(crate::proofs::Kept::seen))]
 
-ghost use Rattle.std.specs.Prelude.{◌≡◌, ◌↔◌, IsTrue, T, ◌<◌, length, OnOk, OnErr, IfOk, [], Some, None, is_some, slice_get, MatchOption};
+ghost use Rattle.std.specs.Prelude.{◌≡◌, ◌↔◌, IsTrue, T, ◌<◌, ◌+◌, length, OnOk, OnErr, IfOk, [], Some, None, is_some, slice_get, MatchOption};
 ghost use Rattle.std.specs.FinMap.{is_sorted};
 ghost use Rattle.hm_tree.specs.Names.{name_cmp};
 ghost use Rattle.hm_tree.specs.Nodes.{node, marked, empty};
 ghost use Rattle.hm_tree.specs.Archives.{recorded, under, with_archive, edges_here, there, is_there};
+ghost use Rattle.hm_tree.specs.Edges.{rank};
 ghost use Rattle.hm_tree.specs.States.{state, at_path};
 ghost use Rattle.hm_tree.specs.declared.archive.State.TheVariants.{Present};
 
@@ -146,7 +147,7 @@ impl Archive {
 
     /// The same, looked for at a place first, and the place behind it.
     pub fn child_near(&self, name: &Name, near: usize) -> Option<(&Archive, usize)>
-        ensures { MatchOption result (under name.now self.now ≡ None) (λ found. found.0.now ≡ under name.now self.now) }
+        ensures { MatchOption result (under name.now self.now ≡ None) (λ found. (found.0.now ≡ under name.now self.now) × IsTrue (is_some found.0.now) × (found.1 ≡ rank name.now (edges_here self.now) + 1)) }
     {
         match place_near(&self.edges, name, near) {
             Ok(at) => Some((&self.edges[at].1, at + 1)),
@@ -157,8 +158,11 @@ impl Archive {
     /// The archive at a path; none where nothing stands there. A mark stands at each path below it.
     #[tactic(auto, using(crate::proofs::Paths::archive_steps))]
     pub fn at(&self, path: &Path) -> Option<&Archive>
-        ensures { MatchOption result (at_path self.now path.now ≡ None) (λ found. found.now ≡ at_path self.now path.now) }
+        ensures { MatchOption result (at_path self.now path.now ≡ None) (λ found. (found.now ≡ at_path self.now path.now) × IsTrue (is_some found.now)) }
     {
+        if let State::Missing = self.root {
+            return None;
+        }
         let mut here = self;
         for name in &path.names {
             if let State::Marked = here.root() {

@@ -1,26 +1,14 @@
-use Rattle.std.proofs.Common.{◌≡◌, Some, refl, ap}
-use Rattle.std.proofs.lemmas.Result.{IfOk-weaker}
+use Rattle.std.proofs.Common.{subst, sym, ap}
+use Rattle.hm_tree.specs.Archives.{Archive}
 use Rattle.hm_outcome.specs.Trios.{Trio}
-use Rattle.hm_outcome.proofs.Settled.{taken_out_right}
-use Rattle.hm_reconcile.specs.Sides.{sides_of, on_right, recorded_on_both, Settles}
-use Rattle.hm_reconcile.proofs.Alone.{right_taken, right_stopped}
-use Rattle.hm_reconcile.proofs.Held.{holds_taken, holds_missing, holds_all}
+use Rattle.hm_outcome.specs.Outcomes.{IsOutcome}
+use Rattle.hm_outcome.proofs.Settled.{outcome_turned}
+use Rattle.hm_reconcile.specs.Holding.{Holds}
+use Rattle.hm_reconcile.specs.Sides.{sides_of, on_left, on_right}
 use Rattle.hm_reconcile.proofs.side.right_alone.Goals as goal
 
-pub returns-in-Carried : goal.returns-in-Carried
-returns-in-Carried c = record {
-  outcome = IfOk-weaker _ (λ r. sides_of r ≡ recorded_on_both c.args.tree) (λ r. Settles c.args.tree (on_right c.args.archive c.args.tree) (sides_of r)) (λ r e s i m. rw e (right_taken s i c.args.archive c.args.tree c.in-Carried.ensures m)) c.on_both.ensures;
-  held = holds_taken c.args.archive c.args.tree c.on_both.result c.on_both.ensures;
-}
-
-pub returns-in-Dropped : goal.returns-in-Dropped
-returns-in-Dropped c = record {
-  outcome = λ s i m. rw c.nowhere.ensures (taken_out_right s i c.args.archive (Some c.args.tree) c.in-Dropped.ensures);
-  held = holds_missing c.args.archive c.nowhere.result.archive c.nowhere.result.held (ap (λ (x : Trio). x.archive) c.nowhere.ensures);
-}
-
-pub returns-in-Contested : goal.returns-in-Contested
-returns-in-Contested c = record {
-  outcome = λ s i m. rw c.marked.ensures (right_stopped s i c.args.archive c.args.tree c.in-Contested.ensures.0 c.in-Contested.ensures.1 m);
-  held = holds_all c.args.archive c.marked.result c.args.archive refl;
+pub returns : goal.returns
+returns c = record {
+  outcome = λ s i member. subst (IsOutcome s i (on_right c.args.archive c.args.tree)) (sym c.turned.ensures.outcome) (outcome_turned s i (on_left c.args.archive c.args.tree) (sides_of c.in_ok-left_alone.field-0) (c.in_ok-left_alone.ensures.outcome s i member));
+  held = subst (λ (z : Archive × Archive). Holds c.args.archive z.0 z.1) (λ j. (sym (ap (λ (x : Trio). x.archive) c.turned.ensures.outcome) j, sym c.turned.ensures.held j)) c.in_ok-left_alone.ensures.held;
 }

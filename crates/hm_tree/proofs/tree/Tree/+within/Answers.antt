@@ -21,14 +21,14 @@ pub returns-then-not-within : goal.returns-then-not-within
 returns-then-not-within t c = (
   λ f. absurd (false≢true f),
   λ all. let here = within_edge c.args.self.now c.args.archive.now c.loop-place.place c.edge.result.0.now c.edge.result.1.now c.edge.ensures all in
-      let yes = c.within.ensures.1 (subst (λ (a : Archive). IsWithin (Some c.edge.result.1.now) a) (sym c.in-Some.ensures) here) in
+      let yes = c.within.ensures.1 (subst (λ (a : Archive). IsWithin (Some c.edge.result.1.now) a) (sym c.in-Some.ensures.0) here) in
       search rules,
 )
 
 pub loop-place-preserved : goal.loop-place-preserved
 loop-place-preserved t c =
     let yes = c.within.ensures.0 (search rules) in
-    within_more c.args.self.now c.args.archive.now c.loop-place.place c.edge.result.0.now c.edge.result.1.now c.edge.ensures c.loop-place.invariant (subst (λ (a : Archive). IsWithin (Some c.edge.result.1.now) a) c.in-Some.ensures yes)
+    within_more c.args.self.now c.args.archive.now c.loop-place.place c.edge.result.0.now c.edge.result.1.now c.edge.ensures c.loop-place.invariant (subst (λ (a : Archive). IsWithin (Some c.edge.result.1.now) a) c.in-Some.ensures.0 yes)
 
 pub returns : goal.returns
 returns t c =
