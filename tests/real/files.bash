@@ -70,6 +70,18 @@ archive_linked_to_nothing() {
     finish
 }
 
+# A device isn't replaced. As an archive it reads as one that isn't there, and only its own replacing fails.
+device_as_archive() {
+    begin 'a device as archive'
+    files absent "$NEW" "$OTHER" absent "$BOTH" "$BOTH"
+    ln -s /dev/null archive
+    ln -s /dev/null ../want/archive
+    sync
+    [[ -c /dev/null ]] || fault '/dev/null was replaced'
+    ends 4 'harmony: WriteFault archive'
+    finish
+}
+
 # What a run that was broken off left behind is in nobody's way, lends its mode to no file, and is gone afterwards.
 # No run writes the schema, so what has a name like this beside it is somebody else's.
 left_behind() {
@@ -113,5 +125,6 @@ linked archive
 linked A
 linked B
 archive_linked_to_nothing
+device_as_archive
 left_behind
 link_left_behind

@@ -18,7 +18,8 @@ const PIECE: usize = 65536;
 ///
 /// `load` reads at most one byte past the limit. A folder, as any other thing that cannot be read, is a
 /// failed call, and only what is not there is absent. `replace` fills NAME.harmony-new, which has the mode
-/// of the file that it replaces before it has any byte, flushes it to the disk and renames it to NAME.
+/// of the file that it replaces before it has any byte, flushes it to the disk and renames it to NAME. What
+/// is there and is no file, as a device, is not replaced: the call fails.
 /// What stood there under NAME.harmony-new is overwritten, and a call that fails removes the new file if it
 /// can.
 #[derive(Drop)]
@@ -120,10 +121,17 @@ fn read_all<F: Read + Drop>(alloc: Global, mut file: F, buffer: &mut [u8], limit
     Loaded::Failed
 }
 
-// The permissions of a file, or none where there is no file.
+// The permissions of a file, or none where there is no file. What is there and is no file, as a device, isn't to be
+// replaced by one.
 fn permissions_of<R: Files>(rt: &R, name: &str) -> io::Result<Option<Permissions>> {
     match fs::metadata(rt, name) {
-        Ok(metadata) => Ok(Some(metadata.permissions())),
+        Ok(metadata) => {
+            if metadata.is_file() {
+                Ok(Some(metadata.permissions()))
+            } else {
+                Err(ErrorKind::InvalidInput.into())
+            }
+        }
         Err(error) => {
             if error.kind() == ErrorKind::NotFound {
                 Ok(None)

@@ -1,5 +1,5 @@
 //! What a store and a sink answer, and what is known of them then.
-ghost use Rattle.std.specs.Prelude.{◌≡◌, ◌<◌, ◌≤◌, List, ℕ, Option, IfSome};
+ghost use Rattle.std.specs.Prelude.{◌≡◌, ◌≢◌, ◌<◌, ◌≤◌, List, ℕ, Option, IfSome};
 ghost use Rattle.hm_outside.specs.declared.outside.Kind.TheVariants.{Load, Replace};
 ghost use Rattle.hm_outside.specs.declared.outside.Failure.{Failure as FailureOf};
 ghost use Rattle.hm_outside.specs.Contents.{Contents, held};
@@ -76,6 +76,7 @@ pub trait Store {
         ensures contents { contents self.new ≡ contents self.old }
         ensures failed { Extends (failed self.old) (failed self.new) }
         ensures cause { result ≡ Loaded.Failed → HasRisen Load name.now (failed self.old) (failed self.new) }
+        ensures calm { result ≢ Loaded.Failed → failed self.new ≡ failed self.old }
         ensures within { IsWithin limit result }
         ensures told { IfSome (contents self.old) (λ old. LoadsFrom (held old name.now) limit result) };
 
@@ -83,6 +84,7 @@ pub trait Store {
     fn replace(&mut self, name: &Name, bytes: &[u8]) -> Stored
         ensures failed { Extends (failed self.old) (failed self.new) }
         ensures cause { result ≡ Stored.Failed → HasRisen Replace name.now (failed self.old) (failed self.new) }
+        ensures calm { result ≢ Stored.Failed → failed self.new ≡ failed self.old }
         ensures told { IfSome (contents self.old) (λ old. ReplacesIn old name.now bytes.now result (contents self.new)) };
 }
 
@@ -98,5 +100,6 @@ pub trait Sink {
     fn put(&mut self, piece: &[u8]) -> Put
         ensures faults { faults self.old ≤ faults self.new }
         ensures cause { result ≡ Put.Failed → faults self.old < faults self.new }
+        ensures calm { result ≢ Put.Failed → faults self.new ≡ faults self.old }
         ensures told { IfSome (written self.old) (λ old. PutsAfter old piece.now result (written self.new)) };
 }

@@ -1,5 +1,5 @@
 -- What a load finds.
-use Rattle.std.proofs.Common.{◌≡◌, ℕ, ◌<◌, ◌≤◌, List, [], length, Vec, Option, Some, None, Result, Ok, Err, subst, sym}
+use Rattle.std.proofs.Common.{◌≡◌, ◌≢◌, ◌∙◌, ℕ, ◌<◌, ◌≤◌, List, [], length, Vec, Option, Some, None, Result, Ok, Err, subst, sym}
 use Rattle.std.specs.Option.{IsSomeAnd}
 use Rattle.std.specs.declared.alloc.Global.{Global}
 use Rattle.hm_command.specs.declared.ending.Slot.{Slot}
@@ -8,6 +8,7 @@ use Rattle.hm_command.specs.declared.ending.Refusal.TheVariants.{Missing, TooLar
 use Rattle.hm_command.specs.declared.ending.Slot.TheVariants.{Schema, Archive, Left, Right}
 use Rattle.hm_command.specs.Words.{FileNames, name_of}
 use Rattle.hm_outside.specs.declared.outside.Kind.{Kind}
+use Rattle.hm_outside.specs.declared.outside.Kind.TheVariants.{Replace}
 use Rattle.hm_outside.specs.declared.outside.Failure.{Failure}
 use Rattle.hm_outside.specs.Failures.{Extends, HasRisen}
 use Rattle.hm_outside.proofs.Risen.{risen_since}
@@ -27,6 +28,19 @@ finds_absent at there r is h = subst (λ o. Follows bytes_of r (Loads at o)) (sy
 -- a call that has failed for a slot has failed for the name of that slot
 pub risen_at : (kind : Kind) (files : FileNames) (at slot : Slot) {old mid new : List Failure} → Extends old mid → (slot ≡ at) × HasRisen kind (name_of files at) mid new → HasRisen kind (name_of files slot) old new
 risen_at kind files at slot {old} {mid} {new} more h = subst (λ s. HasRisen kind (name_of files s) old new) (sym h.0) (risen_since more h.1)
+
+-- the same of a file that is written
+pub written_at : (files : FileNames) (at slot : Slot) {old mid new : List Failure} → at ≢ Schema → Extends old mid → (slot ≡ at) × HasRisen Replace (name_of files at) mid new → (slot ≢ Schema) × HasRisen Replace (name_of files slot) old new
+written_at files at slot n more h = ((λ e. n (sym h.0 ∙ e)), risen_at Replace files at slot more h)
+
+pub left_written : Left ≢ Schema
+left_written e = let no : ⊥ = cc in no
+
+pub right_written : Right ≢ Schema
+right_written e = let no : ⊥ = cc in no
+
+pub archive_written : Archive ≢ Schema
+archive_written e = let no : ⊥ = cc in no
 
 pub absent_archive : (at : Slot) (bytes : List ℕ) → at ≡ Archive → bytes ≡ [] → Loads at None (Ok bytes)
 absent_archive at bytes is none = subst (λ (z : Slot × List ℕ). Loads z.0 None (Ok z.1)) (λ i. (sym is i, sym none i)) no_archive

@@ -158,7 +158,7 @@ module _ (words : List Name) (c : Contents) where
     refused = λ other k. inr (ap refusal_status (same_refusal refusal other leaves.first k), leaves.same);
   }
   complete_by (Stopped (ReadFault slot)) before after cause leaves f s = absurd (not_risen f cause.risen)
-  complete_by (Stopped (WriteFault slot)) before after cause leaves f s = absurd (not_risen f cause.risen)
+  complete_by (Stopped (WriteFault slot)) before after cause leaves f s = absurd (not_risen f cause.1.risen)
   complete_by (Stopped Memory) before after cause leaves f s = record { carried_out = λ plan k. inl refl; refused = λ other k. inl refl }
   complete_by (PutFault report) before after cause leaves f s = absurd (omega (arith, cause.1, s))
   complete_by (Done report) before after cause leaves f s = record {

@@ -1,5 +1,5 @@
 -- Where the work of a run stops.
-use Rattle.std.proofs.Common.{◌≡◌, inl, inr, ⊎_elim, Bool, true, false, ℕ, ◌+◌, List, [], ◌∷◌, length, Option, Some, None, Result, Ok, Err, refl, sym, ◌∙◌, ap, subst}
+use Rattle.std.proofs.Common.{◌≡◌, ◌≢◌, inl, inr, ⊎_elim, Bool, true, false, ℕ, ◌+◌, List, [], ◌∷◌, length, Option, Some, None, Result, Ok, Err, refl, sym, ◌∙◌, ap, subst}
 use Rattle.std.specs.Prelude.{if◌then◌else◌}
 use Rattle.hm_tree.specs.Names.{Name}
 use Rattle.hm_outside.specs.Contents.{Contents}
@@ -8,7 +8,7 @@ use Rattle.hm_outside.specs.declared.outside.Failure.{Failure}
 use Rattle.hm_outside.specs.declared.outside.Kind.TheVariants.{Load, Replace}
 use Rattle.hm_outside.proofs.Risen.{risen_since}
 use Rattle.hm_command.specs.declared.ending.Slot.{Slot}
-use Rattle.hm_command.specs.declared.ending.Slot.TheVariants.{Archive, Left, Right}
+use Rattle.hm_command.specs.declared.ending.Slot.TheVariants.{Schema as SchemaSlot, Archive, Left, Right}
 use Rattle.hm_command.specs.declared.ending.Refusal.{Refusal}
 use Rattle.hm_command.specs.declared.ending.Refusal.TheVariants.{Usage, SameName, Missing, TooLarge, BadSchema, BadArchive, BadReplica, Overgrown}
 use Rattle.hm_command.specs.declared.ending.Stop.{Stop}
@@ -181,13 +181,13 @@ measures_cause words files new refusal before after r is meant h =
 
 -- ---- the writes
 
-writes_cause_by : (A : Type 0) (words : List Name) (files : FileNames) (before mid after : List Failure) (stop : Stop) → meaning words ≡ Ok files → Extends before mid → StopsWriting {A = A} (λ at. HasRisen Replace (name_of files at) mid after) (Err stop) → HasStopCause {A = Report} words before after (Err stop)
+writes_cause_by : (A : Type 0) (words : List Name) (files : FileNames) (before mid after : List Failure) (stop : Stop) → meaning words ≡ Ok files → Extends before mid → StopsWriting {A = A} (λ at. (at ≢ SchemaSlot) × HasRisen Replace (name_of files at) mid after) (Err stop) → HasStopCause {A = Report} words before after (Err stop)
 writes_cause_by A words files before mid after (Refused refusal) meant more h = absurd h
 writes_cause_by A words files before mid after (ReadFault slot) meant more h = absurd h
-writes_cause_by A words files before mid after (WriteFault slot) meant more h = record { files = files; meant = meant; risen = risen_since more h }
+writes_cause_by A words files before mid after (WriteFault slot) meant more h = (h.0, record { files = files; meant = meant; risen = risen_since more h.1 })
 writes_cause_by A words files before mid after Memory meant more h = tt
 
-pub writes_cause : (A : Type 0) (words : List Name) (files : FileNames) (before mid after : List Failure) (stop : Stop) (r : Result Report Stop) → r ≡ Err stop → meaning words ≡ Ok files → Extends before mid → StopsWriting {A = A} (λ at. HasRisen Replace (name_of files at) mid after) (Err stop) → HasStopCause words before after r
+pub writes_cause : (A : Type 0) (words : List Name) (files : FileNames) (before mid after : List Failure) (stop : Stop) (r : Result Report Stop) → r ≡ Err stop → meaning words ≡ Ok files → Extends before mid → StopsWriting {A = A} (λ at. (at ≢ SchemaSlot) × HasRisen Replace (name_of files at) mid after) (Err stop) → HasStopCause words before after r
 writes_cause A words files before mid after stop r is meant more h =
     let R : Result Report Stop → Type 0 = λ s. HasStopCause words before after s in
     subst R (sym is) (writes_cause_by A words files before mid after stop meant more h)

@@ -1,5 +1,5 @@
 -- What a run does before it puts its output: why it stopped, and what it left.
-use Rattle.std.specs.Prelude.{◌≡◌, ◌⊎◌, ℕ, ◌+◌, List, Option, Some, Result, Ok, Err}
+use Rattle.std.specs.Prelude.{◌≡◌, ◌≢◌, ◌⊎◌, ℕ, ◌+◌, List, Option, Some, Result, Ok, Err}
 use Rattle.hm_tree.specs.Names.{Name}
 use Rattle.hm_outside.specs.Contents.{Contents}
 use Rattle.hm_outside.specs.Failures.{HasRisen}
@@ -7,6 +7,7 @@ use Rattle.hm_outside.specs.declared.outside.Failure.{Failure}
 use Rattle.hm_outside.specs.declared.outside.Kind.{Kind}
 use Rattle.hm_outside.specs.declared.outside.Kind.TheVariants.{Load, Replace}
 use Rattle.hm_command.specs.declared.ending.Slot.{Slot}
+use Rattle.hm_command.specs.declared.ending.Slot.TheVariants.{Schema}
 use Rattle.hm_command.specs.declared.ending.Refusal.{Refusal}
 use Rattle.hm_command.specs.declared.ending.Refusal.TheVariants.{Usage, SameName, Missing, TooLarge, BadSchema, BadArchive, BadReplica, Overgrown}
 use Rattle.hm_command.specs.declared.ending.Stop.{Stop}
@@ -38,12 +39,12 @@ IsMeant words (BadArchive fault) = HasMeaning words
 IsMeant words (BadReplica slot fault) = HasMeaning words
 IsMeant words (Overgrown slot size) = HasMeaning words
 
--- what is known of a stop and of an end, whatever the store tells
+-- what is known of a stop and of an end, whatever the store tells; the schema is never written
 abbrev pub HasStopCause : {A : Type 0} → List Name → List Failure → List Failure → Result A Stop → Type 0
 HasStopCause words before after (Ok x) = HasMeaning words
 HasStopCause words before after (Err (Refused refusal)) = IsMeant words refusal
 HasStopCause words before after (Err (ReadFault slot)) = HasFailed Load slot words before after
-HasStopCause words before after (Err (WriteFault slot)) = HasFailed Replace slot words before after
+HasStopCause words before after (Err (WriteFault slot)) = (slot ≢ Schema) × HasFailed Replace slot words before after
 HasStopCause words before after (Err Memory) = Unit {0}
 
 -- the store has the plan of these contents carried out as far as its first n files

@@ -1,5 +1,5 @@
 -- How a run ends: the cause, what it leaves in the store, and what it puts out.
-use Rattle.std.specs.Prelude.{◌≡◌, ◌⊎◌, ℕ, ◌<◌, ◌≤◌, List, ◌++◌, length, take, Option, Some, Result, Ok, Err}
+use Rattle.std.specs.Prelude.{◌≡◌, ◌≢◌, ◌⊎◌, ℕ, ◌<◌, ◌≤◌, List, ◌++◌, length, take, Option, Some, Result, Ok, Err}
 use Rattle.hm_tree.specs.Names.{Name}
 use Rattle.hm_outside.specs.Contents.{Contents}
 use Rattle.hm_outside.specs.Failures.{Extends}
@@ -36,6 +36,16 @@ HasCause (Stopped stop) words before after = HasStopCause {A = Report} words bef
 HasCause (PutFault report) words before after = HasMeaning words × (before.faults < after.faults)
 HasCause (Done report) words before after = HasMeaning words
 
+-- where no fault is told, no call has failed: for want of memory a fault of the store may be left untold, and a refusal
+-- stays one where the sink has failed
+abbrev pub TellsFaults : Ending → Outside → Outside → Type 0
+TellsFaults (Stopped (Refused refusal)) before after = after.failed ≡ before.failed
+TellsFaults (Stopped (ReadFault slot)) before after = Unit {0}
+TellsFaults (Stopped (WriteFault slot)) before after = Unit {0}
+TellsFaults (Stopped Memory) before after = after.faults ≡ before.faults
+TellsFaults (PutFault report) before after = after.failed ≡ before.failed
+TellsFaults (Done report) before after = (after.failed ≡ before.failed) × (after.faults ≡ before.faults)
+
 -- the contents that it leaves
 abbrev pub Leaves : Ending → List Name → Contents → Option Contents → Type 0
 Leaves (Stopped stop) words c left = Synchronises words c (Err stop) left
@@ -64,6 +74,7 @@ pub record EndsAs (ending : Ending) (words : List Name) (before after : Outside)
   pub cause : HasCause ending words before after
   pub contents : WhereTold before.contents (λ c. Leaves ending words c after.contents)
   pub written : WhereTold before.written (λ w. Puts ending w before.faults after.faults after.written)
+  pub faults_told : TellsFaults ending before after
   pub failed : Extends before.failed after.failed
   pub faults : before.faults ≤ after.faults
 
@@ -80,9 +91,9 @@ after_fault (PutFault report) = PutFault report
 after_fault (Stopped stop) = Stopped stop
 
 pub data Finishes (given : Ending) (before after : ℕ) (ending : Ending) : Type 0 where
-  said : ending ≡ given → Finishes given before after ending
-  failed : before < after → ending ≡ after_fault given → Finishes given before after ending
-  no_memory : ending ≡ Stopped Memory → Finishes given before after ending
+  said : after ≡ before → ending ≡ given → Finishes given before after ending
+  failed : given ≢ Stopped Memory → before < after → ending ≡ after_fault given → Finishes given before after ending
+  no_memory : after ≡ before → ending ≡ Stopped Memory → Finishes given before after ending
 
 -- ---- what a user relies on
 

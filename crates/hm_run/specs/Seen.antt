@@ -1,6 +1,7 @@
 -- What the steps of the code answer, against what they are to find.
 use Rattle.std.specs.Prelude.{◌≡◌, ℕ, List, Option, Some, Vec, Result, Ok, Err}
 use Rattle.std.specs.declared.alloc.Global.{Global}
+use Rattle.hm_outside.specs.declared.outside.Failure.{Failure}
 use Rattle.hm_command.specs.declared.ending.Slot.{Slot}
 use Rattle.hm_command.specs.declared.ending.Refusal.{Refusal}
 use Rattle.hm_command.specs.declared.ending.Refusal.TheVariants.{Usage, SameName, Missing, TooLarge, BadSchema, BadArchive, BadReplica, Overgrown}
@@ -56,6 +57,14 @@ StopsReading cause (Err (Refused refusal)) = IsOfFiles refusal
 StopsReading cause (Err (ReadFault slot)) = cause slot
 StopsReading cause (Err (WriteFault slot)) = ⊥
 StopsReading cause (Err Memory) = Unit {0}
+
+-- where no fault of the store is told, no call has failed
+abbrev pub IsCalm : {A : Type 0} → Result A Stop → List Failure → List Failure → Type 0
+IsCalm (Ok x) before after = after ≡ before
+IsCalm (Err (Refused refusal)) before after = after ≡ before
+IsCalm (Err (ReadFault slot)) before after = Unit {0}
+IsCalm (Err (WriteFault slot)) before after = Unit {0}
+IsCalm (Err Memory) before after = after ≡ before
 
 -- no fault of the store
 abbrev pub StopsInMemory : {A : Type 0} → Result A Stop → Type 0

@@ -6,7 +6,7 @@ ghost use Rattle.hm_outside.specs.declared.outside.Kind.TheVariants.{Load};
 ghost use Rattle.hm_command.specs.Words.{name_of};
 ghost use Rattle.hm_command.specs.Files.{names};
 ghost use Rattle.hm_run.specs.Verdict.{Loads as Finds, LoadsAll};
-ghost use Rattle.hm_run.specs.Seen.{bytes_of, loads_of, WhereTold, Follows, StopsReading, StopsInMemory};
+ghost use Rattle.hm_run.specs.Seen.{bytes_of, loads_of, WhereTold, Follows, IsCalm, StopsReading, StopsInMemory};
 
 use hm_command::{Files, Refusal, Slot, Stop};
 use hm_outside::{Loaded, Store};
@@ -47,6 +47,7 @@ fn load_one<S: Store>(
 ) -> Result<Vec<u8>, Stop>
     ensures contents { S.contents store.new ≡ S.contents store.old }
     ensures failed { Extends (S.failed store.old) (S.failed store.new) }
+    ensures calm { IsCalm result (S.failed store.old) (S.failed store.new) }
     ensures cause { StopsReading (λ at. (at ≡ slot) × HasRisen Load name.now (S.failed store.old) (S.failed store.new)) result }
     ensures told { WhereTold (S.contents store.old) (λ c. Follows bytes_of result (Finds slot (held c name.now))) }
 {
@@ -63,6 +64,7 @@ fn load_one<S: Store>(
 pub fn load_all<S: Store>(alloc: Global, store: &mut S, files: Files<'_>) -> Result<Loads, Stop>
     ensures contents { S.contents store.new ≡ S.contents store.old }
     ensures failed { Extends (S.failed store.old) (S.failed store.new) }
+    ensures calm { IsCalm result (S.failed store.old) (S.failed store.new) }
     ensures cause { StopsReading (λ at. HasRisen Load (name_of (names files.entry) at) (S.failed store.old) (S.failed store.new)) result }
     ensures told { WhereTold (S.contents store.old) (λ c. Follows loads_of result (LoadsAll c (names files.entry))) }
 {

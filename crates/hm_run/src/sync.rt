@@ -1,11 +1,11 @@
 //! The top call.
-ghost use Rattle.std.specs.Prelude.{◌≡◌, ◌⊎◌, ◌<◌, ◌≤◌, Some};
+ghost use Rattle.std.specs.Prelude.{◌≡◌, ◌≢◌, ◌⊎◌, ◌<◌, ◌≤◌, Some};
 ghost use Rattle.hm_outside.specs.Answers.{PutsAfter};
 ghost use Rattle.hm_outside.specs.Failures.{Extends};
 ghost use Rattle.hm_outside.specs.declared.outside.Put.TheVariants as put;
 ghost use Rattle.hm_command.specs.declared.ending.Ending.{Ending as EndingOf};
 ghost use Rattle.hm_command.specs.Lines.{output_of, status_of};
-ghost use Rattle.hm_run.specs.Seen.{WhereTold};
+ghost use Rattle.hm_run.specs.Seen.{WhereTold, IsCalm};
 ghost use Rattle.hm_run.specs.Causes.{HasStopCause, Synchronises};
 ghost use Rattle.hm_run.specs.Endings.{EndsAs, Finishes, Puts, IsSynchronised, IsReported, IsComplete, after_fault, ending_of};
 
@@ -22,6 +22,7 @@ use std::alloc::Global;
 // Reads, reconciles and writes, and says what conflicts remain.
 fn synchronise<S: Store>(alloc: Global, words: &[Name], store: &mut S) -> Result<Report, Stop>
     ensures failed { Extends (S.failed store.old) (S.failed store.new) }
+    ensures calm { IsCalm result (S.failed store.old) (S.failed store.new) }
     ensures cause { HasStopCause words.now (S.failed store.old) (S.failed store.new) result }
     ensures told { WhereTold (S.contents store.old) (λ c. Synchronises words.now c result (S.contents store.new)) }
 {
@@ -50,6 +51,7 @@ fn after_fault(ending: Ending) -> Ending
 fn put_output<K: Sink>(alloc: Global, ending: &Ending, out: &mut K) -> Put
     ensures faults { K.faults out.old ≤ K.faults out.new }
     ensures cause { result ≡ put.Failed → K.faults out.old < K.faults out.new }
+    ensures calm { result ≢ put.Failed → K.faults out.new ≡ K.faults out.old }
     ensures told { WhereTold (K.written out.old) (λ w. PutsAfter w (output_of ending.now) result (K.written out.new)) }
 {
     match ending {
@@ -89,7 +91,7 @@ fn ending_of(synchronised: Result<Report, Stop>) -> Ending
 /// Synchronises the files that the words name, puts out the conflicts that remain or the line of a refusal, and answers
 /// the exit status.
 pub fn run<S: Store, K: Sink>(alloc: Global, words: &[Name], store: &mut S, out: &mut K) -> u8
-    // How each run ends: why, what it leaves in the store, and what it puts out.
+    // How each run ends: why, what it leaves in the store, what it puts out, and that no failed call is passed over.
     ensures ends { (ending : EndingOf) × (result ≡ status_of ending) × EndsAs ending words.now
         (record { contents = S.contents store.old; failed = S.failed store.old; written = K.written out.old; faults = K.faults out.old })
         (record { contents = S.contents store.new; failed = S.failed store.new; written = K.written out.new; faults = K.faults out.new }) }

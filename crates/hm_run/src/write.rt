@@ -1,10 +1,11 @@
 //! Writing the three files, in order.
-ghost use Rattle.std.specs.Prelude.{◌≡◌};
+ghost use Rattle.std.specs.Prelude.{◌≡◌, ◌≢◌};
 ghost use Rattle.hm_outside.specs.Failures.{Extends, HasRisen};
 ghost use Rattle.hm_outside.specs.declared.outside.Kind.TheVariants.{Replace};
+ghost use Rattle.hm_command.specs.declared.ending.Slot.TheVariants as slot;
 ghost use Rattle.hm_command.specs.Words.{name_of};
 ghost use Rattle.hm_command.specs.Files.{names};
-ghost use Rattle.hm_run.specs.Seen.{WhereTold};
+ghost use Rattle.hm_run.specs.Seen.{WhereTold, IsCalm};
 ghost use Rattle.hm_run.specs.Making.{new_bytes};
 ghost use Rattle.hm_run.specs.Writing.{StopsWriting, WritesOne, WritesAll};
 
@@ -15,6 +16,7 @@ use hm_tree::Name;
 
 fn write_one<S: Store>(store: &mut S, slot: Slot, name: &Name, bytes: &[u8]) -> Result<(), Stop>
     ensures failed { Extends (S.failed store.old) (S.failed store.new) }
+    ensures calm { IsCalm result (S.failed store.old) (S.failed store.new) }
     ensures cause { StopsWriting (λ at. (at ≡ slot) × HasRisen Replace name.now (S.failed store.old) (S.failed store.new)) result }
     ensures told { WhereTold (S.contents store.old) (λ c. WritesOne slot c name.now bytes.now result (S.contents store.new)) }
 {
@@ -28,7 +30,8 @@ fn write_one<S: Store>(store: &mut S, slot: Slot, name: &Name, bytes: &[u8]) -> 
 /// Writes left, right and archive, so that a run that is broken off and run again comes to the same end.
 pub fn write_all<S: Store>(store: &mut S, files: Files<'_>, new: &NewFiles) -> Result<(), Stop>
     ensures failed { Extends (S.failed store.old) (S.failed store.new) }
-    ensures cause { StopsWriting (λ at. HasRisen Replace (name_of (names files.entry) at) (S.failed store.old) (S.failed store.new)) result }
+    ensures calm { IsCalm result (S.failed store.old) (S.failed store.new) }
+    ensures cause { StopsWriting (λ at. (at ≢ slot.Schema) × HasRisen Replace (name_of (names files.entry) at) (S.failed store.old) (S.failed store.new)) result }
     ensures told { WhereTold (S.contents store.old) (λ c. WritesAll c (names files.entry) (new_bytes new.now) result (S.contents store.new)) }
 {
     write_one(store, Slot::Left, files.left, &new.left)?;
