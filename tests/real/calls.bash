@@ -17,7 +17,8 @@ three_changes() {
 }
 
 # Lists the calls of a run from where it opens the schema: the name of the call, that it is the first of this name or
-# the second and so on, and what it is for: `read SLOT`, `write SLOT`, `print` or `end`.
+# the second and so on, and what it is for: `read SLOT`, `write SLOT`, `flush SLOT` once the new file has its name,
+# `print` or `end`.
 list_calls() {
     begin 'a run that is left alone'
     three_changes
@@ -28,8 +29,10 @@ list_calls() {
         !match($0, /^[a-z0-9_]+\(/) { next }
         { call = substr($0, 1, RLENGTH - 1); number[call]++ }
         call ~ /open|stat|unlink|rename/ && match($0, /"[^"]+"/) {
-            slot = substr($0, RSTART + 1, RLENGTH - 2)
-            if (slot == "schema") step = "read"
+            name = substr($0, RSTART + 1, RLENGTH - 2)
+            if (name == "schema") step = "read"
+            if (name == ".") step = "flush"
+            else slot = name
             if (sub(/\.harmony-new$/, "", slot)) step = "write"
         }
         /^write[a-z0-9]*\(1,/ { step = "print" }
@@ -39,16 +42,25 @@ list_calls() {
     finish
 }
 
-# Each new file is flushed after its last byte and before it takes its name.
+# Each new file is flushed after its last byte and before it takes its name, and its folder behind that.
 flushed() {
-    begin 'new files are flushed'
+    begin 'new files and their folders are flushed'
     local slot order
     for slot in A B archive; do
-        order=$(printf '%s\n' "${calls[@]}" | grep " write $slot\$" | grep -oE '^(open|write|fsync|fdatasync|rename)')
+        order=$(printf '%s\n' "${calls[@]}" | grep -E " (write|flush) $slot\$" | grep -oE '^(open|write|fsync|rename)')
         order=${order//$'\n'/ }
-        [[ $order =~ ^open(' write')+\ f(data)?sync\ rename ]] || fault "$slot: $order"
+        [[ $order =~ ^open(' write')+\ fsync\ rename\ open\ fsync$ ]] || fault "$slot: $order"
     done
     finish
+}
+
+# stopped_behind SLOT: this slot has its new file, and those behind it don't
+stopped_behind() {
+    case $1 in
+    A) stopped_at B ;;
+    B) stopped_at archive ;;
+    archive) stopped_at none ;;
+    esac
 }
 
 # Ends a check with a further run.
@@ -76,6 +88,7 @@ killed() {
     case $3 in
     read) stopped_at A ;;
     write) stopped_at "$4" ;;
+    flush) stopped_behind "$4" ;;
     end) printed=$LOST ;;
     esac
     if [[ $3 == write && -e $4.harmony-new ]]; then
@@ -87,18 +100,19 @@ killed() {
     further
 }
 
-# fails CALL NUMBER STEP SLOT ERROR: what was left behind and can't be removed isn't written to, and that a file wasn't
-# closed is no fault
+# fails CALL NUMBER STEP SLOT ERROR: what was left behind and can't be removed isn't written to; that a file wasn't
+# closed is no fault, and neither is a folder that may not be read or is on a disk that flushes none
 fails() {
     begin "$1 $2 fails with $5"
     three_changes
     [[ $1 != unlink* ]] || ln -s elsewhere "$4.harmony-new"
     under=(strace -o /dev/null -e "inject=$1:error=$5:when=$2")
     sync
-    case $3-$1 in
-    *-close) ends 1 "$LOST" ;;
+    case $3-$1-$5 in
+    *-close-* | flush-open*-EACCES | flush-fsync-EINVAL) ends 1 "$LOST" ;;
     read-*) stopped_at A && ends 4 "harmony: ReadFault $4" ;;
     write-*) stopped_at "$4" && ends 4 "harmony: WriteFault $4" ;;
+    flush-*) stopped_behind "$4" && ends 4 "harmony: WriteFault $4" ;;
     print-*) ends 6 '' ;;
     esac
     further
@@ -109,10 +123,12 @@ errors_of() {
     case $2-$1 in
     read-open*) echo EACCES EIO ;;
     write-open*) echo EROFS ENOSPC ;;
+    flush-open*) echo EACCES EIO ;;
+    flush-fsync) echo EINVAL EIO ;;
     *-write*) echo ENOSPC EIO ;;
     *-rename*) echo EACCES EROFS ;;
     *-unlink* | *-fchmod*) echo EPERM ;;
-    *-read | *stat* | *-fsync | *-fdatasync | *-close) echo EIO ;;
+    *-read | *stat* | *-fsync | *-close) echo EIO ;;
     esac
 }
 

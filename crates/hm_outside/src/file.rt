@@ -18,8 +18,8 @@ const PIECE: usize = 65536;
 ///
 /// `load` reads at most one byte past the limit. A folder, as any other thing that cannot be read, is a
 /// failed call, and only what is not there is absent. `replace` fills NAME.harmony-new, which has the mode
-/// of the file that it replaces before it has any byte, flushes it to the disk and renames it to NAME. What
-/// is there and is no file, as a device, is not replaced: the call fails.
+/// of the file that it replaces before it has any byte, flushes it to the disk, renames it to NAME and
+/// flushes their folder. What is there and is no file, as a device, is not replaced: the call fails.
 /// What stood there under NAME.harmony-new is overwritten, and a call that fails removes the new file if it
 /// can.
 #[derive(Drop)]
@@ -167,15 +167,36 @@ fn fill_and_rename<R: Files>(rt: &R, beside: &str, name: &str, bytes: &[u8]) -> 
     fs::rename(rt, beside, name)
 }
 
+// The folder in which a name stands.
+fn folder_of(name: &str) -> &str {
+    match name.rfind('/') {
+        Some(slash) => &name[..=slash],
+        None => ".",
+    }
+}
+
+// Flushes the folder of a name to the disk, so that what was renamed there stays so if the power fails. A folder that
+// may be written to but not read can't be flushed, and some file systems flush no folder: neither is a fault.
+fn flush_folder<R: Files>(rt: &R, name: &str) -> io::Result<()> {
+    let (flushed, excused) = match fs::open(rt, folder_of(name)) {
+        Ok(folder) => (folder.sync_all(), ErrorKind::InvalidInput),
+        Err(error) => (Err(error), ErrorKind::PermissionDenied),
+    };
+    match flushed {
+        Err(error) if error.kind() == excused => Ok(()),
+        other => other,
+    }
+}
+
 // Puts the bytes into a file by way of a new one beside it. Another that stands there is removed first, so that the
 // new one has its own mode, and what is left of the new one after a failure is removed too.
 fn write_file<R: Files>(rt: &R, beside: &str, name: &str, bytes: &[u8]) -> io::Result<()> {
     let _ = fs::remove_file(rt, beside);
-    let result = fill_and_rename(rt, beside, name, bytes);
-    if result.is_err() {
+    if let Err(error) = fill_and_rename(rt, beside, name, bytes) {
         let _ = fs::remove_file(rt, beside);
+        return Err(error);
     }
-    result
+    flush_folder(rt, name)
 }
 
 impl<R: Files + Drop> Store for FileStore<R> {
