@@ -1,4 +1,4 @@
--- What is left of a text where line ends are LF and control characters are dropped.
+-- What is left of a text where line ends are LF and control characters of ASCII are dropped.
 use Rattle.std.specs.Prelude.{◌≡◌, ℕ, Bool, true, false, cond, not, ◌&&◌, ◌||◌, List, [], ◌∷◌, ◌++◌, filter, refl}
 use Rattle.std.specs.Bool.{◌==◌, nat_le}
 use Rattle.std.proofs.Common.{sym, ap, ◌∙◌}

@@ -17,7 +17,7 @@ is_control b = nat_lt b 32 || (b == 127)
 abbrev pub is_plain : ℕ → Bool
 is_plain b = not (is_quote_or_backslash b || is_control b)
 
--- a quote and a backslash stand behind \, a control character is \x and two lower-case hexadecimal digits
+-- a quote and a backslash stand behind \, a control character of ASCII is \x and two lower-case hexadecimal digits
 abbrev pub spelled_byte : ℕ → List ℕ
 spelled_byte b = cond (is_quote_or_backslash b) (92 ∷ b ∷ []) (cond (is_control b) (92 ∷ 120 ∷ digit_char (b / 16) ∷ digit_char (b % 16) ∷ []) (b ∷ []))
 

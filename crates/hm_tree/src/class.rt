@@ -9,7 +9,7 @@ use crate::cleaning::is_clean;
 pub enum Class {
     /// Every text.
     Any,
-    /// Texts that cleaning leaves as they are: of tabs, LFs and what isn't a control character. It may be empty.
+    /// Texts that cleaning leaves as they are: without control characters of ASCII other than tab and LF. It may be empty.
     Clean,
     /// Clean, with a character other than U+0020.
     Filled,

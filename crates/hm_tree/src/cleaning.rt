@@ -1,4 +1,4 @@
-//! Texts without control characters, whose line ends are LF.
+//! Texts whose line ends are LF, without other control characters of ASCII than tab.
 ghost use Rattle.std.specs.Prelude.{◌≡◌, ◌↔◌, ◌++◌, IsTrue, IfOk, OnOk, All, filter};
 ghost use Rattle.hm_tree.specs.Cleaned.{is_kept, line_end, cleaned};
 ghost use Rattle.hm_tree.specs.Classes.{IsClean};

@@ -47,7 +47,8 @@ impl Name {
         })
     }
 
-    /// The name of what is left of a text where each CRLF and each other CR is made LF, and control characters other than tab and LF are dropped.
+    /// The name of what is left of a text where each CRLF and each other CR is made LF, and the control characters of
+    /// ASCII other than tab and LF are dropped.
     pub fn cleaned(alloc: Global, text: &str) -> Result<Name, Memory>
         ensures { IfOk result (λ name. name ≡ cleaned text.now) }
     {

@@ -190,7 +190,7 @@ fn is_quote_or_backslash(byte: u8) -> bool
     byte == b'"' || byte == b'\\'
 }
 
-// Whether a byte is a control character.
+// Whether a byte is a control character of ASCII.
 fn is_control(byte: u8) -> bool
     ensures { result ≡ is_control byte }
 {
