@@ -18,8 +18,7 @@ use Rattle.hm_schema.specs.Values.{Names}
 use Rattle.hm_schema.proofs.NamesOf.{tie_one}
 use Rattle.hm_outcome.specs.Trios.{Trio}
 use Rattle.hm_outcome.specs.Carried.{IsCarried, on_both, clashing, kept, brought, AreCarried}
-use Rattle.hm_outcome.proofs.Marks.{agree_same, agree_of}
-use Rattle.hm_outcome.proofs.Settled.{has_and_lacks}
+use Rattle.hm_outcome.proofs.Marks.{agree_same, agree_of, has_and_lacks}
 use Rattle.hm_outcome.proofs.Search.{within_or_news}
 use Rattle.hm_certify.specs.Carrying.{IsJudged, EachJudged, AllJudged}
 use Rattle.hm_certify.proofs.Verdicts.{is_so, is_not, as_well}

@@ -15,7 +15,7 @@ use Rattle.hm_tree.proofs.Sorted.{name_total, name_one}
 use Rattle.hm_tree.proofs.States.{state_root, state_down}
 use Rattle.hm_safety.specs.Views.{Has}
 use Rattle.hm_schema.specs.Membership.{path_cmp}
-use Rattle.hm_outcome.proofs.Settled.{has_and_lacks}
+use Rattle.hm_outcome.proofs.Marks.{has_and_lacks}
 use Rattle.hm_outcome.proofs.Downward.{state_under}
 use Rattle.hm_report.specs.Reasons.{IsFirstNews}
 use Rattle.hm_certify.specs.News.{IsWithinBefore}

@@ -12,8 +12,7 @@ use Rattle.hm_safety.specs.Views.{Views, Has, Lacks}
 use Rattle.hm_safety.specs.Changes.{HasChanged, Clash}
 use Rattle.hm_safety.specs.Safety.{IsTopmostMark, IsSafe}
 use Rattle.hm_outcome.specs.Trios.{Trio, views}
-use Rattle.hm_outcome.proofs.Marks.{agree_same, agree_of, agrees, at_root, state_reaches}
-use Rattle.hm_outcome.proofs.Settled.{has_or_lacks, has_and_lacks}
+use Rattle.hm_outcome.proofs.Marks.{agree_same, agree_of, agrees, at_root, state_reaches, has_or_lacks, has_and_lacks}
 use Rattle.hm_outcome.proofs.Downward.{views_below}
 use Rattle.hm_certify.specs.Safe.{IsGone, IsStop, MayStand}
 use Rattle.hm_certify.specs.Steps.{step}

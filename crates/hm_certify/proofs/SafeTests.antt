@@ -11,7 +11,7 @@ use Rattle.hm_safety.specs.Views.{Has, Lacks}
 use Rattle.hm_safety.specs.Changes.{IsLost}
 use Rattle.hm_safety.specs.Safety.{IsSafe}
 use Rattle.hm_outcome.specs.Trios.{Trio, views}
-use Rattle.hm_outcome.proofs.Settled.{has_and_lacks}
+use Rattle.hm_outcome.proofs.Marks.{has_and_lacks}
 use Rattle.hm_outcome.proofs.Search.{within_or_news}
 use Rattle.hm_certify.specs.Standing.{archive_or_none}
 use Rattle.hm_certify.specs.Steps.{step}

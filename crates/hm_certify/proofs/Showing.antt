@@ -17,8 +17,8 @@ use Rattle.hm_schema.specs.Membership.{IsMember}
 use Rattle.hm_outcome.specs.Trios.{Trio, views, given}
 use Rattle.hm_outcome.specs.Carried.{IsCarried, AreCarried}
 use Rattle.hm_outcome.specs.Contested.{AreRefused}
-use Rattle.hm_outcome.proofs.Marks.{agree_of}
-use Rattle.hm_outcome.proofs.Settled.{chained, has_and_lacks}
+use Rattle.hm_outcome.proofs.Marks.{agree_of, has_and_lacks}
+use Rattle.hm_outcome.proofs.Settled.{chained}
 use Rattle.hm_outcome.proofs.Search.{same_or_differ}
 use Rattle.hm_report.specs.Reasons.{LosesFirst, ShowsWhy, earlier, lost, refused}
 use Rattle.hm_report.specs.declared.conflict.Why.{Why}

@@ -11,8 +11,8 @@ use Rattle.hm_outcome.specs.Trios.{Trio, views, Differ, AreMembers}
 use Rattle.hm_outcome.specs.Carried.{IsCarried, on_both, clashing, kept, brought}
 use Rattle.hm_outcome.specs.Contested.{AreRefused, IsContested, earlier, lost, refused}
 use Rattle.hm_outcome.specs.Outcomes.{IsOutcome}
-use Rattle.hm_outcome.proofs.Marks.{agree_same}
-use Rattle.hm_outcome.proofs.Settled.{chained, has_and_lacks, permits_own}
+use Rattle.hm_outcome.proofs.Marks.{agree_same, has_and_lacks}
+use Rattle.hm_outcome.proofs.Settled.{chained, permits_own}
 use Rattle.hm_outcome.proofs.Search.{same_or_differ}
 use Rattle.hm_outcome.proofs.Forced.{contested_stays}
 

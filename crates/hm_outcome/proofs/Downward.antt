@@ -19,7 +19,8 @@ use Rattle.hm_outcome.specs.Trios.{Trio, views, AreMembers, IsSafeUnder}
 use Rattle.hm_outcome.specs.Carried.{IsCarried, on_both, clashing, kept, brought, AreCarried}
 use Rattle.hm_outcome.specs.Contested.{IsContested, earlier, lost, refused, IsTopmostContested}
 use Rattle.hm_outcome.specs.Outcomes.{IsOutcome}
-use Rattle.hm_outcome.proofs.Settled.{one_set, chained, has_and_lacks, equal_sides}
+use Rattle.hm_outcome.proofs.Marks.{has_and_lacks}
+use Rattle.hm_outcome.proofs.Settled.{one_set, chained, equal_sides}
 
 -- what stands under a name in each of the three
 abbrev pub child : Name → Trio → Trio

@@ -16,7 +16,7 @@ use Rattle.hm_outcome.specs.Trios.{given, views}
 use Rattle.hm_outcome.specs.Carried.{IsCarried, AreCarried, on_both, clashing, kept, brought}
 use Rattle.hm_outcome.specs.Contested.{IsContested, AreRefused, IsTopmostContested, earlier, lost, refused}
 use Rattle.hm_outcome.specs.Outcomes.{IsOutcome}
-use Rattle.hm_outcome.proofs.Settled.{has_or_lacks}
+use Rattle.hm_outcome.proofs.Marks.{has_or_lacks}
 
 -- ---- small trees and archives
 

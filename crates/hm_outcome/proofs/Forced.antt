@@ -1,10 +1,9 @@
 -- What every safe result has to be: the names of a path that isn't marked, and the places that are contested.
-use Rattle.std.proofs.Common.{◌≡◌, ◌≢◌, ◌⊎◌, [], ◌∷◌, ◌++◌, Option, Some, refl, sym, subst, ◌∙◌, inl, inr}
+use Rattle.std.proofs.Common.{◌≡◌, ◌≢◌, ◌⊎◌, [], ◌∷◌, ◌++◌, Some, refl, sym, subst, ◌∙◌, inl, inr}
 use Rattle.std.proofs.lemmas.Option.{same_Some}
 use Rattle.hm_tree.specs.declared.archive.State.{State}
 use Rattle.hm_tree.specs.declared.archive.State.TheVariants.{Missing, Present, Marked}
 use Rattle.hm_tree.specs.Names.{Name}
-use Rattle.hm_tree.specs.Nodes.{Tree}
 use Rattle.hm_tree.specs.States.{Path, state}
 use Rattle.hm_tree.proofs.States.{state_unmarked}
 use Rattle.hm_safety.specs.Views.{View, Has, Lacks}
@@ -18,7 +17,7 @@ use Rattle.hm_schema.proofs.NamesOf.{same_names, bools}
 use Rattle.hm_outcome.specs.Trios.{Trio, views, turned, AreMembers}
 use Rattle.hm_outcome.specs.Carried.{IsCarried, on_both, clashing, kept, brought, AreCarried}
 use Rattle.hm_outcome.specs.Contested.{AreRefused, IsContested, earlier, lost, refused}
-use Rattle.hm_outcome.proofs.Marks.{agree_same, agree_of, agrees, is_marked_or_not, state_above, state_reaches, topmost_below}
+use Rattle.hm_outcome.proofs.Marks.{agree_same, agree_of, agrees, has_or_lacks, has_and_lacks, is_marked_or_not, state_above, state_reaches, topmost_below}
 
 -- ---- the two sides change places
 
@@ -50,17 +49,6 @@ missing_or_not Missing = inl refl
 missing_or_not Present = inr (λ e. let f : ⊥ = cc in f)
 missing_or_not Marked = inr (λ e. let f : ⊥ = cc in f)
 
-has_or_lacks : (a : Option Tree) (p : Path) → Has (state a) p ⊎ Lacks (state a) p
-has_or_lacks a p = go (state a p) refl
-  where
-    go : (s : State) → state a p ≡ s → Has (state a) p ⊎ Lacks (state a) p
-    go Missing e = inr e
-    go Present e = inl e
-    go Marked e = absurd (state_unmarked a p e)
-
-never_both : {s : State} → s ≡ Present → s ≡ Missing → ⊥
-never_both there missing = let f : Present ≡ Missing = sym there ∙ missing in let no : ⊥ = cc in no
-
 -- a member's names at a path are permitted by the node there
 permits : (s : SchemaValue) (i : NodeId) (a : View) (p : Path) → IsMember s i a → Has a p → (names : Names) → HasNames (down p a) names → (node : NodeValue) → node_of s i p ≡ Some node → Permits node names
 permits s i a p member has names are node is =
@@ -84,7 +72,7 @@ module _ (before after : Trio) (h : IsSafe (views before) (views after)) where
   lost_lacks p l = h.keeps_right p (λ a. l.known (agree_same a ∙ l.lacks)) ∙ l.lacks
 
   lost_marked : (p : Path) → IsLost (state before.archive) (state before.left) (state before.right) p → state after.archive p ≡ Marked
-  lost_marked p l = differ_marked p (λ e. never_both (lost_has p l) (e ∙ lost_lacks p l))
+  lost_marked p l = differ_marked p (λ e. has_and_lacks (lost_has p l) (e ∙ lost_lacks p l))
 
   -- an earlier mark leaves the side as it is
   earlier_left : (p q : Path) → state before.archive p ≡ Marked → state after.left (p ++ q) ≡ state before.left (p ++ q)
@@ -101,15 +89,15 @@ module _ (before after : Trio) (h : IsSafe (views before) (views after)) where
   module _ (q : Path) (stops : state after.archive q ≡ Marked → (Has (state before.left) q × Has (state before.right) q) ⊎ Clash (views before) q) where
     left_alone : Has (state before.left) q → Lacks (state before.right) q → state after.left q ≢ state after.right q → IsLost (state before.archive) (state before.left) (state before.right) q
     left_alone has lacks n = elim (stops (differ_marked q n)) [
-      | inl both ↦ absurd (never_both both.1 lacks)
+      | inl both ↦ absurd (has_and_lacks both.1 lacks)
       | inr (inl l) ↦ l
-      | inr (inr l) ↦ absurd (never_both l.has lacks)
+      | inr (inr l) ↦ absurd (has_and_lacks l.has lacks)
     ]
 
     right_alone : Lacks (state before.left) q → Has (state before.right) q → state after.left q ≢ state after.right q → IsLost (state before.archive) (state before.right) (state before.left) q
     right_alone lacks has n = elim (stops (differ_marked q n)) [
-      | inl both ↦ absurd (never_both both.0 lacks)
-      | inr (inl l) ↦ absurd (never_both l.has lacks)
+      | inl both ↦ absurd (has_and_lacks both.0 lacks)
+      | inr (inl l) ↦ absurd (has_and_lacks l.has lacks)
       | inr (inr l) ↦ l
     ]
 
@@ -119,20 +107,20 @@ module _ (before after : Trio) (h : IsSafe (views before) (views after)) where
     has_carried (kept mine lacks none changed) = h.keeps_left q changed ∙ mine
     has_carried (brought lacks other none changed) =
         let there = h.keeps_right q changed ∙ other in
-        elim (has_or_lacks after.left q) [ inl e ↦ e | inr gone ↦ absurd (none (right_alone lacks other (λ e. never_both there (sym e ∙ gone)))) ]
+        elim (has_or_lacks after.left q) [ inl e ↦ e | inr gone ↦ absurd (none (right_alone lacks other (λ e. has_and_lacks there (sym e ∙ gone)))) ]
 
     pub carried_has : Has (state after.left) q → IsCarried (state before.archive) (state before.left) (state before.right) q
     carried_has there = go (has_or_lacks before.left q) (has_or_lacks before.right q) (missing_or_not (state before.archive q))
       where
         go : Has (state before.left) q ⊎ Lacks (state before.left) q → Has (state before.right) q ⊎ Lacks (state before.right) q → (state before.archive q ≡ Missing) ⊎ (state before.archive q ≢ Missing) → IsCarried (state before.archive) (state before.left) (state before.right) q
         go (inl mine) (inl other) _ = on_both mine other
-        go (inl mine) (inr lacks) (inl new) = kept mine lacks (λ l. l.known new) (λ a. never_both (agree_same a ∙ mine) new)
+        go (inl mine) (inr lacks) (inl new) = kept mine lacks (λ l. l.known new) (λ a. has_and_lacks (agree_same a ∙ mine) new)
         go (inl mine) (inr lacks) (inr known) =
             let gone = h.keeps_right q (λ a. known (agree_same a ∙ lacks)) ∙ lacks in
-            clashing (left_alone mine lacks (λ e. never_both there (e ∙ gone)))
-        go (inr lacks) (inl other) (inl new) = brought lacks other (λ l. l.known new) (λ a. never_both (agree_same a ∙ other) new)
-        go (inr lacks) (inl other) (inr known) = absurd (never_both there (h.keeps_left q (λ a. known (agree_same a ∙ lacks)) ∙ lacks))
-        go (inr lacks) (inr none) _ = absurd (never_both there (h.left_from_right q (λ e. never_both (sym e ∙ there) lacks) ∙ none))
+            clashing (left_alone mine lacks (λ e. has_and_lacks there (e ∙ gone)))
+        go (inr lacks) (inl other) (inl new) = brought lacks other (λ l. l.known new) (λ a. has_and_lacks (agree_same a ∙ other) new)
+        go (inr lacks) (inl other) (inr known) = absurd (has_and_lacks there (h.keeps_left q (λ a. known (agree_same a ∙ lacks)) ∙ lacks))
+        go (inr lacks) (inr none) _ = absurd (has_and_lacks there (h.left_from_right q (λ e. has_and_lacks (sym e ∙ there) lacks) ∙ none))
 
   permitted_left : (s : SchemaValue) (i : NodeId) → IsMember s i (state after.left) → (p : Path) → Has (state before.left) p → Has (state before.right) p → state after.archive p ≢ Marked → (names : Names) → AreCarried (state before.archive) (state before.left) (state before.right) p names → (node : NodeValue) → node_of s i p ≡ Some node → Permits node names
   permitted_left s i member p mine other unmarked names are node is =

@@ -3,10 +3,11 @@ use Rattle.std.proofs.Common.{◌≡◌, ◌≢◌, ◌⊎◌, Bool, true, false
 use Rattle.hm_tree.specs.declared.archive.State.{State}
 use Rattle.hm_tree.specs.declared.archive.State.TheVariants.{Missing, Present, Marked}
 use Rattle.hm_tree.specs.Names.{Name}
-use Rattle.hm_tree.specs.Nodes.{Node, is_marked, below}
+use Rattle.hm_tree.specs.Nodes.{Node, Tree, is_marked, below}
 use Rattle.hm_tree.specs.Archives.{Archive}
 use Rattle.hm_tree.specs.States.{Path, state}
-use Rattle.hm_safety.specs.Views.{View, Agree, both_present, both_missing}
+use Rattle.hm_tree.proofs.States.{state_unmarked}
+use Rattle.hm_safety.specs.Views.{View, Has, Lacks, Agree, both_present, both_missing}
 use Rattle.hm_safety.specs.Safety.{IsTopmostMark}
 use Rattle.hm_schema.specs.Membership.{down}
 
@@ -16,7 +17,8 @@ pub agree_same : {s t : State} → Agree s t → s ≡ t
 agree_same both_present = refl
 agree_same both_missing = refl
 
-agree_itself : (s : State) → s ≢ Marked → Agree s s
+-- a state other than a mark agrees with itself
+pub agree_itself : (s : State) → s ≢ Marked → Agree s s
 agree_itself Missing n = both_missing
 agree_itself Present n = both_present
 agree_itself Marked n = absurd (n refl)
@@ -33,6 +35,18 @@ pub is_marked_or_not : (s : State) → (s ≡ Marked) ⊎ (s ≢ Marked)
 is_marked_or_not Missing = inr (λ e. let f : ⊥ = cc in f)
 is_marked_or_not Present = inr (λ e. let f : ⊥ = cc in f)
 is_marked_or_not Marked = inl refl
+
+-- a side has a path or lacks it, and not both
+pub has_or_lacks : (a : Option Tree) (p : Path) → Has (state a) p ⊎ Lacks (state a) p
+has_or_lacks a p = go (state a p) refl
+  where
+    go : (s : State) → state a p ≡ s → Has (state a) p ⊎ Lacks (state a) p
+    go Missing e = inr e
+    go Present e = inl e
+    go Marked e = absurd (state_unmarked a p e)
+
+pub has_and_lacks : {s : State} → s ≡ Present → s ≡ Missing → ⊥
+has_and_lacks h l = cc
 
 -- ---- paths above and below
 

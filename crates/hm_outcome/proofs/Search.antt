@@ -13,7 +13,7 @@ use Rattle.hm_tree.proofs.States.{state_root, state_down}
 use Rattle.hm_tree.proofs.Extent.{same_tree}
 use Rattle.hm_safety.specs.Views.{Has, Agree, both_present, both_missing}
 use Rattle.hm_schema.proofs.NamesOf.{tie_one}
-use Rattle.hm_outcome.proofs.Settled.{has_or_lacks, has_and_lacks}
+use Rattle.hm_outcome.proofs.Marks.{has_or_lacks, has_and_lacks}
 
 -- it holds at each path that a side has
 abbrev Throughout : (Path → Type 0) → Option Tree → Type 0

@@ -23,15 +23,10 @@ use Rattle.hm_outcome.specs.Trios.{Trio, views, turned, recorded_side, AreMember
 use Rattle.hm_outcome.specs.Carried.{IsCarried, on_both, clashing, kept, brought}
 use Rattle.hm_outcome.specs.Contested.{IsContested, earlier, lost, refused, IsTopmostContested}
 use Rattle.hm_outcome.specs.Outcomes.{IsOutcome}
+use Rattle.hm_outcome.proofs.Marks.{agree_itself, has_or_lacks, has_and_lacks}
 use Rattle.hm_outcome.proofs.Forced.{safe_turned}
 
 -- ---- states
-
--- a state other than a mark agrees with itself
-agrees : (s : State) → s ≢ Marked → Agree s s
-agrees Missing u = both_missing
-agrees Present u = both_present
-agrees Marked u = absurd (u refl)
 
 agree_back : (s t : State) → Agree s t → Agree t s
 agree_back _ _ both_present = both_present
@@ -40,19 +35,7 @@ agree_back _ _ both_missing = both_missing
 alike : {s t : State} → s ≡ Present → t ≡ Present → Agree s t
 alike h g = subst₂ Agree (sym h) (sym g) both_present
 
--- a side has a path or lacks it
-pub has_or_lacks : (a : Option Tree) (p : Path) → Has (state a) p ⊎ Lacks (state a) p
-has_or_lacks a p = go (state a p) refl
-  where
-    go : (s : State) → state a p ≡ s → Has (state a) p ⊎ Lacks (state a) p
-    go Missing e = inr e
-    go Present e = inl e
-    go Marked e = absurd (state_unmarked a p e)
-
-pub has_and_lacks : {s : State} → s ≡ Present → s ≡ Missing → ⊥
-has_and_lacks h l = cc
-
--- with what a state agrees
+-- with what a state agree_itself
 agreed : {s t u : State} → Agree s t → t ≡ u → s ≡ u
 agreed both_present e = e
 agreed both_missing e = e
@@ -168,7 +151,7 @@ module _ (s : SchemaValue) (i : NodeId) where
 
     module _ (member : IsMember s i (state b)) where
       uncontested : (p : Path) → ¬ (IsContested s i (views here) p)
-      uncontested p (earlier m d) = elim same [ inl e ↦ d.1 (subst (Agree (state a (p ++ d.0))) (e (p ++ d.0)) (agrees _ (state_unmarked a (p ++ d.0)))) | inr r ↦ marked_apart m (r p) ]
+      uncontested p (earlier m d) = elim same [ inl e ↦ d.1 (subst (Agree (state a (p ++ d.0))) (e (p ++ d.0)) (agree_itself _ (state_unmarked a (p ++ d.0)))) | inr r ↦ marked_apart m (r p) ]
       uncontested p (lost h c) = no_clash p c
       uncontested p (refused {left} {right} r) =
           let permits = λ (names : Names) (has : HasNames (down p (state b)) names). permits_own s i (state b) p r.node names member r.has_right r.is has in
@@ -204,7 +187,7 @@ module _ (s : SchemaValue) (i : NodeId) where
 
   -- where the archive is as one side, both come to be as the other
   pub left_unchanged : (a b : Option Tree) → IsMember s i (state b) → IsOutcome s i (record { archive = recorded_side a; left = a; right = b }) (record { archive = recorded_side b; left = b; right = b })
-  left_unchanged a b = settled_right (recorded_side a) a b (inr (λ p. subst (λ x. Agree x (state a p)) (sym (state-recorded_side a p)) (agrees _ (state_unmarked a p))))
+  left_unchanged a b = settled_right (recorded_side a) a b (inr (λ p. subst (λ x. Agree x (state a p)) (sym (state-recorded_side a p)) (agree_itself _ (state_unmarked a p))))
 
   pub right_unchanged : (a b : Option Tree) → IsMember s i (state a) → IsOutcome s i (record { archive = recorded_side b; left = a; right = b }) (record { archive = recorded_side a; left = a; right = a })
   right_unchanged a b m = outcome_turned _ _ (left_unchanged b a m)

@@ -14,7 +14,8 @@ use Rattle.hm_schema.specs.Membership.{IsMember}
 use Rattle.hm_outcome.specs.Trios.{views}
 use Rattle.hm_outcome.specs.Contested.{IsContested, earlier, lost}
 use Rattle.hm_outcome.specs.Outcomes.{IsOutcome}
-use Rattle.hm_outcome.proofs.Settled.{has_and_lacks, right_unchanged, stopped}
+use Rattle.hm_outcome.proofs.Marks.{has_and_lacks}
+use Rattle.hm_outcome.proofs.Settled.{right_unchanged, stopped}
 use Rattle.hm_outcome.proofs.Search.{within_or_news, agree_has}
 use Rattle.hm_reconcile.specs.Sides.{on_left, recorded_on_both}
 

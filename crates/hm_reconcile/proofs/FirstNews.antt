@@ -1,15 +1,13 @@
 -- The first path that a tree has and at which an archive isn't present: at the root, or below the first name that has
 -- one.
-use Rattle.std.proofs.Common.{◌≡◌, ◌≢◌, ℕ, true, false, cond, [], ◌∷◌, take, slice_get, length-take, get_or-take, Option, Some, None, All, refl, sym, ap, subst, ◌∙◌, arith, inl, inr}
+use Rattle.std.proofs.Common.{◌≡◌, ◌≢◌, ℕ, [], ◌∷◌, take, slice_get, Option, Some, None, All, refl, sym, ap, subst, ◌∙◌}
 use Rattle.std.specs.declared.cmp.Ordering.{Ordering}
 use Rattle.std.specs.declared.cmp.Ordering.TheVariants.{Less, Equal, Greater}
 use Rattle.std.specs.Ordering.{ordering_then}
-use Rattle.std.proofs.lemmas.Bool.{cases_lt}
-use Rattle.std.proofs.lemmas.Option.{get_or_from_slice_get, slice_get_within}
-use Rattle.std.proofs.lemmas.List.Elements.{All-get_or}
 use Rattle.hm_tree.specs.declared.archive.State.TheVariants.{Missing, Present, Marked}
 use Rattle.hm_tree.specs.Names.{Name, name_cmp}
-use Rattle.hm_tree.specs.Nodes.{Tree, edges, below, is_marked}
+use Rattle.hm_tree.specs.Nodes.{Tree, edges, below}
+use Rattle.hm_tree.specs.NodeLaws.{edges_sorted}
 use Rattle.hm_tree.specs.Archives.{Archive, under}
 use Rattle.hm_tree.specs.States.{Path, state}
 use Rattle.hm_tree.proofs.Presence.{IsEdgeWithin}
@@ -17,8 +15,9 @@ use Rattle.hm_tree.proofs.Sorted.{name_one, below_edge}
 use Rattle.hm_tree.proofs.States.{state_root, state_down}
 use Rattle.hm_safety.specs.Views.{Has}
 use Rattle.hm_schema.specs.Membership.{path_cmp}
+use Rattle.hm_schema.proofs.Outside.{before_place}
+use Rattle.hm_outcome.proofs.Downward.{state_under}
 use Rattle.hm_report.specs.Reasons.{IsFirstNews}
-use Rattle.hm_reconcile.proofs.Walking.{find_place, before_rest, not_before_itself}
 
 -- nothing stands before the root
 root_first : (q : Path) → path_cmp q [] ≡ Less → ⊥
@@ -40,23 +39,6 @@ news_missing o k t p root gone = news_at_root (under k o) t p root (λ present. 
 
 -- ---- below a name
 
--- an archive's states, one step down
-state_under : (o : Archive) (k : Name) (p : Path) → state o [] ≢ Marked → state o (k ∷ p) ≡ state (under k o) p
-state_under None k p n = refl
-state_under (Some t) k p n = elim (is_marked t) as (λ b. cond b Marked Present ≢ Marked → cond b Marked (state (below k t) p) ≡ state (below k t) p) [ true ↦ λ n. absurd (n refl) | false ↦ λ n. refl ] n
-
--- what holds of each edge before a place holds of an edge whose name stands before the one there
-edge_before : (P : Name × Tree → Type 0) (t : Tree) (place : ℕ) (k : Name) (c : Tree) → slice_get (edges t) place ≡ Some (k, c) → All P (take place (edges t)) → (l : Name) (d : Tree) → name_cmp l k ≡ Less → below l t ≡ Some d → P (l, d)
-edge_before P t place k c at all l d less is =
-    let there = find_place l (edges t) d is in
-    elim (cases_lt there.0 place) [
-      | inl early ↦
-          (let within = slice_get_within (edges t) there.0 (l, d) there.1 in
-          let here = All-get_or P (take place (edges t)) there.0 (l, d) (simp length-take (omega arith)) all in
-          subst P (get_or-take place (edges t) there.0 (l, d) early ∙ get_or_from_slice_get (edges t) there.0 (l, d) (l, d) there.1) here)
-      | inr late ↦ absurd (not_before_itself l (before_rest t place l k c at less there.0 (l, d) late there.1))
-    ]
-
 module _ (o : Archive) (t : Tree) (root : state o [] ≡ Present) (place : ℕ) (k : Name) (c : Tree) (at : slice_get (edges t) place ≡ Some (k, c)) (before : All (IsEdgeWithin o) (take place (edges t))) where
   unmarked : state o [] ≢ Marked
   unmarked m = let f : Present ≡ Marked = sym root ∙ m in let no : ⊥ = cc in no
@@ -73,7 +55,7 @@ module _ (o : Archive) (t : Tree) (root : state o [] ≡ Present) (place : ℕ) 
     where
       go : (x : Option Tree) → below l t ≡ x → state x p ≡ Present → ⊥
       go None e there = let f : Missing ≡ Present = there in let no : ⊥ = cc in no
-      go (Some d) e there = news (down l p ∙ edge_before (IsEdgeWithin o) t place k c at before l d less e p there)
+      go (Some d) e there = news (down l p ∙ before_place (λ l d. IsEdgeWithin o (l, d)) (edges t) (edges_sorted t) place k c at before l d less e p there)
 
   module _ (p : Path) (here : IsFirstNews (state (under k o)) (state (Some c)) [] p) where
     none_first : (r : Path) → Has (state (Some t)) r → state o r ≢ Present → path_cmp r (k ∷ p) ≡ Less → ⊥

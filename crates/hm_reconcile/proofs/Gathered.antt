@@ -27,7 +27,7 @@ use Rattle.hm_outcome.specs.Outcomes.{IsOutcome}
 use Rattle.hm_outcome.proofs.Forced.{safe_turned, has_carried, carried_has}
 use Rattle.hm_outcome.proofs.Settled.{chained, equal_sides}
 use Rattle.hm_outcome.proofs.Downward.{child, views_below, views_child, carried_below, TakesNames, downward}
-use Rattle.hm_reconcile.specs.Walking.{IsInEither}
+use Rattle.hm_reconcile.specs.Taken.{IsInEither}
 use Rattle.hm_reconcile.specs.Gathering.{with_side, with_trio}
 use Rattle.hm_reconcile.specs.Naming.{ArePermitted}
 

@@ -1,4 +1,4 @@
-pub mod Walking
+pub mod Passing
 pub mod Alone
 pub mod Gathered
 pub mod Falling
@@ -10,7 +10,6 @@ pub mod Shown
 pub mod Fronts
 pub mod Under
 pub mod Held
-pub mod TakingOff
 pub mod SameNames
 pub mod Naming
 pub mod Alike

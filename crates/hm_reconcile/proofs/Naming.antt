@@ -17,7 +17,8 @@ use Rattle.hm_outcome.specs.Trios.{given, views, AreMembers}
 use Rattle.hm_outcome.specs.Carried.{AreCarried}
 use Rattle.hm_outcome.specs.Contested.{IsContested, refused}
 use Rattle.hm_outcome.proofs.Apart.{carried_same}
-use Rattle.hm_outcome.proofs.Settled.{has_or_lacks, has_and_lacks, chained, one_set}
+use Rattle.hm_outcome.proofs.Marks.{has_or_lacks, has_and_lacks}
+use Rattle.hm_outcome.proofs.Settled.{chained, one_set}
 use Rattle.hm_reconcile.specs.Naming.{ArePermitted}
 use Rattle.hm_reconcile.proofs.Nodes.{node_in_range}
 

@@ -22,10 +22,10 @@ use Rattle.hm_outcome.proofs.Settled.{equal_sides, stopped}
 use Rattle.hm_outcome.proofs.Downward.{child}
 use Rattle.hm_reconcile.specs.declared.trees.Trees.{Trees}
 use Rattle.hm_reconcile.specs.Gathering.{outcome_of}
-use Rattle.hm_reconcile.specs.Walking.{Passed, IsInEither}
-use Rattle.hm_reconcile.proofs.Walking.{none_passed}
+use Rattle.hm_reconcile.specs.Taken.{IsInEither}
 use Rattle.hm_reconcile.proofs.Falling.{side_size}
 use Rattle.hm_reconcile.proofs.Gathered.{IsGathered, no_node}
+use Rattle.hm_reconcile.proofs.Passing.{Passed, none_passed}
 
 -- ---- what is given, by what is known of it
 
@@ -77,7 +77,7 @@ pub root_there : state (Some (empty {m = true})) [] ≡ Present
 unfolding is_marked empty
 root_there = refl
 
-pub gathered_none : (s : SchemaValue) (i : NodeId) (before : Trio) (a b : Tree) → IsGathered s i before (Passed a b 0 0) (given (Some empty) empty empty)
+pub gathered_none : (s : SchemaValue) (i : NodeId) (before : Trio) (a b : Tree) → IsGathered s i before (Passed a b (edges a) (edges b)) (given (Some empty) empty empty)
 gathered_none s i before a b = record {
   archive = root_there;
   settled = λ k was. absurd (none_passed a b k was);

@@ -16,7 +16,8 @@ use Rattle.hm_outcome.specs.Trios.{given, views}
 use Rattle.hm_outcome.specs.Carried.{IsCarried, AreCarried}
 use Rattle.hm_outcome.specs.Contested.{AreRefused, IsContested, earlier, lost, refused}
 use Rattle.hm_outcome.proofs.Downward.{carried_below}
-use Rattle.hm_outcome.proofs.Settled.{chained, one_set, has_and_lacks}
+use Rattle.hm_outcome.proofs.Marks.{has_and_lacks}
+use Rattle.hm_outcome.proofs.Settled.{chained, one_set}
 use Rattle.hm_report.specs.declared.conflict.Why.TheVariants as why
 use Rattle.hm_report.specs.Reasons.{IsFirstNews, LosesFirst, ShowsWhy}
 use Rattle.hm_report.specs.Reasons as reason

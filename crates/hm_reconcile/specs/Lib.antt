@@ -1,5 +1,4 @@
 pub mod Gathering
-pub mod Walking
 pub mod Sides
 pub mod Fates
 pub mod Appending

@@ -1,11 +1,19 @@
 -- Taking the least of the names that are left off two lists of edges.
-use Rattle.std.specs.Prelude.{◌≡◌, ⊤, List, [], ◌∷◌, Option, Some, None}
+use Rattle.std.specs.Prelude.{◌≡◌, ⊤, IsTrue, ◌||◌, is_some, List, [], ◌∷◌, Option, Some, None}
 use Rattle.std.specs.FinMap.{find}
 use Rattle.std.specs.declared.cmp.Ordering.TheVariants.{Less}
 use Rattle.hm_tree.specs.Names.{Name, name_cmp}
 use Rattle.hm_tree.specs.Nodes.{Tree}
 use Rattle.hm_tree.specs.Archives.{Archive}
-use Rattle.hm_reconcile.specs.Walking.{IsInEither}
+
+-- the first name of a list of edges
+abbrev pub first_name : List (Name × Tree) → Option Name
+first_name [] = None
+first_name (e ∷ es) = Some e.0
+
+-- a name stands in one of two trees at least, by what stands under it in each
+abbrev pub IsInEither : Option Tree → Option Tree → Type 0
+IsInEither one two = IsTrue (is_some one || is_some two)
 
 -- an edge more in front, if anything stands under the name
 abbrev pub in_front : Name → Option Tree → List (Name × Tree) → List (Name × Tree)
@@ -22,12 +30,15 @@ abbrev pub IsFirstOrBefore : Name → Option Tree → List (Name × Tree) → Ty
 IsFirstOrBefore k None es = IsBeforeFirst k es
 IsFirstOrBefore k (Some c) es = ⊤
 
-pub record IsTaken (left right left_rest right_rest : List (Name × Tree)) (k : Name) (one two : Option Tree) : Type 0 where
-  pub left_is : left ≡ in_front k one left_rest
-  pub right_is : right ≡ in_front k two right_rest
+-- a name and what stood under it are taken off a list, or it isn't there and is less than all that is
+pub record IsTakenOff (es rest : List (Name × Tree)) (k : Name) (c : Option Tree) : Type 0 where
+  pub is : es ≡ in_front k c rest
+  pub first : IsFirstOrBefore k c rest
+
+pub record IsTaken (es fs es_rest fs_rest : List (Name × Tree)) (k : Name) (one two : Option Tree) : Type 0 where
+  pub left : IsTakenOff es es_rest k one
+  pub right : IsTakenOff fs fs_rest k two
   pub there : IsInEither one two
-  pub left_first : IsFirstOrBefore k one left_rest
-  pub right_first : IsFirstOrBefore k two right_rest
 
 -- the first edge of a list is taken off
 pub record IsFirstTaken (es rest : List (Name × Tree)) (k : Name) (c : Option Tree) : Type 0 where
@@ -38,12 +49,8 @@ pub record IsFirstTaken (es rest : List (Name × Tree)) (k : Name) (c : Option T
 -- two lists begin with one name
 pub record IsFirstNameOfBoth (left right : List (Name × Tree)) : Type 0 where
   pub name : Name
-  pub left_child : Tree
-  pub right_child : Tree
-  pub left_rest : List (Name × Tree)
-  pub right_rest : List (Name × Tree)
-  pub left_is : left ≡ (name, left_child) ∷ left_rest
-  pub right_is : right ≡ (name, right_child) ∷ right_rest
+  pub left_is : first_name left ≡ Some name
+  pub right_is : first_name right ≡ Some name
 
 -- no edge is left
 pub record AreOver (left right : List (Name × Tree)) : Type 0 where

@@ -1,35 +1,33 @@
-//! Taking two nodes and their archive apart, name by name in one order.
-ghost use Rattle.std.specs.Prelude.{◌≡◌, [], None, T, MatchOption};
+//! Taking nodes apart, name by name in one order.
+ghost use Rattle.std.specs.Prelude.{◌≡◌, [], None, T, MatchOption, option_map};
 ghost use Rattle.std.specs.FinMap.{is_sorted};
 ghost use Rattle.std.specs.declared.cmp.Ordering.TheVariants.{Less};
 ghost use Rattle.hm_tree.specs.Names.{Name as NameValue, name_cmp};
 ghost use Rattle.hm_reconcile.specs.Taken.{IsTaken, AreOver, IsFirstTaken, IsFirstNameOfBoth, found};
 
-use hm_tree::{Archive, Name, Tree};
+use crate::edges::Edges;
+use hm_tree::{Archive, Name};
 use std::alloc::Global;
 use std::cmp::Ordering;
 use std::collections::VecDeque;
 
 /// A name of two nodes, and what stood under it in each.
 #[derive(Drop)]
-pub struct Taken {
-    pub name: Name,
-    pub left: Option<Tree>,
-    pub right: Option<Tree>,
+pub struct Taken<N, C> {
+    pub name: N,
+    pub left: Option<C>,
+    pub right: Option<C>,
 }
 
 /// Takes the least of the names that are left in two nodes off both; none where neither has one left.
-pub fn take_next(
-    left: &mut VecDeque<(Name, Tree)>,
-    right: &mut VecDeque<(Name, Tree)>,
-) -> Option<Taken>
-    ensures { MatchOption result (AreOver left.old.items right.old.items) (λ t. IsTaken left.old.items right.old.items left.new.items right.new.items t.name t.left t.right) }
+pub fn take_next<E: Edges>(left: &mut E, right: &mut E) -> Option<Taken<E::Name, E::Child>>
+    ensures { MatchOption result (AreOver (E.edges left.old) (E.edges right.old)) (λ t. IsTaken (E.edges left.old) (E.edges right.old) (E.edges left.new) (E.edges right.new) (E.name t.name) (option_map E.child t.left) (option_map E.child t.right)) }
 {
-    match (left.front(), right.front()) {
+    match (left.first_name(), right.first_name()) {
         (None, None) => None,
         (Some(_), None) => take_left(left),
         (None, Some(_)) => take_right(right),
-        (Some(one), Some(two)) => match one.0.order(&two.0) {
+        (Some(one), Some(two)) => match one.order(two) {
             Ordering::Less => take_left(left),
             Ordering::Equal => take_both(left, right),
             Ordering::Greater => take_right(right),
@@ -38,10 +36,10 @@ pub fn take_next(
 }
 
 // Takes the first name of the left node alone.
-fn take_left(left: &mut VecDeque<(Name, Tree)>) -> Option<Taken>
-    ensures { MatchOption result (left.old.items ≡ []) (λ t. IsFirstTaken left.old.items left.new.items t.name t.left × (t.right ≡ None)) }
+fn take_left<E: Edges>(left: &mut E) -> Option<Taken<E::Name, E::Child>>
+    ensures { MatchOption result (E.edges left.old ≡ []) (λ t. IsFirstTaken (E.edges left.old) (E.edges left.new) (E.name t.name) (option_map E.child t.left) × (t.right ≡ None)) }
 {
-    let (name, child) = left.pop_front()?;
+    let (name, child) = left.take_first()?;
     Some(Taken {
         name,
         left: Some(child),
@@ -50,10 +48,10 @@ fn take_left(left: &mut VecDeque<(Name, Tree)>) -> Option<Taken>
 }
 
 // Takes the first name of the right node alone.
-fn take_right(right: &mut VecDeque<(Name, Tree)>) -> Option<Taken>
-    ensures { MatchOption result (right.old.items ≡ []) (λ t. IsFirstTaken right.old.items right.new.items t.name t.right × (t.left ≡ None)) }
+fn take_right<E: Edges>(right: &mut E) -> Option<Taken<E::Name, E::Child>>
+    ensures { MatchOption result (E.edges right.old ≡ []) (λ t. IsFirstTaken (E.edges right.old) (E.edges right.new) (E.name t.name) (option_map E.child t.right) × (t.left ≡ None)) }
 {
-    let (name, child) = right.pop_front()?;
+    let (name, child) = right.take_first()?;
     Some(Taken {
         name,
         left: None,
@@ -62,12 +60,12 @@ fn take_right(right: &mut VecDeque<(Name, Tree)>) -> Option<Taken>
 }
 
 // Takes the first name of both nodes, which is the same.
-fn take_both(left: &mut VecDeque<(Name, Tree)>, right: &mut VecDeque<(Name, Tree)>) -> Option<Taken>
-    requires { IsFirstNameOfBoth left.old.items right.old.items }
-    ensures { MatchOption result ⊥ (λ t. IsFirstTaken left.old.items left.new.items t.name t.left × IsFirstTaken right.old.items right.new.items t.name t.right) }
+fn take_both<E: Edges>(left: &mut E, right: &mut E) -> Option<Taken<E::Name, E::Child>>
+    requires { IsFirstNameOfBoth (E.edges left.old) (E.edges right.old) }
+    ensures { MatchOption result ⊥ (λ t. IsFirstTaken (E.edges left.old) (E.edges left.new) (E.name t.name) (option_map E.child t.left) × IsFirstTaken (E.edges right.old) (E.edges right.new) (E.name t.name) (option_map E.child t.right)) }
 {
-    let (name, child) = left.pop_front()?;
-    let (_, other) = right.pop_front()?;
+    let (name, child) = left.take_first()?;
+    let (_, other) = right.take_first()?;
     Some(Taken {
         name,
         left: Some(child),

@@ -6,10 +6,10 @@ ghost use Rattle.hm_tree.specs.States.{state};
 ghost use Rattle.hm_outcome.specs.Carried.{AreCarried};
 ghost use Rattle.hm_reconcile.specs.Fates.{HasFate};
 ghost use Rattle.hm_reconcile.specs.Taking.{AreTakers, with_name};
-ghost use Rattle.hm_reconcile.specs.Walking.{IsInEither};
+ghost use Rattle.hm_reconcile.specs.Taken.{IsInEither};
 
+use crate::apart::take_next;
 use crate::side::{Fate, fate_of};
-use crate::walk::{behind, next_step};
 use hm_tree::{Archive, Memory, Name, NameSet, Tree};
 use std::alloc::Global;
 
@@ -27,17 +27,12 @@ pub fn carried(
 {
     let mut left_names = Vec::new(alloc);
     let mut right_names = Vec::new(alloc);
-    let mut at = 0;
-    let mut other = 0;
-    loop {
-        let Some(step) = next_step(left, at, right, other) else {
-            break;
-        };
-        let (left_takes, right_takes) = takers(archive, step.name, step.left, step.right);
-        take(&mut left_names, step.name, left_takes)?;
-        take(&mut right_names, step.name, right_takes)?;
-        at = behind(left, at, step.left);
-        other = behind(right, other, step.right);
+    let mut left_rest = left.edges();
+    let mut right_rest = right.edges();
+    while let Some(taken) = take_next(&mut left_rest, &mut right_rest) {
+        let (left_takes, right_takes) = takers(archive, taken.name, taken.left, taken.right);
+        take(&mut left_names, taken.name, left_takes)?;
+        take(&mut right_names, taken.name, right_takes)?;
     }
     Ok((
         NameSet::from_list(left_names)?,

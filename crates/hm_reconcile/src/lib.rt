@@ -4,6 +4,7 @@
 mod apart;
 mod carried;
 mod conflicts;
+mod edges;
 mod marks;
 mod names;
 mod news;
@@ -12,7 +13,6 @@ mod paths;
 mod reasons;
 mod side;
 mod trees;
-mod walk;
 mod whole;
 
 ghost use Rattle.std.specs.Prelude.{IfOk};

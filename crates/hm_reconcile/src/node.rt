@@ -14,7 +14,7 @@ ghost use Rattle.hm_reconcile.specs.Gathering.{with_side, with_trio, outcome_of}
 ghost use Rattle.hm_reconcile.specs.Holding.{Holds};
 ghost use Rattle.hm_reconcile.specs.Naming.{ArePermitted};
 ghost use Rattle.hm_reconcile.specs.Sides.{sides_of};
-ghost use Rattle.hm_reconcile.specs.Walking.{IsInEither};
+ghost use Rattle.hm_reconcile.specs.Taken.{IsInEither};
 
 use crate::apart::{take_next, take_under};
 use crate::names::are_permitted;
@@ -166,10 +166,7 @@ fn at_names(
     let mut old_rest = VecDeque::from_vec(archive.into_edges());
     let mut left_rest = VecDeque::from_vec(left.into_edges());
     let mut right_rest = VecDeque::from_vec(right.into_edges());
-    loop {
-        let Some(taken) = take_next(&mut left_rest, &mut right_rest) else {
-            break;
-        };
+    while let Some(taken) = take_next(&mut left_rest, &mut right_rest) {
         let child = schema.child(id, &taken.name);
         let under = take_under(alloc, &mut old_rest, &taken.name);
         let here = at_name(alloc, schema, child, under, taken.left, taken.right)?;

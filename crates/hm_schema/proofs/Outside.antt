@@ -50,7 +50,7 @@ before_all j k (e ∷ es) lt h =
     rw less (before_all j k es lt (second (is_lt (name_cmp k e.0)) _ h))
 
 -- what holds of each item before a place holds of what is found under a name before the name there
-before_place : {X : Type 0} (P : Name → X → Type 0) (es : List (Name × X)) → T (is_sorted name_cmp es) → (i : ℕ) (k : Name) (c : X) → slice_get es i ≡ Some (k, c) → All (λ e. P e.0 e.1) (take i es) → (j : Name) (d : X) → name_cmp j k ≡ Less → find name_cmp j es ≡ Some d → P j d
+pub before_place : {X : Type 0} (P : Name → X → Type 0) (es : List (Name × X)) → T (is_sorted name_cmp es) → (i : ℕ) (k : Name) (c : X) → slice_get es i ≡ Some (k, c) → All (λ e. P e.0 e.1) (take i es) → (j : Name) (d : X) → name_cmp j k ≡ Less → find name_cmp j es ≡ Some d → P j d
 before_place P [] h i k c at all j d lt e = absurd (none-some d e)
 before_place {X = X} P (x ∷ es) h zero k c at all j d lt e =
     let here : x ≡ (k, c) = same_Some x (k, c) at in

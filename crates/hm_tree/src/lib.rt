@@ -24,5 +24,5 @@ pub use memory::Memory;
 pub use name::Name;
 pub use name_set::NameSet;
 pub use path::Path;
-pub use spelling::{append_path, append_spelled, spell_name, unspell_name};
+pub use spelling::{append_path, append_spelled, spell_byte, spell_name, unspell_name};
 pub use tree::Tree;

@@ -6,6 +6,7 @@ ghost use Rattle.std.specs.Char.{digit_char};
 use crate::memory::Memory;
 use crate::name::Name;
 use crate::path::Path;
+use arrayvec::ArrayVec;
 use std::alloc::Global;
 use std::str;
 
@@ -79,14 +80,28 @@ fn append_pieces(bytes: &[u8], out: &mut Vec<u8>) -> Result<(), Memory>
 fn append_byte(byte: u8, out: &mut Vec<u8>) -> Result<(), Memory>
     ensures { out.new.items ≡ (if is_ok result then out.old.items ++ spelled_byte byte else out.old.items) }
 {
-    if is_quote_or_backslash(byte) {
-        out.extend_from_slice(&[b'\\', byte])?;
-    } else if is_control(byte) {
-        out.extend_from_slice(&[b'\\', b'x', hexadecimal(byte / 16), hexadecimal(byte % 16)])?;
-    } else {
-        out.push(byte)?;
-    }
+    out.extend_from_slice(spell_byte(byte).as_slice())?;
     Ok(())
+}
+
+/// How one byte of a name is spelled: as itself, unless it is a quote, a backslash or a control character of ASCII. It
+/// takes no memory.
+pub fn spell_byte(byte: u8) -> ArrayVec<u8, 4>
+    ensures { result.items ≡ spelled_byte byte }
+{
+    let mut spelled = ArrayVec::new();
+    if is_quote_or_backslash(byte) {
+        spelled.push(b'\\');
+        spelled.push(byte);
+    } else if is_control(byte) {
+        spelled.push(b'\\');
+        spelled.push(b'x');
+        spelled.push(hexadecimal(byte / 16));
+        spelled.push(hexadecimal(byte % 16));
+    } else {
+        spelled.push(byte);
+    }
+    spelled
 }
 
 // The lower-case hexadecimal digit of a number below 16.

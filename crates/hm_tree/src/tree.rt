@@ -82,6 +82,13 @@ impl Tree {
         self.edges
     }
 
+    /// The same, to be looked at.
+    pub fn edges(&self) -> &[(Name, Tree)]
+        ensures { result.now ≡ edges self.now }
+    {
+        &self.edges
+    }
+
     /// The number of its edges.
     pub fn count(&self) -> usize
         ensures { result ≡ length (edges self.now) }

@@ -74,8 +74,8 @@ longer_greater n = by n
     by [] = refl
     by (b ∷ n) = ap (λ o. ordering_then o (slice_cmp nat_cmp n (n ++ 97 ∷ []))) (sym (nat_cmp_is b b Equal refl)) ∙ by n
 
-pub longer_text : (n : Name) → IsUtf8 n → IsUtf8 (longer n)
-longer_text n u = IsUtf8-append n (97 ∷ []) u (IsUtf8-from_ascii (97 ∷ []) ascii)
+pub a_text : IsUtf8 (97 ∷ [])
+a_text = IsUtf8-from_ascii (97 ∷ []) ascii
   where
     ascii : (i : ℕ) → get_or (97 ∷ []) i 0 < 128
     ascii zero = omega arith
@@ -84,3 +84,6 @@ longer_text n u = IsUtf8-append n (97 ∷ []) u (IsUtf8-from_ascii (97 ∷ []) a
         by : (i : ℕ) → get_or [] i 0 < 128
         by zero = omega arith
         by (suc i) = omega arith
+
+pub longer_text : (n : Name) → IsUtf8 n → IsUtf8 (longer n)
+longer_text n u = IsUtf8-append n (97 ∷ []) u a_text

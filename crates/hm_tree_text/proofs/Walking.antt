@@ -1,9 +1,8 @@
 -- A walk along a name's spelling, beside the last name.
-use Rattle.std.proofs.Common.{◌≡◌, ℕ, zero, suc, ◌+◌, ◌-◌, ◌<◌, ◌≤◌, ◌⊎◌, inl, inr, max, Bool, true, false, cond, ◌==◌, List, [], ◌∷◌, ◌++◌, length, take, drop, Option, Some, None, refl, sym, ap, subst, ◌∙◌, append_assoc, arith, eq-eqb, get_or, length-append, length-drop}
+use Rattle.std.proofs.Common.{◌≡◌, ℕ, zero, suc, ◌+◌, ◌-◌, ◌<◌, ◌≤◌, ◌⊎◌, inl, inr, max, Bool, true, false, cond, ◌==◌, List, [], ◌∷◌, ◌++◌, length, take, drop, Option, Some, None, refl, sym, ap, subst, ◌∙◌, append_assoc, arith, eq-eqb, length-append, length-drop}
 use Rattle.std.proofs.lemmas.List.{append-nil, drop-drop, drop_at, take_rest}
 use Rattle.std.proofs.lemmas.Bool.{eqb-true, or_cases, cases_lt}
 use Rattle.std.specs.Prelude.{MatchOption}
-use Rattle.std.proofs.lemmas.Str.{IsUtf8-from_ascii}
 use Rattle.std.specs.Ordering.{nat_cmp, ordering_then, ord_max, is_lt}
 use Rattle.std.specs.Cmp.{nat_cmp_is}
 use Rattle.std.specs.declared.cmp.Ordering.TheVariants.{Less, Equal, Greater}
@@ -15,7 +14,7 @@ use Rattle.hm_tree_text.specs.Begun.{IsBegun}
 use Rattle.hm_tree_text.specs.Characters.{Completes, IsOpen, complete}
 use Rattle.hm_tree_text.specs.Reading.{StandsAt, IsAfter, IsName, BeginsWith, IsLongestPart}
 use Rattle.hm_tree_text.specs.NameRest.{IsByteAt, IsNameRest, IsLeast, left_behind, IsNext, shared, IsMostShared, IsStep, IsLeftOf}
-use Rattle.hm_tree_text.proofs.Behind.{longer, longer_greater, longer_text}
+use Rattle.hm_tree_text.proofs.Behind.{longer, longer_greater, longer_text, a_text}
 use Rattle.hm_tree_text.proofs.Parts.{le_or_more, longest_behind, nothing_here, IsNot}
 use Rattle.hm_tree_text.proofs.Sharing.{shared_le, shared_part, shared_taken}
 use Rattle.hm_tree_text.proofs.Utf8.{continues_more, utf8_nothing, next_byte_below}
@@ -97,16 +96,8 @@ after_least (Some (a ∷ w)) b n h = elim (le_or_more a b) [ inl l ↦ l | inr m
 -- ---- names that go on so
 
 module _ (c : Character) (tie : Option Name) (ties : (w : Name) → tie ≡ Some w → Completes c w) where
-  ascii : (i : ℕ) → get_or (97 ∷ []) i 0 < 128
-  ascii zero = omega arith
-  ascii (suc i) = by i
-    where
-      by : (i : ℕ) → get_or [] i 0 < 128
-      by zero = omega arith
-      by (suc i) = omega arith
-
   longer_completes : (w : Name) → Completes c w → Completes c (longer w)
-  longer_completes w h = continues_more c.missing c.low c.high w (97 ∷ []) h (IsUtf8-from_ascii (97 ∷ []) ascii)
+  longer_completes w h = continues_more c.missing c.low c.high w (97 ∷ []) h a_text
 
   -- there is one
   some_name : IsOpen c → (s : List ℕ) × IsNameRest c tie s

@@ -1,15 +1,14 @@
 //! Where a name can't go on.
 ghost use Rattle.std.specs.Prelude.{◌≡◌, ◌↔◌, ◌<◌, ◌≤◌, ◌∷◌, ◌++◌, true, List, ℕ, IsTrue, length, Option, option_copied, MatchOption};
-ghost use Rattle.std.specs.Char.{digit_char};
 ghost use Rattle.hm_tree.specs.Names.{Name as NameValue};
-ghost use Rattle.hm_tree.specs.Spelling.{is_quote_or_backslash, is_control, is_plain, spelled_byte};
+ghost use Rattle.hm_tree.specs.Spelling.{is_plain, spelled_byte};
 ghost use Rattle.hm_tree_text.specs.Characters.{IsOpen, complete};
 ghost use Rattle.hm_tree_text.specs.NameRest.{IsNameRest, IsLeast, left_behind, IsNext, shared as shared_of, IsMostShared, IsByteAt, IsStep, IsLeftOf};
 ghost use Rattle.hm_tree_text.specs.Reading.{BeginsWith, IsName, IsLongestPart};
 
 use crate::character::{COMPLETE, Character};
 use crate::place::is_at;
-use hm_tree::Name;
+use hm_tree::{Name, spell_byte};
 
 /// The length of the longest part with which the spelling of a name behind the last one goes on.
 pub fn name_fault(bytes: &[u8], last: Option<&Name>) -> usize
@@ -125,7 +124,7 @@ fn plain_at(bytes: &[u8]) -> Option<u8>
         return None;
     }
     let byte = bytes[0];
-    if is_quote_or_backslash(byte) || is_control(byte) {
+    if spell_byte(byte).len() > 1 {
         return None;
     }
     Some(byte)
@@ -136,7 +135,7 @@ fn escaped_at(bytes: &[u8]) -> Option<(u8, usize)>
     ensures { MatchOption result ((b : ℕ) (rest : List ℕ) → b < 128 → ¬ (bytes.now ≡ spelled_byte b ++ rest)) (λ found. (rest : List ℕ) × (found.1 ≡ length (spelled_byte found.0)) × (bytes.now ≡ spelled_byte found.0 ++ rest)) }
 {
     for byte in 0..128 {
-        let length = spelling_length(byte);
+        let length = spell_byte(byte).len();
         if shared_spelling(bytes, byte) == length {
             return Some((byte, length));
         }
@@ -148,26 +147,7 @@ fn escaped_at(bytes: &[u8]) -> Option<(u8, usize)>
 fn shared_spelling(bytes: &[u8], byte: u8) -> usize
     ensures { result ≡ shared_of bytes.now (spelled_byte byte) }
 {
-    if is_quote_or_backslash(byte) {
-        shared(bytes, &[b'\\', byte])
-    } else if is_control(byte) {
-        shared(bytes, &[b'\\', b'x', digit(byte / 16), digit(byte % 16)])
-    } else {
-        shared(bytes, &[byte])
-    }
-}
-
-// How many bytes a byte's spelling has.
-fn spelling_length(byte: u8) -> usize
-    ensures { result ≡ length (spelled_byte byte) }
-{
-    if is_quote_or_backslash(byte) {
-        2
-    } else if is_control(byte) {
-        4
-    } else {
-        1
-    }
+    shared(bytes, spell_byte(byte).as_slice())
 }
 
 // How many of the first bytes are equal.
@@ -181,30 +161,4 @@ fn shared(one: &[u8], other: &[u8]) -> usize
         }
     }
     most
-}
-
-// Whether a byte is a quote or a backslash.
-fn is_quote_or_backslash(byte: u8) -> bool
-    ensures { result ≡ is_quote_or_backslash byte }
-{
-    byte == b'"' || byte == b'\\'
-}
-
-// Whether a byte is a control character of ASCII.
-fn is_control(byte: u8) -> bool
-    ensures { result ≡ is_control byte }
-{
-    byte < 32 || byte == 127
-}
-
-// The lower-case hexadecimal digit of a number below 16.
-fn digit(value: u8) -> u8
-    requires { value < 16 }
-    ensures { result ≡ digit_char value }
-{
-    if value < 10 {
-        b'0' + value
-    } else {
-        b'a' + (value - 10)
-    }
 }

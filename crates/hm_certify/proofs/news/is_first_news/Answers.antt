@@ -1,7 +1,7 @@
 use Rattle.std.proofs.Common.{[], Option, Bor, option_copied, sym, ap, subst, arith}
 use Rattle.hm_tree.specs.Archives.{Archive, under}
 use Rattle.hm_tree.specs.States.{state}
-use Rattle.hm_outcome.proofs.Settled.{has_and_lacks}
+use Rattle.hm_outcome.proofs.Marks.{has_and_lacks}
 use Rattle.hm_certify.specs.Standing.{archive_or_none}
 use Rattle.hm_certify.proofs.Verdicts.{says_no, not_so}
 use Rattle.hm_certify.proofs.Steps.{child_found}
