@@ -1,30 +1,29 @@
 -- What is counted before a line.
-use Rattle.std.proofs.Common.{◌≡◌, ℕ, zero, suc, ◌+◌, ◌<◌, ◌≤◌, Bool, true, false, cond, List, [], ◌∷◌, ◌++◌, length, take, reverse, Option, Some, None, refl, sym, ap, ◌∙◌, arith, count_by, slice_get, get_or}
+use Rattle.std.proofs.Common.{◌≡◌, ℕ, zero, suc, ◌+◌, ◌<◌, ◌≤◌, Bool, true, false, cond, List, [], ◌∷◌, ◌++◌, length, take, reverse, Option, Some, None, is_some, refl, sym, ap, ◌∙◌, arith, count_by, slice_get, get_or}
+use Rattle.std.specs.Int.{from_bool}
 use Rattle.std.specs.List.{Contains, cons_option}
 use Rattle.std.proofs.lemmas.List.{length-append, length-take, length-reverse}
-use Rattle.std.proofs.lemmas.List.Sums.{sum_by-cons, sum_by_push, count_by-le-length}
+use Rattle.std.proofs.lemmas.List.Sums.{sum_by-cons, sum_by_push}
 use Rattle.std.proofs.lemmas.List.Elements.{filter_map-append}
 use Rattle.hm_tree.specs.Names.{Name}
 use Rattle.hm_tree.proofs.Kept.{take_more}
-use Rattle.hm_schema_text.specs.declared.entry.Entry.{Entry}
-use Rattle.hm_schema_text.specs.declared.entry.Entry.TheVariants.{Skipped, Unknown, Says}
-use Rattle.hm_schema_text.specs.declared.item.Item.TheVariants.{Header, Root, Node, Edge, Other, Shape}
 use Rattle.hm_schema_text.specs.declared.before.Before.{Before}
-use Rattle.hm_schema_text.specs.Items.{shape_value, header, root, node, edge, other, shape}
-use Rattle.hm_schema_text.specs.Entries.{EntryValue, skipped, unknown, says, entry_value}
+use Rattle.hm_schema_text.specs.Items.{header, root, node, edge, other, shape}
+use Rattle.hm_schema_text.specs.Entries.{EntryValue, skipped, unknown, says}
 use Rattle.hm_schema_text.specs.Firsts.{listed_name, edge_names}
 use Rattle.hm_schema_text.specs.BadLines.{is_counted, begins_node, is_shape, lines_before, nodes_before, up_to_node, earlier, HasShape, SpeaksOfOthers}
 use Rattle.hm_schema_text.specs.Sections.{speaks_of_others}
-use Rattle.hm_schema_text.specs.Counting.{after, IsBefore}
+use Rattle.hm_schema_text.specs.Counting.{IsBefore}
 use Rattle.hm_schema_text.proofs.Sections.{earlier_next}
 
 -- ---- none, and one
 
-abbrev bit : Bool → ℕ
-bit b = cond b 1 0
+as_byte : (b : Bool) → cond b 1 0 ≡ from_bool b
+as_byte true = refl
+as_byte false = refl
 
-count_cons : (p : EntryValue → Bool) (e : EntryValue) (es : List EntryValue) → count_by p (e ∷ es) ≡ bit (p e) + count_by p es
-count_cons p e es = sum_by-cons (λ x. bit (p x)) e es
+count_cons : (p : EntryValue → Bool) (e : EntryValue) (es : List EntryValue) → count_by p (e ∷ es) ≡ from_bool (p e) + count_by p es
+count_cons p e es = sum_by-cons (λ x. cond (p x) 1 0) e es ∙ ap (λ n. n + count_by p es) (as_byte (p e))
 
 -- where none is counted, none is there
 pub none_counted : (p : EntryValue → Bool) (es : List EntryValue) → count_by p es ≡ 0 → (e : EntryValue) → Contains es e → p e ≡ true → ⊥
@@ -34,7 +33,7 @@ none_counted p es none e there is = go es there.0 there.1 there.2 none
     go [] k below at zero_of = omega arith
     go (d ∷ es) zero below at zero_of =
         let c = count_cons p d es in
-        let one = ap bit (ap p at ∙ is) in
+        let one = ap from_bool (ap p at ∙ is) in
         omega arith
     go (d ∷ es) (suc k) below at zero_of = let c = count_cons p d es in go es k (omega arith) at (omega arith)
 
@@ -47,7 +46,7 @@ one_counted p (d ∷ es) some = go (p d) refl (one_counted p es)
     go true is more = (d, (0, omega arith, refl), is)
     go false is more =
         let c = count_cons p d es in
-        let no = ap bit is in
+        let no = ap from_bool is in
         let f = more (λ none. some (omega arith)) in
         (f.0, (suc f.1.0, (let below = f.1.1 in omega arith), f.1.2), f.2)
 
@@ -79,61 +78,51 @@ has_others es = ((λ h none. none_counted speaks_of_others es none (says (other 
 
 -- ---- before a line
 
--- one more, where a line is counted
-abbrev more : Bool → ℕ → ℕ
-more b n = cond b (n + 1) n
+count_more : (p : EntryValue → Bool) (before : List EntryValue) (e : EntryValue) (n : ℕ) → n ≡ count_by p before → n + from_bool (p e) ≡ count_by p (before ++ e ∷ [])
+count_more p before e n told = ap (λ m. m + from_bool (p e)) told ∙ ap (λ m. count_by p before + m) (sym (as_byte (p e))) ∙ sym (sum_by_push (λ x. cond (p x) 1 0) before e)
 
-abbrev more_listed : Option Name → ℕ → ℕ
-more_listed None n = n
-more_listed (Some k) n = n + 1
-
-is_more : (b : Bool) (n : ℕ) → more b n ≡ n + bit b
-is_more true n = refl
-is_more false n = omega arith
-
-is_more_listed : (o : Option Name) (n : ℕ) → more_listed o n ≡ n + length (cons_option o [])
-is_more_listed None n = omega arith
-is_more_listed (Some k) n = refl
-
-count_more : (p : EntryValue → Bool) (before : List EntryValue) (e : EntryValue) (n : ℕ) → n ≡ count_by p before → more (p e) n ≡ count_by p (before ++ e ∷ [])
-count_more p before e n told = is_more (p e) n ∙ ap (λ m. m + bit (p e)) told ∙ sym (sum_by_push (λ x. bit (p x)) before e)
-
-listed_more : (before : List EntryValue) (e : EntryValue) (n : ℕ) → n ≡ length (edge_names before) → more_listed (listed_name e) n ≡ length (edge_names (before ++ e ∷ []))
+listed_more : (before : List EntryValue) (e : EntryValue) (n : ℕ) → n ≡ length (edge_names before) → n + from_bool (is_some (listed_name e)) ≡ length (edge_names (before ++ e ∷ []))
 listed_more before e n told =
-    is_more_listed (listed_name e) n
-    ∙ ap (λ m. m + length (cons_option (listed_name e) [])) told
+    ap (λ m. m + from_bool (is_some (listed_name e))) told
+    ∙ ap (λ m. length (edge_names before) + m) (as_byte (listed_name e))
     ∙ sym (length-append (edge_names before) (cons_option (listed_name e) []))
     ∙ ap length (sym (filter_map-append listed_name before (e ∷ [])))
+  where
+    as_byte : (o : Option Name) → from_bool (is_some o) ≡ length (cons_option o [])
+    as_byte None = refl
+    as_byte (Some k) = refl
 
 module _ (es : List EntryValue) (i : ℕ) (e : EntryValue) (is : slice_get es i ≡ Some e) (b : Before) (h : IsBefore es i b) where
-  lines_next : more (is_counted e) b.lines ≡ lines_before es (suc i)
+  lines_next : b.lines + from_bool (is_counted e) ≡ lines_before es (suc i)
   lines_next = count_more is_counted (take i es) e b.lines h.lines ∙ ap (count_by is_counted) (sym (take_more es i e is))
 
-  nodes_next : more (begins_node e) b.nodes ≡ nodes_before es (suc i)
+  nodes_next : b.nodes + from_bool (begins_node e) ≡ nodes_before es (suc i)
   nodes_next = count_more begins_node (take i es) e b.nodes h.nodes ∙ ap (count_by begins_node) (sym (take_more es i e is))
 
   -- behind a line that begins no node
-  inside : begins_node e ≡ false → IsBefore es (suc i) (record {
-    lines = more (is_counted e) b.lines;
-    nodes = more (begins_node e) b.nodes;
-    edges = more_listed (listed_name e) b.edges;
-    others = more (speaks_of_others e) b.others;
-    shapes = more (is_shape e) b.shapes;
+  pub inside : begins_node e ≡ false → IsBefore es (suc i) (record {
+    lines = b.lines + from_bool (is_counted e);
+    nodes = b.nodes;
+    edges = b.edges + from_bool (is_some (listed_name e));
+    others = b.others + from_bool (speaks_of_others e);
+    shapes = b.shapes + from_bool (is_shape e);
   })
   inside told =
       let lines = earlier_next es i e is false told in
+      let same = nodes_next in
+      let none = ap from_bool told in
       record {
         lines = lines_next;
-        nodes = nodes_next;
+        nodes = omega arith;
         edges = listed_more (earlier es i) e b.edges h.edges ∙ ap (λ z. length (edge_names z)) (sym lines);
         others = count_more speaks_of_others (earlier es i) e b.others h.others ∙ ap (count_by speaks_of_others) (sym lines);
         shapes = count_more is_shape (earlier es i) e b.shapes h.shapes ∙ ap (count_by is_shape) (sym lines);
       }
 
   -- behind a line that begins one
-  begun : begins_node e ≡ true → IsBefore es (suc i) (record {
-    lines = more (is_counted e) b.lines;
-    nodes = more (begins_node e) b.nodes;
+  pub begun : begins_node e ≡ true → IsBefore es (suc i) (record {
+    lines = b.lines + from_bool (is_counted e);
+    nodes = b.nodes + 1;
     edges = 0;
     others = 0;
     shapes = 0;
@@ -142,21 +131,11 @@ module _ (es : List EntryValue) (i : ℕ) (e : EntryValue) (is : slice_get es i 
       let none = earlier_next es i e is true told in
       record {
         lines = lines_next;
-        nodes = nodes_next;
+        nodes = ap (λ z. b.nodes + from_bool z) (sym told) ∙ nodes_next;
         edges = ap (λ z. length (edge_names z)) (sym none);
         others = ap (count_by speaks_of_others) (sym none);
         shapes = ap (count_by is_shape) (sym none);
       }
-
-pub before_next : (es : List EntryValue) (i : ℕ) (e : Entry) (b : Before) → slice_get es i ≡ Some (entry_value e) → IsBefore es i b → IsBefore es (suc i) (after b e)
-before_next es i Skipped b is h = inside es i skipped is b h refl
-before_next es i Unknown b is h = inside es i unknown is b h refl
-before_next es i (Says Header) b is h = inside es i (says header) is b h refl
-before_next es i (Says (Root w)) b is h = inside es i (says (root w)) is b h refl
-before_next es i (Says (Node w)) b is h = begun es i (says (node w)) is b h refl
-before_next es i (Says (Edge k w)) b is h = inside es i (says (edge k w)) is b h refl
-before_next es i (Says (Other c w)) b is h = inside es i (says (other c w)) is b h refl
-before_next es i (Says (Shape s)) b is h = inside es i (says (shape (shape_value s))) is b h refl
 
 -- ---- no more than there are lines
 
@@ -176,18 +155,10 @@ length_of_names (e ∷ es) = go (listed_name e) (length_of_names es)
     go None more = omega arith
     go (Some k) more = omega arith
 
-earlier_few : (es : List EntryValue) (i : ℕ) → length (earlier es i) ≤ i
+pub earlier_few : (es : List EntryValue) (i : ℕ) → length (earlier es i) ≤ i
 earlier_few es i =
     let lines = take i es in
     omega (arith, length-take i es, length-reverse lines, length_of_node (reverse lines), length-reverse (up_to_node (reverse lines)))
 
-pub before_bounds : (es : List EntryValue) (i : ℕ) (b : Before) → IsBefore es i b → (b.lines ≤ i) × (b.nodes ≤ i) × (b.edges ≤ i) × (b.others ≤ i) × (b.shapes ≤ i)
-before_bounds es i b h =
-    let all = length-take i es in
-    let few = earlier_few es i in (
-      omega (arith, h.lines, count_by-le-length is_counted (take i es)),
-      omega (arith, h.nodes, count_by-le-length begins_node (take i es)),
-      omega (arith, h.edges, length_of_names (earlier es i)),
-      omega (arith, h.others, count_by-le-length speaks_of_others (earlier es i)),
-      omega (arith, h.shapes, count_by-le-length is_shape (earlier es i)),
-    )
+pub edges_few : (es : List EntryValue) (i : ℕ) → length (edge_names (earlier es i)) ≤ i
+edges_few es i = omega (arith, length_of_names (earlier es i), earlier_few es i)

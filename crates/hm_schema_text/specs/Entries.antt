@@ -23,7 +23,7 @@ pub data EntryValue : Type 0 where
 abbrev pub entry_value : Entry → EntryValue
 entry_value Skipped = skipped
 entry_value Unknown = unknown
-entry_value (Says i) = says (item_value i)
+entry_value (Says i) = says (item_value i.value)
 
 abbrev pub entry_values : List Entry → List EntryValue
 entry_values = map entry_value

@@ -1,9 +1,12 @@
 //! What stands before a line.
-ghost use Rattle.std.specs.Prelude.{◌≡◌, ◌+◌, ◌^◌, ◌<◌};
-ghost use Rattle.hm_schema_text.specs.Counting.{nothing, after};
+ghost use Rattle.std.specs.Prelude.{◌≡◌, ◌+◌, ◌<◌, List, length};
+ghost use Rattle.hm_schema_text.specs.Entries.{EntryValue, entry_value, entry_values};
+ghost use Rattle.hm_schema_text.specs.BadLines.{is_counted};
+ghost use Rattle.hm_schema_text.specs.Counting.{IsBefore};
 
 use crate::entry::Entry;
-use crate::item::Item;
+use crate::firsts::listed;
+use crate::section::{begins_node, is_shape, speaks_of_others};
 
 /// How many lines of each kind stand before a line.
 #[derive(Clone, Copy, Drop)]
@@ -20,10 +23,16 @@ pub struct Before {
     pub shapes: usize,
 }
 
+fn is_counted(entry: &Entry) -> bool
+    ensures { result ≡ is_counted (entry_value entry.now) }
+{
+    !matches!(entry, Entry::Skipped)
+}
+
 impl Before {
     /// What stands before the first line.
     pub fn none() -> Before
-        ensures { result ≡ nothing }
+        ensures { (es : List EntryValue) → IsBefore es 0 result }
     {
         Before {
             lines: 0,
@@ -35,48 +44,28 @@ impl Before {
     }
 
     /// What stands before the next line.
-    pub fn with(self, entry: &Entry) -> Before
-        requires lines { self.lines + 1 < 2 ^ 64 }
-        requires nodes { self.nodes + 1 < 2 ^ 64 }
-        requires edges { self.edges + 1 < 2 ^ 64 }
-        requires others { self.others + 1 < 2 ^ 64 }
-        requires shapes { self.shapes + 1 < 2 ^ 64 }
-        ensures { result ≡ after self entry.now }
+    pub fn next(self, entries: &[Entry], place: usize) -> Before
+        requires before { IsBefore (entry_values entries.now) place self }
+        requires place { place < length entries.now }
+        ensures { IsBefore (entry_values entries.now) (place + 1) result }
     {
-        let Entry::Says(item) = entry else {
-            return match entry {
-                Entry::Unknown => Before {
-                    lines: self.lines + 1,
-                    ..self
-                },
-                _ => self,
-            };
-        };
-        let lines = self.lines + 1;
-        match item {
-            Item::Node(_) => Before {
+        let entry = &entries[place];
+        let lines = self.lines + usize::from(is_counted(entry));
+        if begins_node(entry) {
+            return Before {
                 lines,
                 nodes: self.nodes + 1,
                 edges: 0,
                 others: 0,
                 shapes: 0,
-            },
-            Item::Edge(_, _) => Before {
-                lines,
-                edges: self.edges + 1,
-                ..self
-            },
-            Item::Other(_, _) => Before {
-                lines,
-                others: self.others + 1,
-                ..self
-            },
-            Item::Shape(_) => Before {
-                lines,
-                shapes: self.shapes + 1,
-                ..self
-            },
-            _ => Before { lines, ..self },
+            };
+        }
+        Before {
+            lines,
+            nodes: self.nodes,
+            edges: self.edges + usize::from(listed(entry).is_some()),
+            others: self.others + usize::from(speaks_of_others(entry)),
+            shapes: self.shapes + usize::from(is_shape(entry)),
         }
     }
 }

@@ -15,19 +15,12 @@ use crate::firsts::{begun, first_place};
 use crate::item::{Item, ShapeLine};
 use crate::judge::is_empty_node;
 use crate::names::copy_names;
-use crate::section::{begins_node, lines_of_node};
+use crate::section::{begins_node, count_nodes, lines_of_node};
 use hm_schema::{Node, NodeId, Shape};
 use hm_tree::{Class, Memory, Name, NameSet};
 use std::alloc::Global;
 use std::collections::BTreeMap;
 use std::string::String;
-
-// How many node lines there are.
-fn count_nodes(entries: &[Entry]) -> usize
-    ensures { result ≡ count_by begins_node (entry_values entries.now) }
-{
-    entries.iter().filter(|entry| begins_node(entry)).count()
-}
 
 // The node of a name: behind the declared ones for `Empty`.
 fn node_named(declared: &BTreeMap<String, usize>, count: usize, name: &Name) -> NodeId
@@ -54,8 +47,8 @@ fn build_shape(alloc: Global, shape: &ShapeLine) -> Result<Shape, Memory>
 fn shape_of(alloc: Global, entry: &Entry) -> Result<Option<Shape>, Memory>
     ensures { IfOk result (λ shape. shape ≡ shape_of (entry_value entry.now)) }
 {
-    match entry {
-        Entry::Says(Item::Shape(shape)) => Ok(Some(build_shape(alloc, shape)?)),
+    match entry.item() {
+        Some(Item::Shape(shape)) => Ok(Some(build_shape(alloc, shape)?)),
         _ => Ok(None),
     }
 }
@@ -68,11 +61,8 @@ fn child_of(
 ) -> Result<Option<(Name, NodeId)>, Memory>
     ensures { IfOk result (λ child. child ≡ child_of (id_in declared.now count) (entry_value entry.now)) }
 {
-    match entry {
-        Entry::Says(Item::Edge(name, node)) => Ok(Some((
-            name.copy()?,
-            node_named(declared, count, node),
-        ))),
+    match entry.item() {
+        Some(Item::Edge(name, node)) => Ok(Some((name.copy()?, node_named(declared, count, node)))),
         _ => Ok(None),
     }
 }
@@ -85,10 +75,8 @@ fn other_of(
 ) -> Option<(Class, NodeId)>
     ensures { result ≡ other_of (id_in declared.now count) (entry_value entry.now) }
 {
-    match entry {
-        Entry::Says(Item::Other(class, node)) => {
-            Some((*class, node_named(declared, count, node)))
-        }
+    match entry.item() {
+        Some(Item::Other(class, node)) => { Some((*class, node_named(declared, count, node))) }
         _ => None,
     }
 }
@@ -199,10 +187,10 @@ fn empty_node(alloc: Global) -> Result<Node, Memory>
 fn named(entry: &Entry) -> Option<&Name>
     ensures { option_copied result ≡ name_in (entry_value entry.now) }
 {
-    match entry {
-        Entry::Says(Item::Root(name)) => Some(name),
-        Entry::Says(Item::Edge(_, name)) => Some(name),
-        Entry::Says(Item::Other(_, name)) => Some(name),
+    match entry.item() {
+        Some(Item::Root(name)) => Some(name),
+        Some(Item::Edge(_, name)) => Some(name),
+        Some(Item::Other(_, name)) => Some(name),
         _ => None,
     }
 }
@@ -227,8 +215,8 @@ fn is_empty_named(entries: &[Entry]) -> bool
 fn root_name(entry: &Entry) -> Option<&Name>
     ensures { option_copied result ≡ root_name (entry_value entry.now) }
 {
-    match entry {
-        Entry::Says(Item::Root(name)) => Some(name),
+    match entry.item() {
+        Some(Item::Root(name)) => Some(name),
         _ => None,
     }
 }

@@ -1,6 +1,7 @@
 //! The lines of a schema file.
-ghost use Rattle.std.specs.Prelude.{◌≡◌, ◌↔◌, IsTrue, IfOk};
-ghost use Rattle.hm_schema_text.specs.Entries.{IsSkipped, IsBlank, IsEntry, IsFile, entry_value, entry_values};
+ghost use Rattle.std.specs.Prelude.{◌≡◌, ◌⊎◌, ◌↔◌, IsTrue, IfOk, MatchOption};
+ghost use Rattle.hm_schema_text.specs.Items.{item_value};
+ghost use Rattle.hm_schema_text.specs.Entries.{IsSkipped, IsBlank, IsEntry, IsFile, skipped, unknown, says, entry_value, entry_values};
 
 use crate::item::{Item, read_item};
 use bstr::ByteSlice;
@@ -14,7 +15,20 @@ pub enum Entry {
     Skipped,
     /// No line of a schema.
     Unknown,
-    Says(Item),
+    /// Behind a pointer, so that the many lines that are skipped take little room.
+    Says(Box<Item>),
+}
+
+impl Entry {
+    /// What the line says, if it says something.
+    pub fn item(&self) -> Option<&Item>
+        ensures { MatchOption result ((entry_value self.now ≡ skipped) ⊎ (entry_value self.now ≡ unknown)) (λ item. entry_value self.now ≡ says (item_value item.now)) }
+    {
+        match self {
+            Entry::Says(item) => Some(item),
+            _ => None,
+        }
+    }
 }
 
 // Whether a line is of spaces alone, or empty.
@@ -38,7 +52,7 @@ fn read_entry(alloc: Global, line: &[u8]) -> Result<Entry, Memory>
         return Ok(Entry::Skipped);
     }
     match read_item(alloc, line)? {
-        Some(item) => Ok(Entry::Says(item)),
+        Some(item) => Ok(Entry::Says(Box::new(alloc, item)?)),
         None => Ok(Entry::Unknown),
     }
 }

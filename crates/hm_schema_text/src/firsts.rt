@@ -24,18 +24,18 @@ pub enum Naming {
 pub fn begun(entry: &Entry) -> Option<&Name>
     ensures { option_copied result ≡ begun_name (entry_value entry.now) }
 {
-    match entry {
-        Entry::Says(Item::Node(name)) => Some(name),
+    match entry.item() {
+        Some(Item::Node(name)) => Some(name),
         _ => None,
     }
 }
 
-// The name that a line lists.
-fn listed(entry: &Entry) -> Option<&Name>
+/// The name that a line lists.
+pub fn listed(entry: &Entry) -> Option<&Name>
     ensures { option_copied result ≡ listed_name (entry_value entry.now) }
 {
-    match entry {
-        Entry::Says(Item::Edge(name, _)) => Some(name),
+    match entry.item() {
+        Some(Item::Edge(name, _)) => Some(name),
         _ => None,
     }
 }

@@ -277,7 +277,7 @@ pub fn first_bad(
         if is_bad(alloc, &line)? {
             return Ok(Some(place));
         }
-        before = before.with(&entries[place]);
+        before = before.next(entries, place);
     }
     Ok(None)
 }

@@ -1,5 +1,5 @@
 //! What the lines of a node hold.
-ghost use Rattle.std.specs.Prelude.{◌≡◌, ◌<◌, suc, not, length, IfOk};
+ghost use Rattle.std.specs.Prelude.{◌≡◌, ◌<◌, suc, not, length, count_by, IfOk};
 ghost use Rattle.std.specs.List.{prefix_len};
 ghost use Rattle.hm_schema_text.specs.Entries.{entry_value, entry_values};
 ghost use Rattle.hm_schema_text.specs.BadLines.{begins_node, up_to_node, around, is_shape};
@@ -27,7 +27,14 @@ pub struct Section {
 pub fn begins_node(entry: &Entry) -> bool
     ensures { result ≡ begins_node (entry_value entry.now) }
 {
-    matches!(entry, Entry::Says(Item::Node(_)))
+    matches!(entry.item(), Some(Item::Node(_)))
+}
+
+/// How many lines begin a node.
+pub fn count_nodes(entries: &[Entry]) -> usize
+    ensures { result ≡ count_by begins_node (entry_values entries.now) }
+{
+    entries.iter().filter(|entry| begins_node(entry)).count()
 }
 
 // How many lines there are up to the next that begins a node.
@@ -48,16 +55,18 @@ pub fn lines_of_node(entries: &[Entry]) -> &[Entry]
     &entries[..length_of_node(entries)]
 }
 
-fn speaks_of_others(entry: &Entry) -> bool
+/// Whether a line speaks of unlisted names.
+pub fn speaks_of_others(entry: &Entry) -> bool
     ensures { result ≡ speaks_of_others (entry_value entry.now) }
 {
-    matches!(entry, Entry::Says(Item::Other(_, _)))
+    matches!(entry.item(), Some(Item::Other(_, _)))
 }
 
-fn is_shape(entry: &Entry) -> bool
+/// Whether a line is a shape.
+pub fn is_shape(entry: &Entry) -> bool
     ensures { result ≡ is_shape (entry_value entry.now) }
 {
-    matches!(entry, Entry::Says(Item::Shape(_)))
+    matches!(entry.item(), Some(Item::Shape(_)))
 }
 
 /// What the lines hold up to the next that begins a node.

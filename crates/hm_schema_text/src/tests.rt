@@ -6,15 +6,15 @@ use std::test::Fail;
 
 // One letter for each line: s where it is skipped, u where it says nothing, and else the first letter of its item.
 fn letter(entry: &Entry) -> u8 {
-    match entry {
-        Entry::Skipped => b's',
-        Entry::Unknown => b'u',
-        Entry::Says(Item::Header) => b'h',
-        Entry::Says(Item::Root(_)) => b'r',
-        Entry::Says(Item::Node(_)) => b'n',
-        Entry::Says(Item::Edge(_, _)) => b'e',
-        Entry::Says(Item::Other(_, _)) => b'o',
-        Entry::Says(Item::Shape(_)) => b'x',
+    match entry.item() {
+        None if matches!(entry, Entry::Skipped) => b's',
+        None => b'u',
+        Some(Item::Header) => b'h',
+        Some(Item::Root(_)) => b'r',
+        Some(Item::Node(_)) => b'n',
+        Some(Item::Edge(_, _)) => b'e',
+        Some(Item::Other(_, _)) => b'o',
+        Some(Item::Shape(_)) => b'x',
     }
 }
 
