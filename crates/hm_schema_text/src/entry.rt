@@ -61,7 +61,8 @@ fn read_entry(alloc: Global, line: &[u8]) -> Result<Entry, Memory>
 pub fn read_entries(alloc: Global, bytes: &[u8]) -> Result<Vec<Entry>, Memory>
     ensures { IfOk result (λ entries. IsFile bytes.now (entry_values entries.items)) }
 {
-    let mut entries = Vec::new(alloc);
+    // The lines are counted first: a vector that grows holds up to three times the room for a while.
+    let mut entries = Vec::with_capacity(alloc, bytes.lines().count())?;
     for line in bytes.lines() {
         entries.push(read_entry(alloc, line)?)?;
     }

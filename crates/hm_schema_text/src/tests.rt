@@ -1,6 +1,7 @@
 //! Files, and what each of their lines is read as.
 use crate::{Count, Entry, Item, read_entries, read_item};
 use std::alloc::Global;
+use std::mem::size_of;
 use std::process::Abort;
 use std::test::Fail;
 
@@ -76,6 +77,12 @@ fn expect_count(rt: &impl Abort, alloc: Global, line: &[u8], want: Count) -> Res
         }
         _ => Err("no shape is read")?,
     }
+}
+
+#[test]
+fn an_entry_takes_two_words(rt: HostRuntime) -> Result<(), Fail> {
+    assert_eq!(&rt; size_of::<Entry>(), 16);
+    Ok(())
 }
 
 #[test]

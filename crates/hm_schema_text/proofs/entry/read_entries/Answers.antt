@@ -6,7 +6,7 @@ use Rattle.hm_schema_text.proofs.Entries.{none_read, read_one, all_read}
 use Rattle.hm_schema_text.proofs.entry.read_entries.Goals as goal
 
 pub loop-line-init : goal.loop-line-init
-loop-line-init c = none_read _ _ (ap entry_values c.new-entries.ensures.items)
+loop-line-init c = none_read _ _ (ap entry_values c.in_ok-entries.ensures.items)
 
 pub loop-line-preserved : goal.loop-line-preserved
 loop-line-preserved c =
