@@ -1,5 +1,5 @@
 -- A node that is built from the lines of a node is theirs.
-use Rattle.std.proofs.Common.{◌≡◌, ℕ, zero, suc, ◌+◌, ◌<◌, ◌≤◌, Bool, true, false, cond, T, List, [], ◌∷◌, length, get_or, Option, Some, None, refl, sym, ap, subst, ◌∙◌, arith, slice_get, drop, map, filter_map}
+use Rattle.std.proofs.Common.{◌≡◌, ◌≢◌, ◌⊎◌, inl, inr, ℕ, zero, suc, ◌+◌, ◌<◌, ◌≤◌, Bool, true, false, cond, T, List, [], ◌∷◌, length, get_or, Option, Some, None, refl, sym, ap, subst, ◌∙◌, arith, slice_get, take, map, filter_map}
 use Rattle.std.specs.Prelude.{IsSortedByKey}
 use Rattle.std.specs.Ordering.{is_lt, is_eq}
 use Rattle.std.specs.declared.cmp.Ordering.{Ordering}
@@ -9,65 +9,34 @@ use Rattle.std.specs.FinMap.{is_sorted, find}
 use Rattle.std.proofs.lemmas.Bool.{true≢false, false_from_ne_true}
 use Rattle.std.proofs.lemmas.Cmp.{tied_itself, eq_by_cmp_equiv}
 use Rattle.std.proofs.lemmas.Option.{same_Some, some_pair_parts, slice_get_within, get_or_from_slice_get}
-use Rattle.std.proofs.lemmas.List.{drop_all, length-map, get_or-map}
+use Rattle.std.proofs.lemmas.List.{take_all, length-map, get_or-map}
+use Rattle.std.proofs.lemmas.List.Elements.{Contains-append_cases}
 use Rattle.std.proofs.lemmas.List.Sorted.{ranks_by, sorted_far}
 use Rattle.std.proofs.lemmas.Map.Keys.{IsDistinct-head, IsDistinct-tail, IsDistinct-cons, apart_from_distinct}
 use Rattle.hm_tree.specs.Names.{Name, name_cmp}
 use Rattle.hm_tree.specs.Nodes.{both, below_all}
-use Rattle.hm_tree.specs.declared.class.Class.{Class}
 use Rattle.hm_tree.proofs.Sorted.{name_total, back_greater}
 use Rattle.hm_tree.proofs.NameSets.{tied, tied_one}
 use Rattle.hm_schema.specs.declared.node.NodeId.{NodeId}
 use Rattle.hm_schema_text.specs.declared.entry.Entry.{Entry}
-use Rattle.hm_schema_text.specs.Items.{header, root, node, edge, other, shape}
-use Rattle.hm_schema_text.specs.Entries.{EntryValue, skipped, unknown, says, entry_value, entry_values}
+use Rattle.hm_schema_text.specs.Items.{edge, shape}
+use Rattle.hm_schema_text.specs.Entries.{EntryValue, says, entry_value, entry_values}
 use Rattle.hm_schema_text.specs.BadLines.{Says}
 use Rattle.hm_schema_text.specs.SchemaFiles.{shapes_in, as_shape}
-use Rattle.hm_schema_text.specs.Building.{shape_of, child_of, other_of, root_name}
-use Rattle.hm_schema_text.proofs.Made.{At, at_place, made_at, entry_at}
+use Rattle.hm_schema_text.specs.Building.{shape_of, child_of}
+use Rattle.hm_schema_text.proofs.Made.{At, at_place}
+use Rattle.hm_schema_text.proofs.Places.{one_more}
 
 -- ---- what a line says, by what it adds
 
 pub is_child : (id : Name → NodeId) (e : EntryValue) (k : Name) (i : NodeId) → child_of id e ≡ Some (k, i) → (w : Name) × (e ≡ says (edge k w)) × (i ≡ id w)
-is_child id skipped k i h = let no : ⊥ = cc in absurd no
-is_child id unknown k i h = let no : ⊥ = cc in absurd no
-is_child id (says header) k i h = let no : ⊥ = cc in absurd no
-is_child id (says (root v)) k i h = let no : ⊥ = cc in absurd no
-is_child id (says (node v)) k i h = let no : ⊥ = cc in absurd no
 is_child id (says (edge l v)) k i h = let p = some_pair_parts l k (id v) i h in (v, ap (λ z. says (edge z v)) p.0, sym p.1)
-is_child id (says (other c v)) k i h = let no : ⊥ = cc in absurd no
-is_child id (says (shape s)) k i h = let no : ⊥ = cc in absurd no
-
-pub is_other : (id : Name → NodeId) (e : EntryValue) (c : Class) (i : NodeId) → other_of id e ≡ Some (c, i) → (w : Name) × (e ≡ says (other c w)) × (i ≡ id w)
-is_other id skipped c i h = let no : ⊥ = cc in absurd no
-is_other id unknown c i h = let no : ⊥ = cc in absurd no
-is_other id (says header) c i h = let no : ⊥ = cc in absurd no
-is_other id (says (root v)) c i h = let no : ⊥ = cc in absurd no
-is_other id (says (node v)) c i h = let no : ⊥ = cc in absurd no
-is_other id (says (edge l v)) c i h = let no : ⊥ = cc in absurd no
-is_other id (says (other d v)) c i h = let p = some_pair_parts d c (id v) i h in (v, ap (λ z. says (other z v)) p.0, sym p.1)
-is_other id (says (shape s)) c i h = let no : ⊥ = cc in absurd no
-
-is_root : (e : EntryValue) (w : Name) → root_name e ≡ Some w → e ≡ says (root w)
-is_root skipped w h = let no : ⊥ = cc in absurd no
-is_root unknown w h = let no : ⊥ = cc in absurd no
-is_root (says header) w h = let no : ⊥ = cc in absurd no
-is_root (says (root v)) w h = ap (λ z. says (root z)) (same_Some v w h)
-is_root (says (node v)) w h = let no : ⊥ = cc in absurd no
-is_root (says (edge l v)) w h = let no : ⊥ = cc in absurd no
-is_root (says (other d v)) w h = let no : ⊥ = cc in absurd no
-is_root (says (shape s)) w h = let no : ⊥ = cc in absurd no
+is_child id e k i h = let no : ⊥ = cc in absurd no
 
 pub shapes_are : (es : List EntryValue) → filter_map shape_of es ≡ map as_shape (shapes_in es)
 shapes_are [] = refl
-shapes_are (skipped ∷ es) = shapes_are es
-shapes_are (unknown ∷ es) = shapes_are es
-shapes_are (says header ∷ es) = shapes_are es
-shapes_are (says (root w) ∷ es) = shapes_are es
-shapes_are (says (node w) ∷ es) = shapes_are es
-shapes_are (says (edge k w) ∷ es) = shapes_are es
-shapes_are (says (other c w) ∷ es) = shapes_are es
 shapes_are (says (shape s) ∷ es) = ap (λ z. as_shape s ∷ z) (shapes_are es)
+shapes_are (e ∷ es) = shapes_are es
 
 -- ---- entries under names of which none stands twice
 
@@ -134,15 +103,18 @@ module _ (id : Name → NodeId) where
           let l = is_child id e c.0 c.1 is in
           IsDistinct-cons tied c.0 (keys (filter_map (child_of id) es)) (apart c.0 es (λ m v h. once c.0 l.0 v 0 (suc m) (ap Some l.1) h (omega arith))) rest
 
--- ---- what is read from entries
+-- ---- what is looked for, one line after another
 
-pub root_at : (xs : List Entry) (i : ℕ) (x : Entry) (w : Name) → i < length xs → x ≡ get_or xs i x → root_name (entry_value x) ≡ Some w → Says (entry_values xs) i (root w)
-root_at xs i x w within is name = entry_at xs i x within is ∙ ap Some (is_root (entry_value x) w name)
+alone : (e x : EntryValue) (m : ℕ) → slice_get (e ∷ []) m ≡ Some x → e ≡ x
+alone e x zero is = same_Some e x is
+alone e x (suc m) is = let no : ⊥ = cc in absurd no
 
-pub no_root : (xs : List Entry) (i : ℕ) → length xs ≤ i → filter_map root_name (entry_values xs) ≡ filter_map root_name (entry_values (drop i xs)) → (w : Name) → ¬ (Contains (entry_values xs) (says (root w)))
-no_root xs i all left w c =
-    let a = at_place (entry_values xs) (says (root w)) c in
-    let b = made_at root_name (entry_values xs) w a.0 (says (root w)) a.1 refl in
-    let none : None ≡ Some w = sym (ap (λ z. slice_get z b.0) (left ∙ ap (λ z. filter_map root_name (entry_values z)) (drop_all i xs all))) ∙ b.1 in
-    let no : ⊥ = cc in
-    no
+pub none_next : (xs : List Entry) (i : ℕ) (e : Entry) → i < length xs → e ≡ get_or xs i e → (x : EntryValue) → ¬ (Contains (entry_values (take i xs)) x) → entry_value e ≢ x → ¬ (Contains (entry_values (take (i + 1) xs)) x)
+none_next xs i e below is x none not_it c = go (Contains-append_cases (entry_values (take i xs)) (entry_value e ∷ []) x (subst (λ z. Contains z x) (one_more xs i e below is) c))
+  where
+    go : Contains (entry_values (take i xs)) x ⊎ Contains (entry_value e ∷ []) x → ⊥
+    go (inl h) = none h
+    go (inr h) = let a = at_place (entry_value e ∷ []) x h in not_it (alone (entry_value e) x a.0 a.1)
+
+pub none_left : (xs : List Entry) (i : ℕ) → length xs ≤ i → (x : EntryValue) → ¬ (Contains (entry_values (take i xs)) x) → ¬ (Contains (entry_values xs) x)
+none_left xs i past x none c = none (subst (λ z. Contains (entry_values z) x) (sym (take_all i xs past)) c)

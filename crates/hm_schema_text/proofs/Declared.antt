@@ -17,6 +17,7 @@ use Rattle.hm_schema_text.specs.Items.{ItemValue, header, root, node, edge, othe
 use Rattle.hm_schema_text.specs.Entries.{EntryValue, skipped, unknown, says}
 use Rattle.hm_schema_text.specs.BadLines.{Says, named, is_counted, is_placed, begins_node, lines_before, nodes_before, behind, unreadable, misplaced, declared_twice, declares_empty, HasNoBadLine}
 use Rattle.hm_schema_text.specs.SchemaFiles.{IsPlaceOf, declared, empty, IsNodeOf, NamesEmpty, IsSchemaOf, empty_node}
+use Rattle.hm_schema_text.specs.Building.{NamesIt}
 
 -- ---- lines that are counted
 
@@ -112,9 +113,6 @@ module _ (es lines : List EntryValue) (n m : NodeValue) (h : IsNodeOf es lines n
       ∙ ap (λ z. record { shapes = m.shapes; children = m.children; other = m.other; twins = z }) (h.twins ∙ sym k.twins)
 
 -- ---- whether `Empty` is named
-
-abbrev NamesIt : EntryValue → Type 0
-NamesIt e = (x : ItemValue) × (e ≡ says x) × (named x ≡ Some (codes "Empty"))
 
 pub it_or : (o : Option Name) → (o ≡ Some (codes "Empty")) ⊎ ((o ≡ Some (codes "Empty")) → ⊥)
 it_or None = inr (λ h. let f : ⊥ = cc in f)

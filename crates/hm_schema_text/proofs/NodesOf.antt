@@ -1,5 +1,5 @@
 -- The nodes that are built are those of the file.
-use Rattle.std.proofs.Common.{◌≡◌, inl, inr, ℕ, zero, suc, ◌+◌, ◌<◌, Bool, true, false, List, [], ◌∷◌, ◌++◌, length, get_or, Some, refl, sym, ap, subst, ◌∙◌, arith, ◌-◌, add-one, slice_get, take, drop, filter_map, count_by}
+use Rattle.std.proofs.Common.{◌≡◌, inl, inr, ℕ, zero, suc, ◌+◌, ◌<◌, Bool, true, false, List, [], ◌∷◌, ◌++◌, length, get_or, Option, Some, None, refl, sym, ap, subst, ◌∙◌, arith, ◌-◌, add-one, slice_get, take, drop, filter_map, count_by}
 use Rattle.std.specs.Prelude.{MatchBool, ◌↔◌, IsTrue, codes}
 use Rattle.std.specs.List.{Contains, IsDistinct, HoldsAt, AllWithin}
 use Rattle.std.specs.FinMap.{find}
@@ -19,14 +19,14 @@ use Rattle.hm_schema.specs.Values.{NodeValue}
 use Rattle.hm_schema_text.specs.declared.entry.Entry.{Entry}
 use Rattle.hm_schema_text.specs.declared.entry.Entry.TheVariants.{Skipped}
 use Rattle.hm_schema_text.specs.Items.{ItemValue, node, edge, other}
-use Rattle.hm_schema_text.specs.Entries.{EntryValue, skipped, unknown, says, entry_value, entry_values}
+use Rattle.hm_schema_text.specs.Entries.{EntryValue, says, entry_value, entry_values}
 use Rattle.hm_schema_text.specs.BadLines.{Says, named, behind, up_to_node, begins_node, nodes_before, listed_twice, others_twice, HasNoBadLine}
 use Rattle.hm_schema_text.specs.SchemaFiles.{IsPlaceOf, IsNodeOf, AreNodesOf, NamesEmpty, empty_node}
-use Rattle.hm_schema_text.specs.Building.{child_of, other_of, name_in, IsBuilt, AreBuilt}
+use Rattle.hm_schema_text.specs.Building.{child_of, IsOtherOf, NamesIt, IsBuilt, AreBuilt}
 use Rattle.hm_schema_text.proofs.Declared.{before_it, place_once}
 use Rattle.hm_schema_text.proofs.Sections.{in_file}
 use Rattle.hm_schema_text.proofs.Made.{at_place, from_place, made_from, made_at}
-use Rattle.hm_schema_text.proofs.Building.{is_child, is_other, shapes_are, keys, rising, found, found_from, distinct}
+use Rattle.hm_schema_text.proofs.Building.{is_child, shapes_are, keys, rising, found, found_from, distinct}
 
 -- the names that are named have their places
 abbrev pub ArePlaced : List EntryValue → (Name → NodeId) → Type 0
@@ -79,31 +79,24 @@ module _ (es : List EntryValue) (none : HasNoBadLine es) (i : ℕ) (w : Name) (i
 
       other_from : (c : Class) (d : NodeId) → n.other ≡ Some (c, d) → (v : Name) × Contains (behind es i) (says (other c v)) × IsPlaceOf es v d.place
       other_from c d f =
-          let m = made_from (other_of id) (behind es i) (c, d) (0, sym b.other ∙ f) in
-          let l = is_other id m.entry c d m.made in
-          let said : Says (behind es i) m.line (other c l.0) = m.is ∙ ap Some l.1 in
-          (l.0, from_place (behind es i) (says (other c l.0)) (m.line, said), subst (λ (z : NodeId). IsPlaceOf es l.0 z.place) (sym l.2) (has_place m.line (other c l.0) l.0 said refl))
+          let o = subst (IsOtherOf id (behind es i)) f b.other in
+          let a = at_place (behind es i) (says (other c o.0)) o.1 in
+          (o.0, o.1, subst (λ (z : NodeId). IsPlaceOf es o.0 z.place) (sym o.2) (has_place a.0 (other c o.0) o.0 a.1 refl))
 
       other_to : (c : Class) (d : NodeId) (v : Name) → Contains (behind es i) (says (other c v)) → IsPlaceOf es v d.place → n.other ≡ Some (c, d)
-      other_to c d v h place =
-          let a = at_place (behind es i) (says (other c v)) h in
-          let same = same_id a.0 (other c v) v d a.1 refl place in
-          let made : other_of id (says (other c v)) ≡ Some (c, d) = ap (λ (z : NodeId). Some (c, z)) (sym same) in
-          let m = made_at (other_of id) (behind es i) (c, d) a.0 (says (other c v)) a.1 made in
-          by a.0 a.1 made (front (filter_map (other_of id) (behind es i)) (c, d) m.0 m.1)
+      other_to c d v h place = go n.other refl b.other
         where
-          front : (xs : List (Class × NodeId)) (x : Class × NodeId) (m : ℕ) → slice_get xs m ≡ Some x → (y : Class × NodeId) × (slice_get xs 0 ≡ Some y)
-          front [] x m is = let no : ⊥ = cc in absurd no
-          front (y ∷ xs) x m is = (y, refl)
-
-          by : (m : ℕ) → Says (behind es i) m (other c v) → other_of id (says (other c v)) ≡ Some (c, d) → (y : Class × NodeId) × (slice_get (filter_map (other_of id) (behind es i)) 0 ≡ Some y) → n.other ≡ Some (c, d)
-          by m said made y =
-              let f = made_from (other_of id) (behind es i) y.0 (0, y.1) in
-              let l = is_other id f.entry y.0.0 y.0.1 f.made in
-              let first : Says (behind es i) f.line (other y.0.0 l.0) = f.is ∙ ap Some l.1 in
-              let line : f.line ≡ m = omega (arith, others_once c y.0.0 v l.0 m f.line said first, others_once y.0.0 c l.0 v f.line m first said) in
-              let entry : f.entry ≡ says (other c v) = same_Some f.entry (says (other c v)) (sym f.is ∙ ap (slice_get (behind es i)) line ∙ said) in
-              b.other ∙ y.1 ∙ sym f.made ∙ ap (other_of id) entry ∙ made
+          go : (o : Option (Class × NodeId)) → n.other ≡ o → IsOtherOf id (behind es i) o → n.other ≡ Some (c, d)
+          go None is none = absurd (none (c, v, h))
+          go (Some o) is said =
+              let a = at_place (behind es i) (says (other c v)) h in
+              let m = at_place (behind es i) (says (other o.0 said.0)) said.1 in
+              let line : m.0 ≡ a.0 = omega (arith, others_once c o.0 v said.0 a.0 m.0 a.1 m.1, others_once o.0 c said.0 v m.0 a.0 m.1 a.1) in
+              let both : Some (says (other o.0 said.0)) ≡ Some (says (other c v)) = sym m.1 ∙ ap (slice_get (behind es i)) line ∙ a.1 in
+              let class : o.0 ≡ c = cc in
+              let name : said.0 ≡ v = cc in
+              let place_is : o.1 ≡ d = said.2 ∙ ap id name ∙ sym (same_id a.0 (other c v) v d a.1 refl place) in
+              is ∙ ap (λ (k : Class). Some (k, o.1)) class ∙ ap (λ (z : NodeId). Some (c, z)) place_is
 
       pub is_node : IsNodeOf es (behind es i) n
       is_node = record {
@@ -192,17 +185,9 @@ module _ (es : List EntryValue) (none : HasNoBadLine es) (id : Name → NodeId) 
 
 -- ---- whether `Empty` is named
 
-abbrev pub NamesIt : Entry → Type 0
-NamesIt e = name_in (entry_value e) ≡ Some (codes "Empty")
-
-it_says : (e : EntryValue) (v : Name) → name_in e ≡ Some v → (x : ItemValue) × (e ≡ says x) × (named x ≡ Some v)
-it_says skipped v h = let no : ⊥ = cc in absurd no
-it_says unknown v h = let no : ⊥ = cc in absurd no
-it_says (says x) v h = (x, refl, h)
-
-pub names_empty : (xs : List Entry) (r : Bool) → MatchBool r ((k : ℕ) × (k < length xs) × HoldsAt NamesIt xs k) (AllWithin (λ e. ¬ (NamesIt e)) xs 0 (length xs)) → IsTrue r ↔ NamesEmpty (entry_values xs)
+pub names_empty : (xs : List Entry) (r : Bool) → MatchBool r ((k : ℕ) × (k < length xs) × HoldsAt (λ e. NamesIt (entry_value e)) xs k) (AllWithin (λ e. ¬ (NamesIt (entry_value e))) xs 0 (length xs)) → IsTrue r ↔ NamesEmpty (entry_values xs)
 names_empty xs true h =
-    let s = it_says (entry_value (get_or xs h.0 Skipped)) (codes "Empty") (h.2 Skipped) in
+    let s = h.2 Skipped in
     (λ _. (s.0, (h.0, omega (arith, h.1, length-map xs entry_value), get_or-map entry_value xs h.0 Skipped (says s.0) h.1 ∙ s.1), s.2), λ _. refl)
 names_empty xs false h =
-    (λ r. absurd (true≢false (sym r)), λ k. let within : k.1.0 < length xs = omega (arith, k.1.1, length-map xs entry_value) in absurd (h k.1.0 Skipped (omega arith) within (ap name_in (sym (get_or-map entry_value xs k.1.0 Skipped (says k.0) within) ∙ k.1.2) ∙ k.2)))
+    (λ r. absurd (true≢false (sym r)), λ k. let within : k.1.0 < length xs = omega (arith, k.1.1, length-map xs entry_value) in absurd (h k.1.0 Skipped (omega arith) within (k.0, sym (get_or-map entry_value xs k.1.0 Skipped (says k.0) within) ∙ k.1.2, k.2)))

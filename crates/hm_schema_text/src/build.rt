@@ -1,14 +1,15 @@
 //! The nodes of a schema, from the lines of a file without a bad line.
-ghost use Rattle.std.specs.Prelude.{◌≡◌, ◌↔◌, IsTrue, IfOk, MatchOption, map, length, count_by, filter_map, option_copied, Some, codes};
+ghost use Rattle.std.specs.Prelude.{◌≡◌, ◌≢◌, ◌↔◌, IsTrue, IfOk, MatchOption, map, length, count_by, filter_map, option_copied};
 ghost use Rattle.std.specs.List.{Contains};
 ghost use Rattle.hm_tree.specs.Names.{Name};
+ghost use Rattle.hm_tree.specs.declared.class.Class.{Class};
 ghost use Rattle.hm_schema.specs.Values.{node_value};
-ghost use Rattle.hm_schema_text.specs.Items.{root, shape_value};
+ghost use Rattle.hm_schema_text.specs.Items.{root, other, shape_value, item_value};
 ghost use Rattle.hm_schema_text.specs.Entries.{entry_value, entry_values, says};
 ghost use Rattle.hm_schema_text.specs.Firsts.{AreFirsts, node_names};
-ghost use Rattle.hm_schema_text.specs.BadLines.{HasNoBadLine, begins_node};
+ghost use Rattle.hm_schema_text.specs.BadLines.{HasNoBadLine, begins_node, named};
 ghost use Rattle.hm_schema_text.specs.SchemaFiles.{AreNodesOf, IsRootOf, NamesEmpty, as_shape, empty_node};
-ghost use Rattle.hm_schema_text.specs.Building.{id_in, shape_of, child_of, other_of, root_name, first_of, name_in, IsBuilt, AreBuilt};
+ghost use Rattle.hm_schema_text.specs.Building.{id_in, shape_of, child_of, IsOtherOf, NamesIt, IsBuilt, AreBuilt};
 
 use crate::entry::Entry;
 use crate::firsts::{begun, first_place};
@@ -73,7 +74,7 @@ fn other_of(
     declared: &BTreeMap<String, usize>,
     count: usize,
 ) -> Option<(Class, NodeId)>
-    ensures { result ≡ other_of (id_in declared.now count) (entry_value entry.now) }
+    ensures { MatchOption result ((c : Class) (w : Name) → entry_value entry.now ≢ says (other c w)) (λ o. (w : Name) × (entry_value entry.now ≡ says (other o.0 w)) × (o.1 ≡ id_in declared.now count w)) }
 {
     match entry.item() {
         Some(Item::Other(class, node)) => { Some((*class, node_named(declared, count, node))) }
@@ -115,7 +116,7 @@ fn first_other(
     declared: &BTreeMap<String, usize>,
     count: usize,
 ) -> Option<(Class, NodeId)>
-    ensures { result ≡ first_of (other_of (id_in declared.now count)) (entry_values lines.now) }
+    ensures { IsOtherOf (id_in declared.now count) (entry_values lines.now) result }
 {
     for entry in lines {
         if let Some(other) = other_of(entry, declared, count) {
@@ -183,22 +184,25 @@ fn empty_node(alloc: Global) -> Result<Node, Memory>
     })
 }
 
-// The name of the node that a line names.
-fn named(entry: &Entry) -> Option<&Name>
-    ensures { option_copied result ≡ name_in (entry_value entry.now) }
+// The name of the node that an item names.
+fn named(item: &Item) -> Option<&Name>
+    ensures { option_copied result ≡ named (item_value item.now) }
 {
-    match entry.item() {
-        Some(Item::Root(name)) => Some(name),
-        Some(Item::Edge(_, name)) => Some(name),
-        Some(Item::Other(_, name)) => Some(name),
+    match item {
+        Item::Root(name) => Some(name),
+        Item::Edge(_, name) => Some(name),
+        Item::Other(_, name) => Some(name),
         _ => None,
     }
 }
 
 fn names_empty_node(entry: &Entry) -> bool
-    ensures { IsTrue result ↔ (name_in (entry_value entry.now) ≡ Some (codes "Empty")) }
+    ensures { IsTrue result ↔ NamesIt (entry_value entry.now) }
 {
-    match named(entry) {
+    let Some(item) = entry.item() else {
+        return false;
+    };
+    match named(item) {
         Some(name) => is_empty_node(name),
         None => false,
     }
@@ -213,7 +217,7 @@ fn is_empty_named(entries: &[Entry]) -> bool
 
 // The name of the root's node where a line says it.
 fn root_name(entry: &Entry) -> Option<&Name>
-    ensures { option_copied result ≡ root_name (entry_value entry.now) }
+    ensures { MatchOption result ((w : Name) → entry_value entry.now ≢ says (root w)) (λ w. entry_value entry.now ≡ says (root w.now)) }
 {
     match entry.item() {
         Some(Item::Root(name)) => Some(name),

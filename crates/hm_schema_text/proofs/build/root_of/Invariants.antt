@@ -1,7 +1,9 @@
-use Rattle.std.proofs.Common.{◌≡◌, drop, filter_map}
-use Rattle.hm_schema_text.specs.Entries.{entry_values}
-use Rattle.hm_schema_text.specs.Building.{root_name}
+use Rattle.std.proofs.Common.{take}
+use Rattle.std.specs.List.{Contains}
+use Rattle.hm_tree.specs.Names.{Name}
+use Rattle.hm_schema_text.specs.Items.{root}
+use Rattle.hm_schema_text.specs.Entries.{says, entry_values}
 use Rattle.hm_schema_text.proofs.build.root_of.Given as goal
 
 abbrev pub invariant-loop-entry : goal.invariant-loop-entry
-invariant-loop-entry l = filter_map root_name (entry_values l.entries) ≡ filter_map root_name (entry_values (drop l.entry-index l.entries))
+invariant-loop-entry l = (w : Name) → ¬ (Contains (entry_values (take l.entry-index l.entries)) (says (root w)))
