@@ -8,8 +8,8 @@ use Rattle.std.proofs.lemmas.List.Elements.{filter_map-append}
 use Rattle.hm_tree.specs.Names.{Name}
 use Rattle.hm_tree.proofs.Kept.{take_more}
 use Rattle.hm_schema_text.specs.declared.before.Before.{Before}
-use Rattle.hm_schema_text.specs.Items.{header, root, node, edge, other, shape}
-use Rattle.hm_schema_text.specs.Entries.{EntryValue, skipped, unknown, says}
+use Rattle.hm_schema_text.specs.Items.{other, shape}
+use Rattle.hm_schema_text.specs.Entries.{EntryValue, says}
 use Rattle.hm_schema_text.specs.Firsts.{listed_name, edge_names}
 use Rattle.hm_schema_text.specs.BadLines.{is_counted, begins_node, is_shape, lines_before, nodes_before, up_to_node, earlier, HasShape, SpeaksOfOthers}
 use Rattle.hm_schema_text.specs.Sections.{speaks_of_others}
@@ -54,27 +54,15 @@ pub has_shape : (es : List EntryValue) → (HasShape es → count_by is_shape es
 has_shape es = ((λ h none. none_counted is_shape es none (says (shape h.0)) h.1 refl), (λ some. let f = one_counted is_shape es some in told f.0 f.1 f.2))
   where
     told : (e : EntryValue) → Contains es e → is_shape e ≡ true → HasShape es
-    told skipped there is = let f : ⊥ = cc in absurd f
-    told unknown there is = let f : ⊥ = cc in absurd f
-    told (says header) there is = let f : ⊥ = cc in absurd f
-    told (says (root w)) there is = let f : ⊥ = cc in absurd f
-    told (says (node w)) there is = let f : ⊥ = cc in absurd f
-    told (says (edge k w)) there is = let f : ⊥ = cc in absurd f
-    told (says (other c w)) there is = let f : ⊥ = cc in absurd f
     told (says (shape s)) there is = (s, there)
+    told e there is = let f : ⊥ = cc in absurd f
 
 pub has_others : (es : List EntryValue) → (SpeaksOfOthers es → count_by speaks_of_others es ≡ 0 → ⊥) × ((count_by speaks_of_others es ≡ 0 → ⊥) → SpeaksOfOthers es)
 has_others es = ((λ h none. none_counted speaks_of_others es none (says (other h.0 h.1)) h.2 refl), (λ some. let f = one_counted speaks_of_others es some in told f.0 f.1 f.2))
   where
     told : (e : EntryValue) → Contains es e → speaks_of_others e ≡ true → SpeaksOfOthers es
-    told skipped there is = let f : ⊥ = cc in absurd f
-    told unknown there is = let f : ⊥ = cc in absurd f
-    told (says header) there is = let f : ⊥ = cc in absurd f
-    told (says (root w)) there is = let f : ⊥ = cc in absurd f
-    told (says (node w)) there is = let f : ⊥ = cc in absurd f
-    told (says (edge k w)) there is = let f : ⊥ = cc in absurd f
     told (says (other c w)) there is = (c, w, there)
-    told (says (shape s)) there is = let f : ⊥ = cc in absurd f
+    told e there is = let f : ⊥ = cc in absurd f
 
 -- ---- before a line
 

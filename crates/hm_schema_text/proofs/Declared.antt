@@ -13,7 +13,7 @@ use Rattle.hm_tree.specs.Names.{Name, name_cmp}
 use Rattle.hm_tree.proofs.Sorted.{name_total, name_one}
 use Rattle.hm_schema.specs.Values.{NodeValue, SchemaValue}
 use Rattle.hm_schema.specs.Membership.{HasNoTwins}
-use Rattle.hm_schema_text.specs.Items.{ItemValue, header, root, node, edge, other, shape}
+use Rattle.hm_schema_text.specs.Items.{ItemValue, root, node}
 use Rattle.hm_schema_text.specs.Entries.{EntryValue, skipped, unknown, says}
 use Rattle.hm_schema_text.specs.BadLines.{Says, named, is_counted, is_placed, begins_node, lines_before, nodes_before, behind, unreadable, misplaced, declared_twice, declares_empty, HasNoBadLine}
 use Rattle.hm_schema_text.specs.SchemaFiles.{IsPlaceOf, declared, empty, IsNodeOf, NamesEmpty, IsSchemaOf, empty_node}
@@ -81,14 +81,10 @@ module _ (es : List EntryValue) (none : HasNoBadLine es) where
       by c.place c.entry c.is c.counted c.before
     where
       by : (i : ℕ) (e : EntryValue) → slice_get es i ≡ Some e → is_counted e ≡ true → lines_before es i ≡ 1 → (i : ℕ) × (w : Name) × Says es i (root w)
-      by i skipped is told before = let f : ⊥ = cc in absurd f
-      by i unknown is told before = absurd (none i (unreadable is))
-      by i (says header) is told before = absurd (none i (misplaced is (ap (λ n. is_placed n header) before)))
       by i (says (root w)) is told before = (i, w, is)
-      by i (says (node w)) is told before = absurd (none i (misplaced is (ap (λ n. is_placed n (node w)) before)))
-      by i (says (edge k w)) is told before = absurd (none i (misplaced is (ap (λ n. is_placed n (edge k w)) before)))
-      by i (says (other c w)) is told before = absurd (none i (misplaced is (ap (λ n. is_placed n (other c w)) before)))
-      by i (says (shape s)) is told before = absurd (none i (misplaced is (ap (λ n. is_placed n (shape s)) before)))
+      by i (says x) is told before = absurd (none i (misplaced is (ap (λ n. is_placed n x) before)))
+      by i unknown is told before = absurd (none i (unreadable is))
+      by i skipped is told before = let f : ⊥ = cc in absurd f
 
 -- ---- one node of some lines
 
@@ -123,13 +119,12 @@ it_or (Some w) = go (pointwise eqb w (codes "Empty")) refl
     go false e = inr (λ h. let same : w ≡ codes "Empty" = cc in true≢false (sym ((bytes_decides w (codes "Empty")).1 same) ∙ e))
 
 names_it_or : (e : EntryValue) → NamesIt e ⊎ (NamesIt e → ⊥)
-names_it_or skipped = inr (λ h. let e = h.1 in let f : ⊥ = cc in f)
-names_it_or unknown = inr (λ h. let e = h.1 in let f : ⊥ = cc in f)
 names_it_or (says x) = go (it_or (named x))
   where
     go : (named x ≡ Some (codes "Empty")) ⊎ ((named x ≡ Some (codes "Empty")) → ⊥) → NamesIt (says x) ⊎ (NamesIt (says x) → ⊥)
     go (inl y) = inl (x, refl, y)
     go (inr n) = inr (λ h. let e = h.1 in let same : x ≡ h.0 = cc in n (ap named same ∙ h.2))
+names_it_or e = inr (λ h. let e = h.1 in let f : ⊥ = cc in f)
 
 pub nat_cases : (p n : ℕ) → (p < n) ⊎ (n ≤ p)
 nat_cases p zero = inr (omega arith)
@@ -161,14 +156,8 @@ pub data IsOneOf (es : List EntryValue) (p : ℕ) (n : NodeValue) : Type 0 where
   last : NamesEmpty es → p ≡ count_by begins_node es → n ≡ empty_node → IsOneOf es p n
 
 node_line : (es : List EntryValue) (i : ℕ) (e : EntryValue) → slice_get es i ≡ Some e → begins_node e ≡ true → (w : Name) × Says es i (node w)
-node_line es i skipped is told = let f : ⊥ = cc in absurd f
-node_line es i unknown is told = let f : ⊥ = cc in absurd f
-node_line es i (says header) is told = let f : ⊥ = cc in absurd f
-node_line es i (says (root w)) is told = let f : ⊥ = cc in absurd f
 node_line es i (says (node w)) is told = (w, is)
-node_line es i (says (edge k w)) is told = let f : ⊥ = cc in absurd f
-node_line es i (says (other c w)) is told = let f : ⊥ = cc in absurd f
-node_line es i (says (shape s)) is told = let f : ⊥ = cc in absurd f
+node_line es i e is told = let f : ⊥ = cc in absurd f
 
 pub one_of : (es : List EntryValue) (s : SchemaValue) → IsSchemaOf es s → (p : ℕ) (n : NodeValue) → slice_get s.nodes p ≡ Some n → IsOneOf es p n
 one_of es s h p n is = go (names_empty_or es) (nat_cases p (count_by begins_node es))

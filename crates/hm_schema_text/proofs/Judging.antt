@@ -8,7 +8,7 @@ use Rattle.std.proofs.lemmas.List.{take-append-drop}
 use Rattle.hm_tree.specs.Names.{Name}
 use Rattle.hm_schema_text.specs.declared.firsts.Naming.TheVariants.{Nodes, Edges}
 use Rattle.hm_schema_text.specs.Items.{ItemValue, header, root, node, edge, other, shape}
-use Rattle.hm_schema_text.specs.Entries.{EntryValue, skipped, unknown, says}
+use Rattle.hm_schema_text.specs.Entries.{EntryValue, unknown, says}
 use Rattle.hm_schema_text.specs.Firsts.{place_in, begun_name, listed_name, node_names, edge_names}
 use Rattle.hm_schema_text.specs.BadLines.{Says, named, is_placed, is_inside, begins_node, is_shape, up_to_node, earlier, around, behind, lines_before, nodes_before, Declares, Lists, SpeaksOfOthers, HasShape, IsNode, names_of_shape, HasDouble, IsNoneCounted, IsBadLine, unreadable, misplaced, in_no_node, declared_twice, declares_empty, names_no_node, listed_twice, others_twice, unlisted_name, name_twice, least_above_most, no_others_to_count, no_shape, too_many_nodes, too_many_shapes}
 use Rattle.std.specs.Prelude.{◌==◌, nat_le, IsTrue, is_some, not}
@@ -66,24 +66,12 @@ module _ (es : List EntryValue) (i : ℕ) (x : ItemValue) (says_it : Says es i x
 -- ---- a name among those before a line
 
 says_node : (e : EntryValue) (w : Name) → begun_name e ≡ Some w → e ≡ says (node w)
-says_node skipped w h = let f : ⊥ = cc in absurd f
-says_node unknown w h = let f : ⊥ = cc in absurd f
-says_node (says header) w h = let f : ⊥ = cc in absurd f
-says_node (says (root v)) w h = let f : ⊥ = cc in absurd f
 says_node (says (node v)) w h = let name : v ≡ w = cc in ap (λ z. says (node z)) name
-says_node (says (edge k v)) w h = let f : ⊥ = cc in absurd f
-says_node (says (other c v)) w h = let f : ⊥ = cc in absurd f
-says_node (says (shape s)) w h = let f : ⊥ = cc in absurd f
+says_node e w h = let f : ⊥ = cc in absurd f
 
 says_edge : (e : EntryValue) (k : Name) → listed_name e ≡ Some k → (w : Name) × (e ≡ says (edge k w))
-says_edge skipped k h = let f : ⊥ = cc in absurd f
-says_edge unknown k h = let f : ⊥ = cc in absurd f
-says_edge (says header) k h = let f : ⊥ = cc in absurd f
-says_edge (says (root v)) k h = let f : ⊥ = cc in absurd f
-says_edge (says (node v)) k h = let f : ⊥ = cc in absurd f
 says_edge (says (edge l v)) k h = let name : l ≡ k = cc in (v, ap (λ z. says (edge z v)) name)
-says_edge (says (other c v)) k h = let f : ⊥ = cc in absurd f
-says_edge (says (shape s)) k h = let f : ⊥ = cc in absurd f
+says_edge e k h = let f : ⊥ = cc in absurd f
 
 pub declares : (es : List EntryValue) (w : Name) → Contains (node_names es) w → Declares es w
 declares es w c = let f = brings begun_name es w c in subst (Contains es) (says_node f.0 w f.2) f.1
@@ -108,17 +96,11 @@ length_names (e ∷ es) = by e (length_names es)
     behind_none more e none not_begun = ap (λ o. length (cons_option o (node_names es))) none ∙ more ∙ none_on (count_by begins_node es) ∙ sym (sum_by-cons (λ x. cond (begins_node x) 1 0) e es ∙ ap (λ b. cond b 1 0 + count_by begins_node es) not_begun)
 
     by : (e : EntryValue) → length (node_names es) ≡ count_by begins_node es → length (node_names (e ∷ es)) ≡ count_by begins_node (e ∷ es)
-    by skipped more = behind_none more skipped refl refl
-    by unknown more = behind_none more unknown refl refl
-    by (says header) more = behind_none more (says header) refl refl
-    by (says (root w)) more = behind_none more (says (root w)) refl refl
     by (says (node w)) more = one_on (length (node_names es)) ∙ ap (λ n. 1 + n) more ∙ sym (sum_by-cons (λ x. cond (begins_node x) 1 0) (says (node w)) es)
       where
         one_on : (n : ℕ) → suc n ≡ 1 + n
         one_on n = omega arith
-    by (says (edge k w)) more = behind_none more (says (edge k w)) refl refl
-    by (says (other c w)) more = behind_none more (says (other c w)) refl refl
-    by (says (shape s)) more = behind_none more (says (shape s)) refl refl
+    by e more = behind_none more e refl refl
 
 -- ---- whether a node line is the first of its name
 

@@ -9,8 +9,8 @@ use Rattle.std.proofs.lemmas.Bool.{eqb-true}
 use Rattle.std.proofs.lemmas.Slice.Eq.{bytes_eq-Decides}
 use Rattle.hm_tree.specs.Names.{Name}
 use Rattle.hm_schema.specs.declared.node.NodeId.{NodeId}
-use Rattle.hm_schema_text.specs.Items.{ItemValue, header, root, node, edge, other, shape}
-use Rattle.hm_schema_text.specs.Entries.{EntryValue, skipped, unknown, says}
+use Rattle.hm_schema_text.specs.Items.{ItemValue, root, node}
+use Rattle.hm_schema_text.specs.Entries.{EntryValue, says}
 use Rattle.hm_schema_text.specs.Firsts.{place_in, begun_name, node_names, AreFirsts}
 use Rattle.hm_schema_text.specs.BadLines.{Says, IsNode, named, is_counted, begins_node, lines_before, nodes_before, misplaced, names_no_node, HasNoBadLine}
 use Rattle.hm_schema_text.specs.SchemaFiles.{IsPlaceOf, declared, empty, IsRootOf}
@@ -44,10 +44,6 @@ passed e es w p told f = subst (IsFirstLine (e ∷ es) w) (none_more p) (later e
 
 first_line : (w : Name) (es : List EntryValue) (p : ℕ) → place_in w (node_names es) ≡ Some p → IsFirstLine es w p
 first_line w [] p h = let f : ⊥ = cc in absurd f
-first_line w (skipped ∷ es) p h = passed skipped es w p refl (first_line w es p h)
-first_line w (unknown ∷ es) p h = passed unknown es w p refl (first_line w es p h)
-first_line w (says header ∷ es) p h = passed (says header) es w p refl (first_line w es p h)
-first_line w (says (root v) ∷ es) p h = passed (says (root v)) es w p refl (first_line w es p h)
 first_line w (says (node v) ∷ es) p h = go (bytes_eq w v) refl (place_in w (node_names es)) (first_line w es) h
   where
     go : (b : Bool) → bytes_eq w v ≡ b → (o : Option ℕ) → ((q : ℕ) → o ≡ Some q → IsFirstLine es w q) → cond b (Some 0) (option_map suc o) ≡ Some p → IsFirstLine (says (node v) ∷ es) w p
@@ -59,9 +55,7 @@ first_line w (says (node v) ∷ es) p h = go (bytes_eq w v) refl (place_in w (no
     go false is (Some q) rest h =
         let next : suc q ≡ p = cc in
         subst (IsFirstLine (says (node v) ∷ es) w) (one_more q ∙ next) (later (says (node v)) es w q true refl (rest q refl))
-first_line w (says (edge k v) ∷ es) p h = passed (says (edge k v)) es w p refl (first_line w es p h)
-first_line w (says (other c v) ∷ es) p h = passed (says (other c v)) es w p refl (first_line w es p h)
-first_line w (says (shape s) ∷ es) p h = passed (says (shape s)) es w p refl (first_line w es p h)
+first_line w (e ∷ es) p h = passed e es w p refl (first_line w es p h)
 
 no_line : (w : Name) (es : List EntryValue) → place_in w (node_names es) ≡ None → (i : ℕ) → ¬ (Says es i (node w))
 no_line w es none i is = let a = made_at begun_name es w i (says (node w)) is refl in name_nowhere w (node_names es) none a.0 a.1

@@ -1,6 +1,6 @@
 -- The nodes that are built are those of the file.
 use Rattle.std.proofs.Common.{◌≡◌, inl, inr, ℕ, zero, suc, ◌+◌, ◌<◌, Bool, true, false, List, [], ◌∷◌, ◌++◌, length, get_or, Option, Some, None, refl, sym, ap, subst, ◌∙◌, arith, ◌-◌, add-one, slice_get, take, drop, filter_map, count_by}
-use Rattle.std.specs.Prelude.{MatchBool, ◌↔◌, IsTrue, codes}
+use Rattle.std.specs.Prelude.{MatchBool, ◌↔◌, IsTrue}
 use Rattle.std.specs.List.{Contains, IsDistinct, HoldsAt, AllWithin}
 use Rattle.std.specs.FinMap.{find}
 use Rattle.std.proofs.lemmas.Bool.{true≢false, cases_lt}
@@ -96,7 +96,8 @@ module _ (es : List EntryValue) (none : HasNoBadLine es) (i : ℕ) (w : Name) (i
               let class : o.0 ≡ c = cc in
               let name : said.0 ≡ v = cc in
               let place_is : o.1 ≡ d = said.2 ∙ ap id name ∙ sym (same_id a.0 (other c v) v d a.1 refl place) in
-              is ∙ ap (λ (k : Class). Some (k, o.1)) class ∙ ap (λ (z : NodeId). Some (c, z)) place_is
+              let same : o ≡ (c, d) = λ i. (class i, place_is i) in
+              is ∙ ap Some same
 
       pub is_node : IsNodeOf es (behind es i) n
       is_node = record {

@@ -8,8 +8,8 @@ use Rattle.std.specs.Str.{bytes_eq}
 use Rattle.hm_tree.specs.Names.{Name}
 use Rattle.hm_schema_text.specs.declared.firsts.Naming.{Naming}
 use Rattle.hm_schema_text.specs.declared.firsts.Naming.TheVariants.{Nodes, Edges}
-use Rattle.hm_schema_text.specs.Items.{header, root, node, edge, other, shape}
-use Rattle.hm_schema_text.specs.Entries.{EntryValue, skipped, unknown, says}
+use Rattle.hm_schema_text.specs.Items.{node, edge}
+use Rattle.hm_schema_text.specs.Entries.{EntryValue, says}
 
 -- the first place of a name in a list
 abbrev pub place_in : Name → List Name → Option ℕ
@@ -18,25 +18,13 @@ place_in q (n ∷ ns) = cond (bytes_eq q n) (Some 0) (option_map suc (place_in q
 
 -- the name of the node that a line begins
 abbrev pub begun_name : EntryValue → Option Name
-begun_name skipped = None
-begun_name unknown = None
-begun_name (says header) = None
-begun_name (says (root w)) = None
 begun_name (says (node w)) = Some w
-begun_name (says (edge k w)) = None
-begun_name (says (other c w)) = None
-begun_name (says (shape s)) = None
+begun_name e = None
 
 -- the name that a line lists
 abbrev pub listed_name : EntryValue → Option Name
-listed_name skipped = None
-listed_name unknown = None
-listed_name (says header) = None
-listed_name (says (root w)) = None
-listed_name (says (node w)) = None
 listed_name (says (edge k w)) = Some k
-listed_name (says (other c w)) = None
-listed_name (says (shape s)) = None
+listed_name e = None
 
 abbrev pub name_by : Naming → EntryValue → Option Name
 name_by Nodes = begun_name

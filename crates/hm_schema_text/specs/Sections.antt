@@ -1,20 +1,14 @@
 -- What the lines of a node hold.
 use Rattle.std.specs.Prelude.{◌≡◌, Bool, true, false, List, count_by}
 use Rattle.hm_schema_text.specs.declared.section.Section.{Section}
-use Rattle.hm_schema_text.specs.Items.{header, root, node, edge, other, shape}
-use Rattle.hm_schema_text.specs.Entries.{EntryValue, skipped, unknown, says}
+use Rattle.hm_schema_text.specs.Items.{other}
+use Rattle.hm_schema_text.specs.Entries.{EntryValue, says}
 use Rattle.hm_schema_text.specs.Firsts.{edge_names, AreFirsts}
 use Rattle.hm_schema_text.specs.BadLines.{is_shape}
 
 abbrev pub speaks_of_others : EntryValue → Bool
-speaks_of_others skipped = false
-speaks_of_others unknown = false
-speaks_of_others (says header) = false
-speaks_of_others (says (root w)) = false
-speaks_of_others (says (node w)) = false
-speaks_of_others (says (edge k w)) = false
 speaks_of_others (says (other c w)) = true
-speaks_of_others (says (shape s)) = false
+speaks_of_others e = false
 
 pub record IsSection (lines : List EntryValue) (s : Section) : Type 0 where
   pub listed : AreFirsts s.listed (edge_names lines)
