@@ -12,56 +12,36 @@ use Rattle.hm_schema_text.specs.Entries.{EntryValue, skipped, unknown, says, IsF
 
 abbrev pub is_counted : EntryValue → Bool
 is_counted skipped = false
-is_counted unknown = true
-is_counted (says i) = true
+is_counted e = true
 
 -- whether a line begins a node
 abbrev pub begins_node : EntryValue → Bool
-begins_node skipped = false
-begins_node unknown = false
-begins_node (says header) = false
-begins_node (says (root w)) = false
 begins_node (says (node w)) = true
-begins_node (says (edge k w)) = false
-begins_node (says (other c w)) = false
-begins_node (says (shape s)) = false
+begins_node e = false
 
 abbrev pub is_shape : EntryValue → Bool
-is_shape skipped = false
-is_shape unknown = false
-is_shape (says header) = false
-is_shape (says (root w)) = false
-is_shape (says (node w)) = false
-is_shape (says (edge k w)) = false
-is_shape (says (other c w)) = false
 is_shape (says (shape s)) = true
+is_shape e = false
 
 -- whether an item stands inside a node
 abbrev pub is_inside : ItemValue → Bool
-is_inside header = false
-is_inside (root w) = false
-is_inside (node w) = false
 is_inside (edge k w) = true
 is_inside (other c w) = true
 is_inside (shape s) = true
+is_inside i = false
 
 -- whether an item may stand behind so many lines that aren't skipped: the header first, the root second
 abbrev pub is_placed : ℕ → ItemValue → Bool
 is_placed n header = n == 0
 is_placed n (root w) = n == 1
-is_placed n (node w) = nat_le 2 n
-is_placed n (edge k w) = nat_le 2 n
-is_placed n (other c w) = nat_le 2 n
-is_placed n (shape s) = nat_le 2 n
+is_placed n i = nat_le 2 n
 
 -- the node that an item names
 abbrev pub named : ItemValue → Option Name
-named header = None
 named (root w) = Some w
-named (node w) = None
 named (edge k w) = Some w
 named (other c w) = Some w
-named (shape s) = None
+named i = None
 
 -- ---- the lines of a node
 

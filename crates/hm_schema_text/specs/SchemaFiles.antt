@@ -21,14 +21,8 @@ pub data IsPlaceOf (es : List EntryValue) : Name → ℕ → Type 0 where
 
 abbrev pub shapes_in : List EntryValue → List ShapeValue
 shapes_in [] = []
-shapes_in (skipped ∷ es) = shapes_in es
-shapes_in (unknown ∷ es) = shapes_in es
-shapes_in (says header ∷ es) = shapes_in es
-shapes_in (says (root w) ∷ es) = shapes_in es
-shapes_in (says (node w) ∷ es) = shapes_in es
-shapes_in (says (edge k w) ∷ es) = shapes_in es
-shapes_in (says (other c w) ∷ es) = shapes_in es
 shapes_in (says (shape s) ∷ es) = s ∷ shapes_in es
+shapes_in (e ∷ es) = shapes_in es
 
 abbrev pub as_shape : ShapeValue → Shape
 as_shape s = record { required = from_list s.required; optional = from_list s.optional; least = s.count.least; most = s.count.most }
