@@ -12,7 +12,7 @@ use Rattle.hm_schema_text.specs.declared.token.Token.{Token}
 use Rattle.hm_schema_text.specs.declared.token.Token.TheVariants.{Word, Plus}
 use Rattle.hm_schema_text.specs.Tokens.{Spaced}
 use Rattle.hm_schema_text.specs.Counts.{IsCount, IsReadCount}
-use Rattle.hm_schema_text.specs.Items.{ItemValue, ShapeValue, header, root, node, edge, other, shape, item_value, is_flush, indent, IsItem, IsLine, IsTail, IsShape, IsReadTail, IsReadItem, IsFlushItem, IsIndentedItem}
+use Rattle.hm_schema_text.specs.Items.{ItemValue, ShapeValue, header, root, node, edge, other, shape, item_value, is_inside, indent, IsItem, IsLine, IsTail, IsShape, IsReadTail, IsReadItem, IsFlushItem, IsIndentedItem}
 use Rattle.hm_schema_text.proofs.Tokens.{spaced_one, spaced_no_space}
 
 pub tail_counted : {E : Type 0} (rest : List Token) (word : Name) (r : Result (Option Count) E) → rest ≡ Word word ∷ [] → IfOk r (IsReadCount word) → IfOk r (IsReadTail (Plus ∷ rest))
@@ -31,11 +31,11 @@ no_shape_item rest none (edge k w) h = let no : ⊥ = cc in no
 no_shape_item rest none (other c w) h = grind arith
 no_shape_item rest none (shape s) h = let same : rest ≡ h.1.0 = cc in none s (subst (λ (z : List Token). IsShape z s) (sym same) h.1.2)
 
-two_spaces : (i : ItemValue) → is_flush i ≡ false → indent i ≡ 32 ∷ 32 ∷ []
-two_spaces i e = ap (λ (b : Bool). cond b [] (codes "  ")) e
+two_spaces : (i : ItemValue) → is_inside i ≡ true → indent i ≡ 32 ∷ 32 ∷ []
+two_spaces i e = ap (λ (b : Bool). cond b (codes "  ") []) e
 
-no_spaces : (i : ItemValue) → is_flush i ≡ true → indent i ≡ []
-no_spaces i e = ap (λ (b : Bool). cond b [] (codes "  ")) e
+no_spaces : (i : ItemValue) → is_inside i ≡ false → indent i ≡ []
+no_spaces i e = ap (λ (b : Bool). cond b (codes "  ") []) e
 
 -- a line that begins with two spaces
 module _ (line text : List ℕ) (ts : List Token) (front : line ≡ 32 ∷ 32 ∷ text) (s : Spaced ts text) where
@@ -49,11 +49,11 @@ module _ (line text : List ℕ) (ts : List Token) (front : line ≡ 32 ∷ 32 �
   }
 
   line_indented : (i : ItemValue) → IsLine line i → IsIndentedItem ts i
-  line_indented i l = go (is_flush i) refl
+  line_indented i l = go (is_inside i) refl
     where
-      go : (b : Bool) → is_flush i ≡ b → IsIndentedItem ts i
-      go true e = absurd (spaced_no_space l.tokens l.text (32 ∷ text) l.spaced (ap (λ (z : List ℕ). z ++ l.text) (sym (no_spaces i e)) ∙ sym l.is ∙ front))
-      go false e =
+      go : (b : Bool) → is_inside i ≡ b → IsIndentedItem ts i
+      go false e = absurd (spaced_no_space l.tokens l.text (32 ∷ text) l.spaced (ap (λ (z : List ℕ). z ++ l.text) (sym (no_spaces i e)) ∙ sym l.is ∙ front))
+      go true e =
           let both : 32 ∷ 32 ∷ text ≡ 32 ∷ 32 ∷ l.text = sym front ∙ l.is ∙ ap (λ (z : List ℕ). z ++ l.text) (two_spaces i e) in
           let same : l.text ≡ text = cc in
           (e, subst (λ (z : List Token). IsItem z i) (spaced_one l.tokens ts l.text text same l.spaced s) l.item)
@@ -70,11 +70,11 @@ module _ (line : List ℕ) (ts : List Token) (s : Spaced ts line) where
   }
 
   line_flush : (i : ItemValue) → IsLine line i → IsFlushItem ts i
-  line_flush i l = go (is_flush i) refl
+  line_flush i l = go (is_inside i) refl
     where
-      go : (b : Bool) → is_flush i ≡ b → IsFlushItem ts i
-      go true e = (e, subst (λ (z : List Token). IsItem z i) (spaced_one l.tokens ts l.text line (sym (l.is ∙ ap (λ (z : List ℕ). z ++ l.text) (no_spaces i e))) l.spaced s) l.item)
-      go false e = absurd (spaced_no_space ts line (32 ∷ l.text) s (l.is ∙ ap (λ (z : List ℕ). z ++ l.text) (two_spaces i e)))
+      go : (b : Bool) → is_inside i ≡ b → IsFlushItem ts i
+      go false e = (e, subst (λ (z : List Token). IsItem z i) (spaced_one l.tokens ts l.text line (sym (l.is ∙ ap (λ (z : List ℕ). z ++ l.text) (no_spaces i e))) l.spaced s) l.item)
+      go true e = absurd (spaced_no_space ts line (32 ∷ l.text) s (l.is ∙ ap (λ (z : List ℕ). z ++ l.text) (two_spaces i e)))
 
 read_as : (P Q : ItemValue → Type 0) → ((i : ItemValue) → P i → Q i) → ((i : ItemValue) → Q i → P i) → (o : Option Item) → IsReadItem P o → IsReadItem Q o
 read_as P Q to from None h = λ i q. h i (from i q)
@@ -94,12 +94,12 @@ flush_reads line ts o s h = read_as (IsFlushItem ts) (IsLine line) (flush_line l
 
 -- two items of a line are of the same tokens
 pub line_items : (line : List ℕ) (i j : ItemValue) → IsLine line i → (l : IsLine line j) → IsItem l.tokens i
-line_items line i j h l = go (is_flush j) refl
+line_items line i j h l = go (is_inside j) refl
   where
-    go : (b : Bool) → is_flush j ≡ b → IsItem l.tokens i
-    go true e =
+    go : (b : Bool) → is_inside j ≡ b → IsItem l.tokens i
+    go false e =
         let flush : line ≡ l.text = l.is ∙ ap (λ (z : List ℕ). z ++ l.text) (no_spaces j e) in
         (line_flush line l.tokens (subst (Spaced l.tokens) (sym flush) l.spaced) i h).1
-    go false e =
+    go true e =
         let indented : line ≡ 32 ∷ 32 ∷ l.text = l.is ∙ ap (λ (z : List ℕ). z ++ l.text) (two_spaces j e) in
         (line_indented line l.text l.tokens indented l.spaced i h).1

@@ -5,7 +5,7 @@ use Rattle.std.specs.List.{Contains}
 use Rattle.hm_tree.specs.Names.{Name}
 use Rattle.hm_tree.specs.declared.class.Class.{Class}
 use Rattle.hm_schema_text.specs.declared.count.Count.{Count}
-use Rattle.hm_schema_text.specs.Items.{ItemValue, ShapeValue, header, root, node, edge, other, shape}
+use Rattle.hm_schema_text.specs.Items.{ItemValue, ShapeValue, is_inside, header, root, node, edge, other, shape}
 use Rattle.hm_schema_text.specs.Entries.{EntryValue, skipped, unknown, says, IsFile}
 
 -- ---- kinds of lines
@@ -22,13 +22,6 @@ begins_node e = false
 abbrev pub is_shape : EntryValue → Bool
 is_shape (says (shape s)) = true
 is_shape e = false
-
--- whether an item stands inside a node
-abbrev pub is_inside : ItemValue → Bool
-is_inside (edge k w) = true
-is_inside (other c w) = true
-is_inside (shape s) = true
-is_inside i = false
 
 -- whether an item may stand behind so many lines that aren't skipped: the header first, the root second
 abbrev pub is_placed : ℕ → ItemValue → Bool

@@ -90,18 +90,16 @@ IsItem ts (edge k w) = (t : Token) × (edge_name t ≡ Some k) × (ts ≡ Word (
 IsItem ts (other c w) = ts ≡ Word (codes "other") ∷ Word (class_word c) ∷ Word w ∷ []
 IsItem ts (shape s) = (rest : List Token) × (ts ≡ Word (codes "shape") ∷ rest) × IsShape rest s
 
--- whether an item stands at the front of its line
-abbrev pub is_flush : ItemValue → Bool
-is_flush header = true
-is_flush (root w) = true
-is_flush (node w) = true
-is_flush (edge k w) = false
-is_flush (other c w) = false
-is_flush (shape s) = false
+-- whether an item stands inside a node
+abbrev pub is_inside : ItemValue → Bool
+is_inside (edge k w) = true
+is_inside (other c w) = true
+is_inside (shape s) = true
+is_inside i = false
 
 -- what stands in front of the tokens: two spaces inside a node
 abbrev pub indent : ItemValue → List ℕ
-indent i = cond (is_flush i) [] (codes "  ")
+indent i = cond (is_inside i) (codes "  ") []
 
 -- a line says an item
 pub record IsLine (line : List ℕ) (i : ItemValue) : Type 0 where
@@ -132,7 +130,7 @@ IsReadItem P (Some i) = P (item_value i)
 
 -- tokens are those of an item without spaces in front, or with two of them
 abbrev pub IsFlushItem : List Token → ItemValue → Type 0
-IsFlushItem ts i = (is_flush i ≡ true) × IsItem ts i
+IsFlushItem ts i = (is_inside i ≡ false) × IsItem ts i
 
 abbrev pub IsIndentedItem : List Token → ItemValue → Type 0
-IsIndentedItem ts i = (is_flush i ≡ false) × IsItem ts i
+IsIndentedItem ts i = (is_inside i ≡ true) × IsItem ts i
