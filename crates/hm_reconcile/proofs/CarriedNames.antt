@@ -16,7 +16,7 @@ use Rattle.hm_safety.specs.Views.{Agree, both_present}
 use Rattle.hm_schema.proofs.NamesOf.{tie_one}
 use Rattle.hm_outcome.specs.Carried.{IsCarried, on_both, clashing, kept, brought, AreCarried}
 use Rattle.hm_outcome.proofs.Marks.{agree_same, has_and_lacks}
-use Rattle.hm_reconcile.specs.Taking.{AreTakers, with_name}
+use Rattle.hm_reconcile.specs.Carriers.{AreCarriers, with_name}
 use Rattle.hm_reconcile.specs.Taken.{IsInEither, IsTaken, AreOver}
 use Rattle.hm_reconcile.proofs.Alone.{news_lost}
 use Rattle.hm_reconcile.proofs.Gathered.{carried_under, tied_same}
@@ -30,12 +30,12 @@ yes a = (λ t. a, λ a. refl)
 no : {A : Type 0} → ¬ A → IsTrue false ↔ A
 no n = (λ f. absurd (true≢false (sym f)), λ a. absurd (n a))
 
-pub takers_both : (o : Archive) (t u : Tree) → AreTakers o (Some t) (Some u) true true
-takers_both o t u = record { left = yes (on_both (state_root t) (state_root u)); right = yes (on_both (state_root u) (state_root t)) }
+pub carriers_both : (o : Archive) (t u : Tree) → AreCarriers o (Some t) (Some u) true true
+carriers_both o t u = record { left = yes (on_both (state_root t) (state_root u)); right = yes (on_both (state_root u) (state_root t)) }
 
 module _ (o : Archive) (t : Tree) where
-  pub takers_carried : state o [] ≡ Missing → AreTakers o (Some t) None true true
-  takers_carried new = record {
+  pub carriers_carried : state o [] ≡ Missing → AreCarriers o (Some t) None true true
+  carriers_carried new = record {
     left = yes (kept (state_root t) refl (λ l. l.known new) changed);
     right = yes (brought refl (state_root t) (λ l. l.known new) changed);
   }
@@ -43,8 +43,8 @@ module _ (o : Archive) (t : Tree) where
       changed : ¬ (Agree (state o []) (state (Some t) []))
       changed a = has_and_lacks (agree_same a ∙ state_root t) new
 
-  pub takers_dropped : IsWithin (Some t) o → AreTakers o (Some t) None false false
-  takers_dropped within = record { left = no not_kept; right = no not_brought }
+  pub carriers_dropped : IsWithin (Some t) o → AreCarriers o (Some t) None false false
+  carriers_dropped within = record { left = no not_kept; right = no not_brought }
     where
       agree : Agree (state o []) (state (Some t) [])
       agree = subst (λ x. Agree x (state (Some t) [])) (sym (within [] (state_root t))) (subst (Agree Present) (sym (state_root t)) both_present)
@@ -61,8 +61,8 @@ module _ (o : Archive) (t : Tree) where
       not_brought (kept has lacks alone changed) = has_and_lacks has refl
       not_brought (brought lacks other alone changed) = changed agree
 
-  pub takers_contested : state o [] ≢ Missing → ¬ (IsWithin (Some t) o) → AreTakers o (Some t) None true false
-  takers_contested known apart = record { left = yes (clashing lost); right = no not_brought }
+  pub carriers_contested : state o [] ≢ Missing → ¬ (IsWithin (Some t) o) → AreCarriers o (Some t) None true false
+  carriers_contested known apart = record { left = yes (clashing lost); right = no not_brought }
     where
       lost : IsLost (state o) (state (Some t)) (state {m = false} None) []
       lost = news_lost o t known apart
@@ -73,8 +73,8 @@ module _ (o : Archive) (t : Tree) where
       not_brought (kept has lacks alone changed) = has_and_lacks has refl
       not_brought (brought lacks other alone changed) = alone lost
 
-pub takers_turned : (o : Archive) (one two : Option Tree) (left right : Bool) → AreTakers o one two left right → AreTakers o two one right left
-takers_turned o one two left right h = record { left = h.right; right = h.left }
+pub carriers_turned : (o : Archive) (one two : Option Tree) (left right : Bool) → AreCarriers o one two left right → AreCarriers o two one right left
+carriers_turned o one two left right h = record { left = h.right; right = h.left }
 
 -- ---- the names that were passed
 
@@ -113,7 +113,7 @@ module _ (o : Archive) (mine other : Tree) (names : List Name) (passed now : Nam
   abbrev Carried : Name → Type 0
   Carried q = IsCarried (state (under q o)) (state (below q mine)) (state (below q other)) []
 
-  pub lists_next : (takes : Bool) → IsTrue takes ↔ Carried k → Lists (with_name takes k names) now o mine other
+  pub lists_next : (carries : Bool) → IsTrue carries ↔ Carried k → Lists (with_name carries k names) now o mine other
   lists_next true here q = (forth, back)
     where
       forth : IsTrue (ListHas (names ++ k ∷ []) q) → now q × Carried q
@@ -170,16 +170,16 @@ carrying_start o a b es fs names others left_is right_is none none_other =
       right = lists_none others none_other (Passed a b (edges a) (edges b)) (none_passed a b) o b a;
     })
 
-pub carrying_next : {o : Archive} {a b : Tree} {es fs es_rest fs_rest : List (Name × Tree)} {names others : List Name} {k : Name} {one two : Option Tree} → IsCarrying o a b es fs names others → IsTaken es fs es_rest fs_rest k one two → (takes other_takes : Bool) (names_now others_now : List Name) → AreTakers (under k o) one two takes other_takes → names_now ≡ with_name takes k names → others_now ≡ with_name other_takes k others → IsCarrying o a b es_rest fs_rest names_now others_now
-carrying_next {o} {a} {b} {es} {fs} {es_rest} {fs_rest} {names} {others} {k} {one} {two} w t takes other_takes names_now others_now takers names_is others_is =
+pub carrying_next : {o : Archive} {a b : Tree} {es fs es_rest fs_rest : List (Name × Tree)} {names others : List Name} {k : Name} {one two : Option Tree} → IsCarrying o a b es fs names others → IsTaken es fs es_rest fs_rest k one two → (carries other_carries : Bool) (names_now others_now : List Name) → AreCarriers (under k o) one two carries other_carries → names_now ≡ with_name carries k names → others_now ≡ with_name other_carries k others → IsCarrying o a b es_rest fs_rest names_now others_now
+carrying_next {o} {a} {b} {es} {fs} {es_rest} {fs_rest} {names} {others} {k} {one} {two} w t carries other_carries names_now others_now carriers names_is others_is =
     subst (λ (z : List Name × List Name). IsCarrying o a b es_rest fs_rest z.0 z.1) (λ j. (sym names_is j, sym others_is j)) (record {
       rest = next_left w.rest t;
-      left = lists_next o a b names (Passed a b es fs) (Passed a b es_rest fs_rest) w.left k (fresh w.rest t) (passes w.rest t) takes here.left;
-      right = lists_next o b a others (Passed a b es fs) (Passed a b es_rest fs_rest) w.right k (fresh w.rest t) (passes w.rest t) other_takes here.right;
+      left = lists_next o a b names (Passed a b es fs) (Passed a b es_rest fs_rest) w.left k (fresh w.rest t) (passes w.rest t) carries here.left;
+      right = lists_next o b a others (Passed a b es fs) (Passed a b es_rest fs_rest) w.right k (fresh w.rest t) (passes w.rest t) other_carries here.right;
     })
   where
-    here : AreTakers (under k o) (below k a) (below k b) takes other_takes
-    here = subst (λ (z : Option Tree × Option Tree). AreTakers (under k o) z.0 z.1 takes other_takes) (λ x. (left_here w.rest t x, right_here w.rest t x)) takers
+    here : AreCarriers (under k o) (below k a) (below k b) carries other_carries
+    here = subst (λ (z : Option Tree × Option Tree). AreCarriers (under k o) z.0 z.1 carries other_carries) (λ x. (left_here w.rest t x, right_here w.rest t x)) carriers
 
 module _ {o : Archive} {a b : Tree} {es fs : List (Name × Tree)} {names others : List Name} (w : IsCarrying o a b es fs names others) (over : AreOver es fs) (unmarked : state o [] ≢ Marked) where
   pub carried_left : AreCarried (state o) (state (Some a)) (state (Some b)) [] (from_list names)

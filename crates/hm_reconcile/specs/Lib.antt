@@ -3,7 +3,7 @@ pub mod Sides
 pub mod Fates
 pub mod Appending
 pub mod FirstNews
-pub mod Taking
+pub mod Carriers
 pub mod Showing
 pub mod Holding
 pub mod Naming

@@ -5,7 +5,7 @@ ghost use Rattle.hm_tree.specs.Archives.{under};
 ghost use Rattle.hm_tree.specs.States.{state};
 ghost use Rattle.hm_outcome.specs.Carried.{AreCarried};
 ghost use Rattle.hm_reconcile.specs.Fates.{HasFate};
-ghost use Rattle.hm_reconcile.specs.Taking.{AreTakers, with_name};
+ghost use Rattle.hm_reconcile.specs.Carriers.{AreCarriers, with_name};
 ghost use Rattle.hm_reconcile.specs.Taken.{IsInEither};
 
 use crate::apart::take_next;
@@ -30,9 +30,9 @@ pub fn carried(
     let mut left_rest = left.edges();
     let mut right_rest = right.edges();
     while let Some(taken) = take_next(&mut left_rest, &mut right_rest) {
-        let (left_takes, right_takes) = takers(archive, taken.name, taken.left, taken.right);
-        take(&mut left_names, taken.name, left_takes)?;
-        take(&mut right_names, taken.name, right_takes)?;
+        let (left_carries, right_carries) = carriers(archive, taken.name, taken.left, taken.right);
+        append_if(left_carries, &mut left_names, taken.name)?;
+        append_if(right_carries, &mut right_names, taken.name)?;
     }
     Ok((
         NameSet::from_list(left_names)?,
@@ -41,15 +41,20 @@ pub fn carried(
 }
 
 // Whether the left side is to have a name that one of the two has, or both, and whether the right side is.
-fn takers(archive: &Archive, name: &Name, left: Option<&Tree>, right: Option<&Tree>) -> (bool, bool)
+fn carriers(
+    archive: &Archive,
+    name: &Name,
+    left: Option<&Tree>,
+    right: Option<&Tree>,
+) -> (bool, bool)
     requires { IsInEither (option_copied left) (option_copied right) }
-    ensures { AreTakers (under name.now archive.now) (option_copied left.entry) (option_copied right.entry) result.0 result.1 }
+    ensures { AreCarriers (under name.now archive.now) (option_copied left.entry) (option_copied right.entry) result.0 result.1 }
 {
     match (left, right) {
         (Some(_), Some(_)) => (true, true),
-        (Some(tree), None) => takers_alone(archive, name, tree),
+        (Some(tree), None) => carriers_alone(archive, name, tree),
         (None, Some(tree)) => {
-            let (keeps, gets) = takers_alone(archive, name, tree);
+            let (keeps, gets) = carriers_alone(archive, name, tree);
             (gets, keeps)
         }
         (None, None) => unreachable!(),
@@ -57,8 +62,8 @@ fn takers(archive: &Archive, name: &Name, left: Option<&Tree>, right: Option<&Tr
 }
 
 // Whether a side that alone has a name is to have it, and whether the other side is.
-fn takers_alone(archive: &Archive, name: &Name, tree: &Tree) -> (bool, bool)
-    ensures { AreTakers (under name.now archive.now) (Some tree.now) None result.0 result.1 }
+fn carriers_alone(archive: &Archive, name: &Name, tree: &Tree) -> (bool, bool)
+    ensures { AreCarriers (under name.now archive.now) (Some tree.now) None result.0 result.1 }
 {
     match fate_under(archive, name, tree) {
         Fate::Carried => (true, true),
@@ -78,7 +83,7 @@ fn fate_under(archive: &Archive, name: &Name, tree: &Tree) -> Fate
 }
 
 // One name more, if the side is to have it.
-fn take(names: &mut Vec<Name>, name: &Name, has: bool) -> Result<(), Memory>
+fn append_if(has: bool, names: &mut Vec<Name>, name: &Name) -> Result<(), Memory>
     ensures { OnOk result (names.new.items ≡ with_name has name.now names.old.items) }
 {
     if has {

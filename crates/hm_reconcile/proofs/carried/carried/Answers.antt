@@ -8,7 +8,7 @@ pub loop-taken-init : goal.loop-taken-init
 loop-taken-init c = carrying_start _ _ _ _ _ _ _ c.edges-left_rest.ensures c.edges-right_rest.ensures c.new-left_names.ensures.items c.new-right_names.ensures.items
 
 pub loop-taken-preserved : goal.loop-taken-preserved
-loop-taken-preserved c = carrying_next c.loop-taken.invariant c.in-Some.ensures _ _ _ _ c.takers-left_takes.ensures c.in_ok-take.ensures c.in_ok-take-2.ensures
+loop-taken-preserved c = carrying_next c.loop-taken.invariant c.in-Some.ensures _ _ _ _ c.carriers-left_carries.ensures c.in_ok-append_if.ensures c.in_ok-append_if-2.ensures
 
 pub returns-clause-left : goal.returns-clause-left
 returns-clause-left c =
