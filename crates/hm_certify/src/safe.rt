@@ -8,7 +8,7 @@ ghost use Rattle.hm_outcome.specs.Trios.{views};
 ghost use Rattle.hm_certify.specs.Standing.{archive_or_none, trio_of};
 ghost use Rattle.hm_certify.specs.Safe.{IsGone, IsStop, MayStand, GoesUnder, EachGoes};
 
-use crate::standing::{Standing, are_same, is_missing, is_within, side_child};
+use crate::standing::{Standing, are_same, is_missing, is_within};
 use hm_tree::{Archive, Name, State, Tree};
 
 // Whether nothing is left of what may be taken away.

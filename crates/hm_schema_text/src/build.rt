@@ -12,7 +12,7 @@ ghost use Rattle.hm_schema_text.specs.SchemaFiles.{AreNodesOf, IsRootOf, NamesEm
 ghost use Rattle.hm_schema_text.specs.Building.{id_in, shape_of, child_of, IsOtherOf, NamesIt, IsBuilt, AreBuilt};
 
 use crate::entry::Entry;
-use crate::firsts::{begun, first_place};
+use crate::firsts::first_place;
 use crate::item::{Item, ShapeLine};
 use crate::judge::is_empty_node;
 use crate::names::copy_names;

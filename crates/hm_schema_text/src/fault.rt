@@ -9,10 +9,10 @@ use thiserror::Error;
 #[derive(Debug, Drop, Error)]
 pub enum SchemaFault {
     /// The first bad line, counted from 1; one more than there are lines where only the first or second line is missing.
-    #[error("BadSchema {line}")]
+    #[error("line {line} is bad")]
     BadSchema { line: usize },
     /// There was no memory.
-    #[error("Memory")]
+    #[error("there was no memory")]
     Memory,
 }
 

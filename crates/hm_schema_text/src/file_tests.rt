@@ -239,3 +239,15 @@ fn shapes(rt: HostRuntime) {
         4,
     );
 }
+
+#[test]
+fn faults_are_told(rt: HostRuntime) -> Result<(), Fail> {
+    let alloc = rt.alloc();
+    for (fault, want) in [
+        (SchemaFault::BadSchema { line: 3 }, "line 3 is bad"),
+        (SchemaFault::Memory, "there was no memory"),
+    ] {
+        assert_eq!(&rt; format!(in alloc; "{fault}")?.as_str(), want);
+    }
+    Ok(())
+}

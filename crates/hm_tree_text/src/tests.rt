@@ -164,3 +164,16 @@ fn roots_of_archives(rt: HostRuntime) -> Result<(), Fail> {
     assert_eq!(rt; present.root(), State::Present);
     Ok(())
 }
+
+#[test]
+fn faults_are_told(rt: HostRuntime) -> Result<(), Fail> {
+    let alloc = rt.alloc();
+    for (fault, want) in [
+        (TextFault::BadTree { at: 3 }, "no text goes on so at byte 3"),
+        (TextFault::TooDeep, "more than 1,000 braces are open"),
+        (TextFault::Memory, "there was no memory"),
+    ] {
+        assert_eq!(&rt; format!(in alloc; "{fault}")?.as_str(), want);
+    }
+    Ok(())
+}
