@@ -49,7 +49,7 @@ leaves_failed words c left (Err stop) h = h
 leaves_memory : (words : List Name) (c : Contents) (left : Option Contents) (r : Result Report Stop) → Synchronises words c r left → (left ≡ Some c) ⊎ ((n : ℕ) × IsStopState words c left n)
 leaves_memory words c left (Ok report) h = inr (3, h.state)
 leaves_memory words c left (Err (Refused refusal)) h = inl h.same
-leaves_memory words c left (Err (ReadFault slot)) h = inl h
+leaves_memory words c left (Err (ReadFault slot)) h = inl h.same
 leaves_memory words c left (Err (WriteFault slot)) h = inr (⊎_elim {C = (n : ℕ) × IsStopState words c left n} (λ old. (place_of slot, old)) (λ new. (place_of slot + 1, new)) h)
 leaves_memory words c left (Err Memory) h = h
 

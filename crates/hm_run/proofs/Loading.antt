@@ -10,9 +10,10 @@ use Rattle.hm_command.specs.Words.{FileNames, name_of}
 use Rattle.hm_outside.specs.declared.outside.Kind.{Kind}
 use Rattle.hm_outside.specs.declared.outside.Kind.TheVariants.{Replace}
 use Rattle.hm_outside.specs.declared.outside.Failure.{Failure}
+use Rattle.hm_outside.specs.Contents.{Contents}
 use Rattle.hm_outside.specs.Failures.{Extends, HasRisen}
 use Rattle.hm_outside.proofs.Risen.{risen_since}
-use Rattle.hm_run.specs.Verdict.{Loads, loaded, too_large, no_archive, no_schema, no_left, no_right, limit}
+use Rattle.hm_run.specs.Verdict.{Loads, AreFound, loaded, too_large, no_archive, no_schema, no_left, no_right, limit}
 use Rattle.hm_run.specs.Seen.{bytes_of, Follows}
 
 pub finds_bytes : (at : Slot) (there : Option (List ℕ)) (bytes : List ℕ) → there ≡ Some bytes → length bytes ≤ limit → Loads at there (Ok bytes)
@@ -28,6 +29,9 @@ finds_absent at there r is h = subst (λ o. Follows bytes_of r (Loads at o)) (sy
 -- a call that has failed for a slot has failed for the name of that slot
 pub risen_at : (kind : Kind) (files : FileNames) (at slot : Slot) {old mid new : List Failure} → Extends old mid → (slot ≡ at) × HasRisen kind (name_of files at) mid new → HasRisen kind (name_of files slot) old new
 risen_at kind files at slot {old} {mid} {new} more h = subst (λ s. HasRisen kind (name_of files s) old new) (sym h.0) (risen_since more h.1)
+
+pub found_at : (c : Contents) (files : FileNames) (at slot : Slot) → slot ≡ at → AreFound c files at → AreFound c files slot
+found_at c files at slot is found = subst (AreFound c files) (sym is) found
 
 -- the same of a file that is written
 pub written_at : (files : FileNames) (at slot : Slot) {old mid new : List Failure} → at ≢ Schema → Extends old mid → (slot ≡ at) × HasRisen Replace (name_of files at) mid new → (slot ≢ Schema) × HasRisen Replace (name_of files slot) old new

@@ -126,7 +126,7 @@ conflicts_low (suc n) = omega arith
 
 refused_by : (ending : Ending) (words : List Name) (c : Contents) (left : Option Contents) → (status_of ending ≡ 2) ⊎ (status_of ending ≡ 3) → Leaves ending words c left → left ≡ Some c
 refused_by (Stopped (Refused refusal)) words c left status h = h.same
-refused_by (Stopped (ReadFault slot)) words c left status h = h
+refused_by (Stopped (ReadFault slot)) words c left status h = h.same
 refused_by (Stopped (WriteFault slot)) words c left status h = absurd (omega arith)
 refused_by (Stopped Memory) words c left status h = absurd (omega arith)
 refused_by (PutFault report) words c left status h = absurd (omega arith)

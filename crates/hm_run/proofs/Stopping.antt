@@ -16,7 +16,7 @@ use Rattle.hm_command.specs.declared.ending.Report.{Report}
 use Rattle.hm_command.specs.declared.ending.Stop.TheVariants.{Refused, ReadFault, WriteFault, Memory}
 use Rattle.hm_command.specs.Words.{FileNames, name_of, apart, meaning}
 use Rattle.hm_run.specs.Steps.{stops, goes_on}
-use Rattle.hm_run.specs.Verdict.{Bytes, Texts, Trees, Synced, Plan, LoadsAll, ReadsAll, Becomes, reconciled, IsReport, Measures, within, overgrown, MeasuresAll, Plans, Verdict, texts_of, written}
+use Rattle.hm_run.specs.Verdict.{Bytes, Texts, Trees, Synced, Plan, LoadsAll, AreFound, ReadsAll, Becomes, reconciled, IsReport, Measures, within, overgrown, MeasuresAll, Plans, Verdict, texts_of, written}
 use Rattle.hm_run.specs.Seen.{itself, Follows, StopsReading}
 use Rattle.hm_run.specs.Writing.{place_of, StopsWriting, WritesAll}
 use Rattle.hm_run.specs.Causes.{HasMeaning, HasStopCause, IsMeant, IsStopState, IsDone, Synchronises}
@@ -91,11 +91,11 @@ no_fault A Q (ReadFault slot) h = absurd h
 no_fault A Q (WriteFault slot) h = absurd h
 no_fault A Q Memory h = tt
 
-told_by : (A : Type 0) (Q : Slot → Type 0) (words : List Name) (c : Contents) (stop : Stop) (left : Option Contents) → StopsReading {A = A} Q (Err stop) → Follows {A = Plan} itself (Err stop) (Verdict c words) → left ≡ Some c → Synchronises words c (Err stop) left
-told_by A Q words c (Refused refusal) left h f same = record { first = f; same = same }
-told_by A Q words c (ReadFault slot) left h f same = same
-told_by A Q words c (WriteFault slot) left h f same = absurd h
-told_by A Q words c Memory left h f same = inl same
+told_by : (A : Type 0) (words : List Name) (files : FileNames) (c : Contents) (stop : Stop) (left : Option Contents) → meaning words ≡ Ok files → StopsReading {A = A} (AreFound c files) (Err stop) → Follows {A = Plan} itself (Err stop) (Verdict c words) → left ≡ Some c → Synchronises words c (Err stop) left
+told_by A words files c (Refused refusal) left meant h f same = record { first = f; same = same }
+told_by A words files c (ReadFault slot) left meant h f same = record { files = files; meant = meant; found = h; same = same }
+told_by A words files c (WriteFault slot) left meant h f same = absurd h
+told_by A words files c Memory left meant h f same = inl same
 
 -- what a step that stopped found, as what the whole found
 found_by : (A B : Type 0) (step : Result A Refusal → Type 0) (whole : Result Plan Refusal → Type 0) (seen : B → A) (stop : Stop) → ((refusal : Refusal) → step (Err refusal) → whole (Err refusal)) → Follows seen (Err stop) step → Follows {A = Plan} itself (Err stop) whole
@@ -109,20 +109,20 @@ module _ (words : List Name) (c : Contents) (files : FileNames) (meant : meaning
   unfolding Verdict
   loads_first refusal h = goes_on (sym meant) (stops h)
 
-  pub loads_told : (A : Type 0) (seen : A → Bytes) (Q : Slot → Type 0) (stop : Stop) (r : Result Report Stop) (left : Option Contents) → r ≡ Err stop → StopsReading {A = A} Q (Err stop) → Follows seen (Err stop) (LoadsAll c files) → left ≡ Some c → Synchronises words c r left
-  loads_told A seen Q stop r left is h f same =
+  pub loads_told : (A : Type 0) (seen : A → Bytes) (stop : Stop) (r : Result Report Stop) (left : Option Contents) → r ≡ Err stop → StopsReading {A = A} (AreFound c files) (Err stop) → Follows seen (Err stop) (LoadsAll c files) → left ≡ Some c → Synchronises words c r left
+  loads_told A seen stop r left is h f same =
       let R : Result Report Stop → Type 0 = λ s. Synchronises words c s left in
-      subst R (sym is) (told_by A Q words c stop left h (found_by Bytes A (LoadsAll c files) (Verdict c words) seen stop loads_first f) same)
+      subst R (sym is) (told_by A words files c stop left meant h (found_by Bytes A (LoadsAll c files) (Verdict c words) seen stop loads_first f) same)
 
   module _ (bytes : Bytes) (loads : LoadsAll c files (Ok bytes)) where
     reads_first : (refusal : Refusal) → ReadsAll bytes (Err refusal) → Verdict c words (Err refusal)
     unfolding Verdict
     reads_first refusal h = goes_on (sym meant) (goes_on loads (stops h))
 
-    pub reads_told : (A : Type 0) (seen : A → Trees) (Q : Slot → Type 0) (stop : Stop) (r : Result Report Stop) (left : Option Contents) → r ≡ Err stop → StopsReading {A = A} Q (Err stop) → Follows seen (Err stop) (ReadsAll bytes) → left ≡ Some c → Synchronises words c r left
-    reads_told A seen Q stop r left is h f same =
+    pub reads_told : (A : Type 0) (seen : A → Trees) (stop : Stop) (r : Result Report Stop) (left : Option Contents) → r ≡ Err stop → StopsReading {A = A} (λ slot. ⊥) (Err stop) → Follows seen (Err stop) (ReadsAll bytes) → left ≡ Some c → Synchronises words c r left
+    reads_told A seen stop r left is h f same =
         let R : Result Report Stop → Type 0 = λ s. Synchronises words c s left in
-        subst R (sym is) (told_by A Q words c stop left h (found_by Trees A (ReadsAll bytes) (Verdict c words) seen stop reads_first f) same)
+        subst R (sym is) (told_by A words files c stop left meant (no_fault A (AreFound c files) stop h) (found_by Trees A (ReadsAll bytes) (Verdict c words) seen stop reads_first f) same)
 
     module _ (before : Trees) (reads : ReadsAll bytes (Ok before)) (after : Synced) (becomes : Becomes before after) (new : Texts) (texts : new ≡ texts_of after) where
       measures_first : (refusal : Refusal) → MeasuresAll (texts_of after) (Err refusal) → Verdict c words (Err refusal)

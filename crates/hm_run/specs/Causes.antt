@@ -14,7 +14,7 @@ use Rattle.hm_command.specs.declared.ending.Stop.{Stop}
 use Rattle.hm_command.specs.declared.ending.Report.{Report}
 use Rattle.hm_command.specs.declared.ending.Stop.TheVariants.{Refused, ReadFault, WriteFault, Memory}
 use Rattle.hm_command.specs.Words.{FileNames, name_of, meaning}
-use Rattle.hm_run.specs.Verdict.{Plan, Verdict, stop_state, IsReport}
+use Rattle.hm_run.specs.Verdict.{Plan, Verdict, AreFound, stop_state, IsReport}
 use Rattle.hm_run.specs.Writing.{place_of}
 
 -- the words mean something
@@ -63,9 +63,16 @@ pub record IsRefused (words : List Name) (c : Contents) (refusal : Refusal) (lef
   pub first : Verdict c words (Err refusal)
   pub same : left ≡ Some c
 
+-- this file could not be read, those before it could, and nothing has changed
+pub record IsUnread (words : List Name) (c : Contents) (slot : Slot) (left : Option Contents) : Type 0 where
+  pub files : FileNames
+  pub meant : meaning words ≡ Ok files
+  pub found : AreFound c files slot
+  pub same : left ≡ Some c
+
 abbrev pub Synchronises : List Name → Contents → Result Report Stop → Option Contents → Type 0
 Synchronises words c (Ok report) left = IsDone words c report left
 Synchronises words c (Err (Refused refusal)) left = IsRefused words c refusal left
-Synchronises words c (Err (ReadFault slot)) left = left ≡ Some c
+Synchronises words c (Err (ReadFault slot)) left = IsUnread words c slot left
 Synchronises words c (Err (WriteFault slot)) left = IsStopState words c left (place_of slot) ⊎ IsStopState words c left (place_of slot + 1)
 Synchronises words c (Err Memory) left = (left ≡ Some c) ⊎ ((n : ℕ) × IsStopState words c left n)

@@ -26,7 +26,7 @@ use Rattle.hm_command.specs.declared.ending.ReplicaFault.TheVariants as replica_
 use Rattle.hm_command.specs.declared.ending.Refusal.{Refusal}
 use Rattle.hm_command.specs.declared.ending.Report.{Report}
 use Rattle.hm_command.specs.declared.ending.Refusal.TheVariants.{Missing, TooLarge, BadSchema, BadArchive, BadReplica, Overgrown}
-use Rattle.hm_command.specs.Words.{FileNames, meaning}
+use Rattle.hm_command.specs.Words.{FileNames, name_of, meaning}
 use Rattle.hm_run.specs.Steps.{Then}
 
 -- the greatest number of bytes of a file
@@ -57,6 +57,17 @@ LoadsAll c files =
     Then (Loads slot.Left (held c files.left)) (λ a.
     Then (Loads slot.Right (held c files.right)) (λ b r.
     r ≡ Ok (record { schema = s; archive = o; left = a; right = b })))))
+
+-- a slot has a file that may be loaded, or is that of an archive that is absent
+abbrev pub IsFound : Contents → FileNames → Slot → Type 0
+IsFound c files at = (bytes : List ℕ) × Loads at (held c (name_of files at)) (Ok bytes)
+
+-- so has each slot that is loaded before this one
+abbrev pub AreFound : Contents → FileNames → Slot → Type 0
+AreFound c files slot.Schema = Unit {0}
+AreFound c files slot.Archive = IsFound c files slot.Schema
+AreFound c files slot.Left = IsFound c files slot.Schema × IsFound c files slot.Archive
+AreFound c files slot.Right = IsFound c files slot.Schema × IsFound c files slot.Archive × IsFound c files slot.Left
 
 -- ---- reading: the values that the bytes are the texts of
 

@@ -5,7 +5,7 @@ ghost use Rattle.hm_outside.specs.Failures.{Extends, HasRisen};
 ghost use Rattle.hm_outside.specs.declared.outside.Kind.TheVariants.{Load};
 ghost use Rattle.hm_command.specs.Words.{name_of};
 ghost use Rattle.hm_command.specs.Files.{names};
-ghost use Rattle.hm_run.specs.Verdict.{Loads as Finds, LoadsAll};
+ghost use Rattle.hm_run.specs.Verdict.{Loads as Finds, LoadsAll, AreFound};
 ghost use Rattle.hm_run.specs.Seen.{bytes_of, loads_of, WhereTold, Follows, IsCalm, StopsReading, StopsInMemory};
 
 use hm_command::{Files, Refusal, Slot, Stop};
@@ -67,6 +67,7 @@ pub fn load_all<S: Store>(alloc: Global, store: &mut S, files: Files<'_>) -> Res
     ensures calm { IsCalm result (S.failed store.old) (S.failed store.new) }
     ensures cause { StopsReading (λ at. HasRisen Load (name_of (names files.entry) at) (S.failed store.old) (S.failed store.new)) result }
     ensures told { WhereTold (S.contents store.old) (λ c. Follows loads_of result (LoadsAll c (names files.entry))) }
+    ensures found { WhereTold (S.contents store.old) (λ c. StopsReading (AreFound c (names files.entry)) result) }
 {
     let schema = load_one(alloc, store, Slot::Schema, files.schema)?;
     let archive = load_one(alloc, store, Slot::Archive, files.archive)?;

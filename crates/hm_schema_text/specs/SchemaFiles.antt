@@ -8,8 +8,8 @@ use Rattle.hm_tree.specs.declared.class.Class.{Class}
 use Rattle.hm_schema.specs.declared.node.NodeId.{NodeId}
 use Rattle.hm_schema.specs.declared.node.Shape.{Shape}
 use Rattle.hm_schema.specs.Values.{NodeValue, SchemaValue}
-use Rattle.hm_schema_text.specs.Items.{ItemValue, ShapeValue, header, root, node, edge, other, shape}
-use Rattle.hm_schema_text.specs.Entries.{EntryValue, skipped, unknown, says, IsFile}
+use Rattle.hm_schema_text.specs.Items.{ItemValue, ShapeValue, root, node, edge, other, shape}
+use Rattle.hm_schema_text.specs.Entries.{EntryValue, says, IsFile}
 use Rattle.hm_schema_text.specs.BadLines.{Says, named, begins_node, is_counted, nodes_before, behind, HasNoBadLine, IsFirstBadLine}
 use Rattle.hm_schema_text.specs.declared.fault.SchemaFault.{SchemaFault}
 use Rattle.hm_schema_text.specs.declared.fault.SchemaFault.TheVariants.{BadSchema, Memory}

@@ -33,7 +33,7 @@ returns-in_err-loads-clause-cause g c =
 pub returns-in_err-loads-clause-told : goal.returns-in_err-loads-clause-told
 returns-in_err-loads-clause-told g c = λ d told.
     let is : c.from_residual-in_err-loads.result ≡ Err c.in_err-loads.field-0.0 = search rules in
-    loads_told _ d (names c.in_ok-files.files) c.in_ok-files.ensures Loads loads_of _ _ _ _ is c.in_err-loads.ensures.cause (c.in_err-loads.ensures.told d told) (c.load_all.ensures.contents ∙ told)
+    loads_told _ d (names c.in_ok-files.files) c.in_ok-files.ensures Loads loads_of _ _ _ is (c.in_err-loads.ensures.found d told) (c.in_err-loads.ensures.told d told) (c.load_all.ensures.contents ∙ told)
 
 pub returns-in_err-inputs-clause-cause : goal.returns-in_err-inputs-clause-cause
 returns-in_err-inputs-clause-cause g c =
@@ -43,7 +43,7 @@ returns-in_err-inputs-clause-cause g c =
 pub returns-in_err-inputs-clause-told : goal.returns-in_err-inputs-clause-told
 returns-in_err-inputs-clause-told g c = λ d told.
     let is : c.from_residual-in_err-inputs.result ≡ Err c.in_err-inputs.field-0.0 = search rules in
-    reads_told _ d (names c.in_ok-files.files) c.in_ok-files.ensures _ (c.in_ok-loads.ensures.told d told) Inputs inputs_of _ _ _ _ is c.in_err-inputs.ensures.cause c.in_err-inputs.ensures.finds (c.load_all.ensures.contents ∙ told)
+    reads_told _ d (names c.in_ok-files.files) c.in_ok-files.ensures _ (c.in_ok-loads.ensures.told d told) Inputs inputs_of _ _ _ is c.in_err-inputs.ensures.cause c.in_err-inputs.ensures.finds (c.load_all.ensures.contents ∙ told)
 
 pub returns-in_err-measure_all-clause-cause : goal.returns-in_err-measure_all-clause-cause
 returns-in_err-measure_all-clause-cause g c =
