@@ -29,6 +29,7 @@ spoil() {
     case $1 in
     'no permission to read') chmod 000 "$file" ;;
     'no permission to enter the folder') chmod 000 own ;;
+    'no permission to read the folder') chmod 300 own ;;
     'no permission to write into the folder') chmod 555 own ;;
     'a folder') mv "$file" ../aside && mkdir "$file" ;;
     'a link to itself') mv "$file" ../aside && ln -s "$2" "$file" ;;
@@ -187,10 +188,14 @@ output_fails() {
     finish
 }
 
+# A folder that can't be read can't be flushed, which is no fault.
 if can_heed; then
     not_read 'no permission to read'
     not_read 'no permission to enter the folder'
     not_written 'no permission to write into the folder'
+    for slot in archive A B; do
+        with_fault 'no permission to read the folder' $slot 0 agreed none
+    done
 else
     skip 'permissions' "root passes over them, and can't run without this right here"
     heeding=()

@@ -1,5 +1,5 @@
 # shellcheck shell=bash
-# The first example, and the launcher.
+# The examples of the README, and the launcher.
 
 first_example() {
     begin 'the first example'
@@ -10,6 +10,18 @@ first_example() {
     cp schema ../want/schema
     run sync "$PWD/schema" "$PWD/archive" "$PWD/left" "$PWD/right" >../out
     ends 0 agreed
+    finish
+}
+
+example_of_a_conflict() {
+    begin 'the example of a conflict'
+    cp "$top"/examples/conflict/* .
+    local ada='"Ada Lovelace":{"email":{"ada@example.org"},"phone":{"+44 20 7946 0123"}}'
+    make ../want/archive "{$ada,\"Bob\":!}"
+    make ../want/left "{$ada}"
+    make ../want/right "{$ada,\"Bob\":{\"phone\":{\"+1 555 0102\",\"+1 555 0199\"}}}"
+    run sync "$top/examples/first/schema" archive left right >../out
+    ends 1 $'conflict /"Bob" lost /"Bob"/"phone"/"+1 555 0199"\nconflicts 1'
     finish
 }
 
@@ -25,6 +37,7 @@ launcher() {
 }
 
 first_example
+example_of_a_conflict
 if [[ -z ${HARMONY:-} ]]; then
     launcher
 else

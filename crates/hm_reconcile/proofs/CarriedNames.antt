@@ -2,6 +2,7 @@
 use Rattle.std.proofs.Common.{◌≡◌, ◌≢◌, ◌⊎◌, ◌↔◌, inl, inr, Bool, true, false, ◌||◌, IsTrue, List, [], ◌∷◌, ◌++◌, Option, Some, None, refl, sym, ap, subst, ◌∙◌}
 use Rattle.std.specs.Ordering.{eq_by_cmp}
 use Rattle.std.specs.FinSet.{contains, from_list, contains-from_list}
+use Rattle.std.proofs.lemmas.Bool.{or_left, or_right}
 use Rattle.std.proofs.lemmas.List.Folds.{list_any-append}
 use mathlib.Core.Bool.{true≢false}
 use Rattle.hm_tree.specs.declared.archive.State.TheVariants.{Missing, Present, Marked}
@@ -89,14 +90,6 @@ has_more : (names : List Name) (k q : Name) → ListHas (names ++ k ∷ []) q �
 has_more names k q =
     contains-from_list name_total (names ++ k ∷ []) q ∙ list_any-append (eq_by_cmp name_cmp q) names (k ∷ [])
     ∙ ap (λ b. b || (eq_by_cmp name_cmp q k || false)) (sym (contains-from_list name_total names q))
-
-or_left : (a b : Bool) → IsTrue a → IsTrue (a || b)
-or_left true b h = refl
-or_left false b h = absurd (true≢false (sym h))
-
-or_right : (a b : Bool) → IsTrue b → IsTrue (a || b)
-or_right true b h = refl
-or_right false b h = h
 
 or_cases : (a b : Bool) → IsTrue (a || (b || false)) → IsTrue a ⊎ IsTrue b
 or_cases true b h = inl refl

@@ -58,11 +58,11 @@ LoadsAll c files =
     Then (Loads slot.Right (held c files.right)) (λ b r.
     r ≡ Ok (record { schema = s; archive = o; left = a; right = b })))))
 
--- a slot has a file that may be loaded, or is that of an archive that is absent
+-- a slot is found: its file is there and no larger than a file may be, or it is the archive's and there is none
 abbrev pub IsFound : Contents → FileNames → Slot → Type 0
 IsFound c files at = (bytes : List ℕ) × Loads at (held c (name_of files at)) (Ok bytes)
 
--- so has each slot that is loaded before this one
+-- and so is each slot before this one, in the order in which they are loaded
 abbrev pub AreFound : Contents → FileNames → Slot → Type 0
 AreFound c files slot.Schema = Unit {0}
 AreFound c files slot.Archive = IsFound c files slot.Schema
