@@ -29,9 +29,6 @@ has_some {t = t} e = ap (λ (x : Option Tree). state x []) e ∙ state_root t
 pub lacks_none : {a : Option Tree} → a ≡ None → Lacks (state a) []
 lacks_none e = ap (λ (x : Option Tree). state x []) e
 
-pub some_none : {X : Type 0} {a : Option X} {t : X} → a ≡ Some t → a ≡ None → ⊥
-some_none s n = let f : Some _ ≡ None = sym s ∙ n in cc
-
 none_within : (a : Option Tree) (o : Archive) → a ≡ None → IsWithin a o
 none_within a o e p has = absurd (has_and_lacks has (ap (λ (x : Option Tree). state x p) e))
 

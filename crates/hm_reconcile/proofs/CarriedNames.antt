@@ -74,9 +74,6 @@ module _ (o : Archive) (t : Tree) where
       not_brought (kept has lacks alone changed) = has_and_lacks has refl
       not_brought (brought lacks other alone changed) = alone lost
 
-pub carriers_turned : (o : Archive) (one two : Option Tree) (left right : Bool) → AreCarriers o one two left right → AreCarriers o two one right left
-carriers_turned o one two left right h = record { left = h.right; right = h.left }
-
 -- ---- the names that were passed
 
 -- a list has those of the names that were passed that a side is to have

@@ -1,13 +1,12 @@
 -- What was held where a new archive is marked.
-use Rattle.std.proofs.Common.{◌≡◌, ◌≢◌, ◌↔◌, ◌⊎◌, inl, inr, List, [], ◌∷◌, map, Some, None, Result, Ok, Err, IfOk, Bool, true, false, cond, sym, ap, subst, ◌∙◌, refl}
+use Rattle.std.proofs.Common.{◌≡◌, ◌≢◌, ◌↔◌, ◌⊎◌, inl, inr, [], ◌∷◌, Some, None, Result, Ok, Err, IfOk, Bool, true, false, cond, sym, ap, subst, ◌∙◌, refl}
 use Rattle.std.specs.Ordering.{eq_by_cmp}
-use Rattle.std.specs.FinMap.{find}
 use mathlib.Core.Bool.{true≢false}
 use Rattle.hm_tree.specs.declared.archive.State.TheVariants.{Present, Marked}
 use Rattle.hm_tree.specs.declared.memory.Memory.{Memory}
 use Rattle.hm_tree.specs.Names.{Name, name_cmp}
-use Rattle.hm_tree.specs.Nodes.{Node, Tree, edges, below, is_marked, empty}
-use Rattle.hm_tree.specs.Archives.{Archive, under, with_archive, edges_here, recorded}
+use Rattle.hm_tree.specs.Nodes.{Tree, below, is_marked, empty}
+use Rattle.hm_tree.specs.Archives.{Archive, under, with_archive, recorded}
 use Rattle.hm_tree.specs.States.{Path, state, at_path}
 use Rattle.hm_tree.proofs.States.{state_unmarked, state-recorded}
 use Rattle.hm_safety.specs.Safety.{IsTopmostMark}
@@ -100,20 +99,3 @@ held_all old new held passed unmarked present h each (k ∷ p) mark =
     go : passed k ⊎ (under k new ≡ None) → at_path (under k held) p ≡ at_path (under k old) p
     go (inl was) = h.each k was p topmost
     go (inr none) = let no : ⊥ = (let e = sym (ap (λ o. state o p) none) ∙ there in cc) in absurd no
-
--- a node without names holds as much as nothing does
-pub held_nothing : (old new held : Archive) → state new [] ≡ Present → state held [] ≡ Present → edges_here held ≡ [] → Holds old new held → Holds old new None
-held_nothing old new held present root bare holds [] mark = absurd (present_unmarked new present mark.marked)
-held_nothing old new held present root bare holds (k ∷ p) mark = nothing p ∙ sym (at_under held k p (present_unmarked held root) ∙ ap (λ o. at_path o p) (gone held bare)) ∙ holds (k ∷ p) mark
-  where
-    nothing : (p : Path) → at_path {m = true} None (k ∷ p) ≡ at_path {m = true} None p
-    nothing [] = refl
-    nothing (x ∷ p) = refl
-
-    no_edges : (es : List (Name × Node true)) → map {B = Name × Archive} (λ (e : Name × Node true). (e.0, Some e.1)) es ≡ [] → find name_cmp k es ≡ None
-    no_edges [] e = refl
-    no_edges (x ∷ es) e = let no : ⊥ = cc in absurd no
-
-    gone : (o : Archive) → edges_here o ≡ [] → under k o ≡ None
-    gone None e = refl
-    gone (Some t) e = no_edges (edges t) e
