@@ -20,7 +20,7 @@ both_taken es fs es_rest fs_rest k m c d both l r =
       record { child = d; there = refl; is = r ∙ ap (λ (n : Name). (n, d) ∷ fs_rest) (two ∙ sym one) },
     )
 
--- a name less than the first is less than each
+-- a name less than the first one of a list stands before it
 before_first : (k n : Name) (es : List (Name × Tree)) → Some n ≡ first_name es → name_cmp k n ≡ Less → IsBeforeFirst k es
 before_first k n [] is less = tt
 before_first k n (e ∷ es) is less = ap (name_cmp k) (sym (same_Some n e.0 is)) ∙ less

@@ -35,6 +35,7 @@ pub record IsTakenOff (es rest : List (Name × Tree)) (k : Name) (c : Option Tre
   pub is : es ≡ in_front k c rest
   pub first : IsFirstOrBefore k c rest
 
+-- the least name of two lists is taken off both
 pub record IsTaken (es fs es_rest fs_rest : List (Name × Tree)) (k : Name) (one two : Option Tree) : Type 0 where
   pub left : IsTakenOff es es_rest k one
   pub right : IsTakenOff fs fs_rest k two
