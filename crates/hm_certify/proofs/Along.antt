@@ -1,20 +1,18 @@
 -- What is so at a path is so at the root of what stands there.
 use Rattle.std.proofs.Common.{◌≡◌, ◌↔◌, Bool, true, false, cond, [], ◌∷◌, ◌++◌, Option, Some, None, refl, sym, ap, subst, ◌∙◌}
-use Rattle.std.specs.Ordering.{ordering_then}
-use Rattle.std.proofs.lemmas.Cmp.{tied_itself}
 use Rattle.hm_tree.specs.declared.archive.State.{State}
 use Rattle.hm_tree.specs.Names.{Name}
 use Rattle.hm_tree.specs.Nodes.{Node, Tree, below, is_marked}
 use Rattle.hm_tree.specs.Archives.{Archive}
-use Rattle.hm_tree.specs.States.{Path, state, at_path}
+use Rattle.hm_tree.specs.States.{Path, state, at_path, View}
 use Rattle.hm_tree.proofs.Paths.{state_at, state_here, nothing_below}
-use Rattle.hm_tree.proofs.Sorted.{name_total}
-use Rattle.hm_safety.specs.Views.{View, Agree}
+use Rattle.hm_tree.proofs.PathLaws.{first_as}
+use Rattle.hm_safety.specs.Views.{Agree}
 use Rattle.hm_safety.specs.Changes.{HasChanged, IsLost}
-use Rattle.hm_schema.specs.Membership.{path_cmp}
+use Rattle.hm_report.proofs.News.{first_behind}
 use Rattle.hm_outcome.specs.Trios.{Trio, views, Differ}
 use Rattle.hm_outcome.specs.Carried.{IsCarried, on_both, clashing, kept, brought}
-use Rattle.hm_report.specs.Reasons.{IsFirstNews, LosesFirst}
+use Rattle.hm_report.specs.Reasons.{IsNews, IsFirstNews, LosesFirst}
 use Rattle.hm_certify.specs.Steps.{along}
 
 -- what stands at a path that goes on stands there from what stands at its beginning
@@ -33,12 +31,6 @@ at_path-append {m = m} (Some t) (k ∷ p) q = go (is_marked t) refl (at_path-app
 
 pub along-append : (p q : Path) (t : Trio) → along (p ++ q) t ≡ along q (along p t)
 along-append p q t = λ i. record { archive = at_path-append t.archive p q i; left = at_path-append t.left p q i; right = at_path-append t.right p q i }
-
--- ---- the order of paths that begin alike
-
-pub same_front : (p q r : Path) → path_cmp (p ++ q) (p ++ r) ≡ path_cmp q r
-same_front [] q r = refl
-same_front (k ∷ p) q r = ap (λ o. ordering_then o (path_cmp (p ++ q) (p ++ r))) (tied_itself name_total k) ∙ same_front p q r
 
 -- ---- one side deleted it, and what the other has there
 
@@ -69,23 +61,21 @@ module _ (o : Archive) (mine other : Option Tree) (p : Path) where
     },
   )
 
+  news_along : (r : Path) → IsNews (state o) (state mine) (p ++ r) ↔ IsNews O M r
+  news_along r = (
+    λ n. record { has = sym (state_at mine p r) ∙ n.has; news = λ e. n.news (state_at o p r ∙ e) },
+    λ n. record { has = state_at mine p r ∙ n.has; news = λ e. n.news (sym (state_at o p r) ∙ e) },
+  )
+
   pub first_along : (names : Path) → IsFirstNews (state o) (state mine) p (p ++ names) ↔ IsFirstNews O M [] names
   first_along names = (
-    λ f. record {
-      below = names;
-      is = refl;
-      has = sym (state_at mine p names) ∙ f.has;
-      news = λ e. f.news (state_at o p names ∙ e);
-      first = λ r has news less. f.first r (state_at mine p r ∙ has) (λ e. news (sym (state_at o p r) ∙ e)) (same_front p r names ∙ less);
-    },
-    λ f. record {
-      below = names;
-      is = refl;
-      has = state_at mine p names ∙ f.has;
-      news = λ e. f.news (sym (state_at o p names) ∙ e);
-      first = λ r has news less. f.first r (sym (state_at mine p r) ∙ has) (λ e. news (state_at o p r ∙ e)) (sym (same_front p r names) ∙ less);
-    },
+    λ f. (first_behind O M [] names).1 (first_as at_p (IsNews O M) names news_along ((first_behind (state o) (state mine) p names).0 f)),
+    λ f. (first_behind (state o) (state mine) p names).1
+        (first_as (IsNews O M) at_p names (λ r. ((news_along r).1, (news_along r).0)) ((first_behind O M [] names).0 f)),
   )
+    where
+      at_p : Path → Type 0
+      at_p r = IsNews (state o) (state mine) (p ++ r)
 
   pub loses_along : (names : Path) → LosesFirst (state o) (state mine) (state other) p (p ++ names) ↔ LosesFirst O M N [] names
   loses_along names = (

@@ -10,11 +10,11 @@ use Rattle.std.proofs.lemmas.Map.Keys.{Less-from_sorted, sorted_from_all_adjacen
 use Rattle.hm_tree.specs.Archives.{Archive}
 use Rattle.hm_tree.specs.States.{Path, state}
 use Rattle.hm_safety.specs.Safety.{IsTopmostMark}
-use Rattle.hm_schema.specs.Membership.{path_cmp}
+use Rattle.hm_tree.specs.PathOrder.{path_cmp}
 use Rattle.hm_outcome.specs.TopmostMarks.{AreTopmostMarks}
 use Rattle.hm_outcome.specs.TopmostList.{topmost_list}
 use Rattle.hm_report.specs.declared.conflict.Conflict.{Conflict}
-use Rattle.hm_outcome.proofs.TopmostLists.{path_total}
+use Rattle.hm_tree.proofs.PathLaws.{path_total}
 use Rattle.hm_certify.proofs.MarksCounted.{listed_count, counted_list, all_marks}
 
 abbrev pub paths_of : List Conflict → List Path

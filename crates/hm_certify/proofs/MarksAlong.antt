@@ -4,8 +4,7 @@ use Rattle.std.proofs.lemmas.List.{drop_all}
 use Rattle.hm_tree.specs.declared.archive.State.TheVariants.{Marked}
 use Rattle.hm_tree.specs.Names.{Name}
 use Rattle.hm_tree.specs.Archives.{Archive, under}
-use Rattle.hm_tree.specs.States.{Path, state}
-use Rattle.hm_safety.specs.Views.{View}
+use Rattle.hm_tree.specs.States.{Path, state, View}
 use Rattle.hm_safety.specs.Safety.{IsTopmostMark}
 use Rattle.hm_outcome.proofs.Marks.{at_root, below_root}
 use Rattle.hm_outcome.proofs.Downward.{state_under, none_above_below}

@@ -10,10 +10,11 @@ use Rattle.hm_tree.specs.Archives.{Archive, edges_here}
 use Rattle.hm_tree.specs.States.{Path, state}
 use Rattle.hm_tree.proofs.Kept.{take_more}
 use Rattle.hm_safety.specs.Safety.{IsTopmostMark}
-use Rattle.hm_schema.specs.Membership.{path_cmp}
+use Rattle.hm_tree.specs.PathOrder.{path_cmp}
 use Rattle.hm_outcome.specs.TopmostMarks.{AreTopmostMarks}
 use Rattle.hm_outcome.specs.TopmostList.{topmost_list}
-use Rattle.hm_outcome.proofs.TopmostLists.{path_total, marks_once, place_marks, list_marked, list_places, topmost_listed}
+use Rattle.hm_outcome.proofs.TopmostLists.{marks_once, place_marks, list_marked, list_places, topmost_listed}
+use Rattle.hm_tree.proofs.PathLaws.{path_total}
 use Rattle.hm_outcome.proofs.SortedLists.{contained}
 
 pub one_at_mark : (o : Archive) → state o [] ≡ Marked → length (topmost_list o) ≡ 1

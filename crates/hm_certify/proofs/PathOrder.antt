@@ -6,7 +6,7 @@ use lib.Dec.{ltb}
 use Rattle.std.specs.declared.cmp.Ordering.TheVariants.{Less, Equal, Greater}
 use Rattle.hm_tree.specs.Names.{Name}
 use Rattle.hm_tree.specs.States.{Path}
-use Rattle.hm_schema.specs.Membership.{path_cmp}
+use Rattle.hm_tree.specs.PathOrder.{path_cmp}
 use Rattle.hm_certify.proofs.Verdicts.{is_so, is_not}
 use Rattle.hm_tree.proofs.Paths.{front_is}
 

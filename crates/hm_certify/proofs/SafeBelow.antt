@@ -2,8 +2,8 @@
 use Rattle.std.proofs.Common.{◌≡◌, ◌≢◌, ◌⊎◌, [], ◌∷◌, inl, inr}
 use Rattle.hm_tree.specs.declared.archive.State.TheVariants.{Marked}
 use Rattle.hm_tree.specs.Names.{Name}
-use Rattle.hm_tree.specs.States.{Path}
-use Rattle.hm_safety.specs.Views.{Views, Has}
+use Rattle.hm_tree.specs.States.{Path, Has}
+use Rattle.hm_safety.specs.Views.{Views}
 use Rattle.hm_safety.specs.Changes.{HasChanged, Clash}
 use Rattle.hm_safety.specs.Safety.{IsTopmostMark, IsSafe}
 use Rattle.hm_outcome.proofs.Marks.{below_root}

@@ -5,10 +5,10 @@ use Rattle.hm_tree.specs.declared.archive.State.TheVariants.{Missing, Present, M
 use Rattle.hm_tree.specs.Names.{Name}
 use Rattle.hm_tree.specs.Nodes.{Node, Tree}
 use Rattle.hm_tree.specs.Archives.{Archive}
-use Rattle.hm_tree.specs.States.{Path, state, IsWithin}
+use Rattle.hm_tree.specs.States.{Path, state, IsWithin, Has, Lacks}
 use Rattle.hm_tree.proofs.Paths.{state_at}
 use Rattle.hm_tree.proofs.Extent.{same_option, stands}
-use Rattle.hm_safety.specs.Views.{Views, Has, Lacks}
+use Rattle.hm_safety.specs.Views.{Views}
 use Rattle.hm_safety.specs.Changes.{HasChanged, Clash}
 use Rattle.hm_safety.specs.Safety.{IsTopmostMark, IsSafe}
 use Rattle.hm_outcome.specs.Trios.{Trio, views}

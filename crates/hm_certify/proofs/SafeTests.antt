@@ -5,9 +5,8 @@ use Rattle.hm_tree.specs.declared.archive.State.TheVariants.{Missing, Present, M
 use Rattle.hm_tree.specs.Names.{Name}
 use Rattle.hm_tree.specs.Nodes.{Tree, below, edges, is_marked}
 use Rattle.hm_tree.specs.Archives.{Archive, under, edges_here}
-use Rattle.hm_tree.specs.States.{state, at_path, IsWithin}
+use Rattle.hm_tree.specs.States.{state, at_path, IsWithin, Has, Lacks}
 use Rattle.hm_tree.proofs.States.{state_root}
-use Rattle.hm_safety.specs.Views.{Has, Lacks}
 use Rattle.hm_safety.specs.Changes.{IsLost}
 use Rattle.hm_safety.specs.Safety.{IsSafe}
 use Rattle.hm_outcome.specs.Trios.{Trio, views}

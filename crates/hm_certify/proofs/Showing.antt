@@ -1,15 +1,16 @@
 -- What conflicts show, by what stands at their paths.
 use Rattle.std.proofs.Common.{◌≡◌, ◌⊎◌, ◌↔◌, ◌<◌, length, Bool, true, false, not, IsTrue, IsSome, is_some, Bor, MatchOption, option_copied, option_and_then, [], ◌∷◌, ◌++◌, Option, Some, None, refl, sym, ap, subst, ◌∙◌, inl, inr, arith}
 use mathlib.Core.Bool.{false≢true}
+use Rattle.std.proofs.lemmas.List.{append_cancel_left}
 use Rattle.std.proofs.lemmas.Option.{none-some, same_Some, slice_get_cases}
 use Rattle.hm_tree.specs.declared.archive.State.TheVariants.{Missing, Present, Marked}
 use Rattle.hm_tree.specs.Names.{Name}
 use Rattle.hm_tree.specs.Nodes.{Tree}
 use Rattle.hm_tree.specs.Archives.{Archive}
-use Rattle.hm_tree.specs.States.{Path, state, at_path}
+use Rattle.hm_tree.specs.States.{Path, state, at_path, Has}
 use Rattle.hm_tree.proofs.Paths.{state_here}
 use Rattle.hm_tree.proofs.States.{state_root, state_unmarked}
-use Rattle.hm_safety.specs.Views.{Views, Has, Agree}
+use Rattle.hm_safety.specs.Views.{Views, Agree}
 use Rattle.hm_schema.specs.declared.node.NodeId.{NodeId}
 use Rattle.hm_schema.specs.Values.{Names, NodeValue, SchemaValue, node_at, node_of, reached}
 use Rattle.hm_schema.specs.Permitted.{Permits, PermitsAt}
@@ -55,12 +56,8 @@ still_differ t false marked h = is_so (marked, elim (differs t.left t.right) [ i
 
 -- ---- behind a path
 
-one_rest : (p q r : Path) → p ++ q ≡ p ++ r → q ≡ r
-one_rest [] q r e = e
-one_rest (k ∷ p) q r e = let rest : p ++ q ≡ p ++ r = cc in one_rest p q r rest
-
 pub loses_behind : (t : Trio) (p q rest : Path) (b : Bool) → q ≡ p ++ rest → IsTrue b ↔ LosesHere t rest → IsTrue b ↔ LosesBehind t p q
-loses_behind t p q rest b is h = (λ true_is. (rest, is, h.0 true_is), λ l. h.1 (subst (LosesHere t) (one_rest p l.0 rest (sym l.1 ∙ is)) l.2))
+loses_behind t p q rest b is h = (λ true_is. (rest, is, h.0 true_is), λ l. h.1 (subst (LosesHere t) (append_cancel_left p l.0 rest (sym l.1 ∙ is)) l.2))
 
 module _ (s : SchemaValue) (i : NodeId) (t : Trio) (p : Path) where
   abbrev v : Views

@@ -3,8 +3,7 @@ use Rattle.std.specs.Prelude.{◌≡◌, ◌⊎◌, [], ◌∷◌, Option, Some,
 use Rattle.hm_tree.specs.Names.{Name}
 use Rattle.hm_tree.specs.Nodes.{Tree, below}
 use Rattle.hm_tree.specs.Archives.{Archive, under}
-use Rattle.hm_tree.specs.States.{state, at_path, IsWithin}
-use Rattle.hm_safety.specs.Views.{Has}
+use Rattle.hm_tree.specs.States.{state, at_path, IsWithin, Has}
 use Rattle.hm_safety.specs.Changes.{Clash}
 use Rattle.hm_outcome.specs.Trios.{Trio, views}
 use Rattle.hm_certify.specs.Steps.{step}

@@ -4,7 +4,7 @@ ghost use Rattle.std.specs.declared.cmp.Ordering.TheVariants.{Less};
 ghost use Rattle.std.specs.List.Sorted.{IsStrictlySortedBy};
 ghost use Rattle.hm_tree.specs.States.{state};
 ghost use Rattle.hm_safety.specs.Safety.{IsTopmostMark};
-ghost use Rattle.hm_schema.specs.Membership.{path_cmp};
+ghost use Rattle.hm_tree.specs.PathOrder.{path_cmp};
 ghost use Rattle.hm_outcome.specs.TopmostList.{topmost_list};
 ghost use Rattle.hm_outcome.specs.TopmostMarks.{AreTopmostMarks};
 

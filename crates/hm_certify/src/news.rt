@@ -3,10 +3,11 @@ ghost use Rattle.std.specs.Prelude.{◌≡◌, ◌≢◌, ◌↔◌, ◌++◌, [
 ghost use Rattle.std.specs.declared.cmp.Ordering.TheVariants.{Less};
 ghost use Rattle.hm_tree.specs.Names.{name_cmp};
 ghost use Rattle.hm_tree.specs.Archives.{under};
+ghost use Rattle.hm_tree.specs.PathOrder.{IsFirst};
 ghost use Rattle.hm_tree.specs.States as states;
 ghost use Rattle.hm_tree.specs.States.{state, IsWithin};
 ghost use Rattle.hm_tree.specs.declared.archive.State.TheVariants.{Present};
-ghost use Rattle.hm_report.specs.Reasons.{IsFirstNews};
+ghost use Rattle.hm_report.specs.Reasons.{IsNews};
 ghost use Rattle.hm_certify.specs.Standing.{archive_or_none, trio_of};
 ghost use Rattle.hm_certify.specs.News.{IsWithinBefore, LosesHere};
 
@@ -64,7 +65,7 @@ fn is_present(archive: Option<&Archive>) -> bool
 
 /// Whether the path of some names is the first one of a tree at which an archive isn't present.
 pub fn is_first_news(tree: &Tree, archive: Option<&Archive>, names: &[Name]) -> bool
-    ensures { IsTrue result ↔ IsFirstNews (state (archive_or_none (option_copied archive.entry))) (state (Some tree.now)) [] names.now }
+    ensures { IsTrue result ↔ IsFirst (IsNews (state (archive_or_none (option_copied archive.entry))) (state (Some tree.now))) names.now }
 {
     let mut side = tree;
     let mut known = archive;

@@ -1,9 +1,9 @@
 -- Where a result is contested, its two sides still differ.
 use Rattle.std.proofs.Common.{◌≡◌, inl, inr, ◌↔◌, [], ◌∷◌, ◌++◌, append-nil, Option, Some, None, refl, sym, ap, subst₂, ◌∙◌}
 use Rattle.hm_tree.specs.Nodes.{Tree}
-use Rattle.hm_tree.specs.States.{Path, state, at_path}
+use Rattle.hm_tree.specs.States.{Path, state, at_path, View, Has, Lacks}
 use Rattle.hm_tree.proofs.Paths.{state_at, state_here}
-use Rattle.hm_safety.specs.Views.{View, Has, Lacks, Agree}
+use Rattle.hm_safety.specs.Views.{Agree}
 use Rattle.hm_safety.specs.Safety.{IsTopmostMark}
 use Rattle.hm_schema.specs.declared.node.NodeId.{NodeId}
 use Rattle.hm_schema.specs.Values.{Names, SchemaValue}

@@ -6,15 +6,15 @@ use Rattle.hm_tree.specs.declared.archive.State.TheVariants.{Present, Marked}
 use Rattle.hm_tree.specs.Names.{Name}
 use Rattle.hm_tree.specs.Nodes.{Node, Tree, below, is_marked}
 use Rattle.hm_tree.specs.Archives.{under}
-use Rattle.hm_tree.specs.States.{Path, state}
+use Rattle.hm_tree.specs.States.{Path, state, View, Has, down}
 use Rattle.hm_tree.proofs.States.{state_root, state_unmarked}
-use Rattle.hm_safety.specs.Views.{View, Views, Has}
+use Rattle.hm_safety.specs.Views.{Views}
 use Rattle.hm_safety.specs.Changes.{IsLost, Clash}
 use Rattle.hm_safety.specs.Safety.{IsTopmostMark, IsSafe}
 use Rattle.hm_schema.specs.declared.node.NodeId.{NodeId}
 use Rattle.hm_schema.specs.Values.{Names, NodeValue, SchemaValue, node_at, child_at, reached, node_of}
 use Rattle.hm_schema.specs.Permitted.{Permits}
-use Rattle.hm_schema.specs.Membership.{down, HasNames, IsTwin, IsMember, HasNoTwins}
+use Rattle.hm_schema.specs.Membership.{HasNames, IsTwin, IsMember, HasNoTwins}
 use Rattle.hm_outcome.specs.Trios.{Trio, views, AreMembers, IsSafeUnder}
 use Rattle.hm_outcome.specs.Carried.{IsCarried, on_both, clashing, kept, brought, AreCarried}
 use Rattle.hm_outcome.specs.Contested.{IsContested, earlier, lost, refused, IsTopmostContested}

@@ -4,15 +4,14 @@ use Rattle.std.proofs.lemmas.Option.{same_Some}
 use Rattle.hm_tree.specs.declared.archive.State.{State}
 use Rattle.hm_tree.specs.declared.archive.State.TheVariants.{Missing, Present, Marked}
 use Rattle.hm_tree.specs.Names.{Name}
-use Rattle.hm_tree.specs.States.{Path, state}
+use Rattle.hm_tree.specs.States.{Path, state, View, Has, Lacks, down}
 use Rattle.hm_tree.proofs.States.{state_unmarked}
-use Rattle.hm_safety.specs.Views.{View, Has, Lacks}
 use Rattle.hm_safety.specs.Changes.{IsLost, Clash}
 use Rattle.hm_safety.specs.Safety.{IsSafe}
 use Rattle.hm_schema.specs.declared.node.NodeId.{NodeId}
 use Rattle.hm_schema.specs.Values.{Names, NodeValue, SchemaValue, node_of}
 use Rattle.hm_schema.specs.Permitted.{Permits}
-use Rattle.hm_schema.specs.Membership.{down, HasNames, IsMember}
+use Rattle.hm_schema.specs.Membership.{HasNames, IsMember}
 use Rattle.hm_schema.proofs.NamesOf.{same_names, bools}
 use Rattle.hm_outcome.specs.Trios.{Trio, views, turned, AreMembers}
 use Rattle.hm_outcome.specs.Carried.{IsCarried, on_both, clashing, kept, brought, AreCarried}

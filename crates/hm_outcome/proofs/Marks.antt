@@ -5,11 +5,10 @@ use Rattle.hm_tree.specs.declared.archive.State.TheVariants.{Missing, Present, M
 use Rattle.hm_tree.specs.Names.{Name}
 use Rattle.hm_tree.specs.Nodes.{Node, Tree, is_marked, below}
 use Rattle.hm_tree.specs.Archives.{Archive}
-use Rattle.hm_tree.specs.States.{Path, state}
+use Rattle.hm_tree.specs.States.{Path, state, View, Has, Lacks, down}
 use Rattle.hm_tree.proofs.States.{state_unmarked}
-use Rattle.hm_safety.specs.Views.{View, Has, Lacks, Agree, both_present, both_missing}
+use Rattle.hm_safety.specs.Views.{Agree, both_present, both_missing}
 use Rattle.hm_safety.specs.Safety.{IsTopmostMark}
-use Rattle.hm_schema.specs.Membership.{down}
 
 -- ---- states
 

@@ -7,11 +7,11 @@ use Rattle.hm_tree.specs.declared.archive.State.TheVariants.{Missing, Present, M
 use Rattle.hm_tree.specs.Names.{Name, name_cmp}
 use Rattle.hm_tree.specs.Nodes.{Tree, below, edges, depth}
 use Rattle.hm_tree.specs.Archives.{Archive}
-use Rattle.hm_tree.specs.States.{Path, state}
+use Rattle.hm_tree.specs.States.{Path, state, Has}
 use Rattle.hm_tree.proofs.Depths.{depth_below}
 use Rattle.hm_tree.proofs.States.{state_root, state_down}
 use Rattle.hm_tree.proofs.Extent.{same_tree}
-use Rattle.hm_safety.specs.Views.{Has, Agree, both_present, both_missing}
+use Rattle.hm_safety.specs.Views.{Agree, both_present, both_missing}
 use Rattle.hm_schema.proofs.NamesOf.{tie_one}
 use Rattle.hm_outcome.proofs.Marks.{has_or_lacks, has_and_lacks}
 

@@ -9,15 +9,15 @@ use Rattle.hm_tree.specs.declared.archive.State.TheVariants.{Missing, Present, M
 use Rattle.hm_tree.specs.Names.{Name}
 use Rattle.hm_tree.specs.Nodes.{Tree, below, marked}
 use Rattle.hm_tree.specs.Archives.{Archive}
-use Rattle.hm_tree.specs.States.{Path, state}
+use Rattle.hm_tree.specs.States.{Path, state, View, Has, Lacks, down}
 use Rattle.hm_tree.proofs.States.{state_root, state_down, state_unmarked, state_marked, state-recorded}
-use Rattle.hm_safety.specs.Views.{View, Has, Lacks, Agree, both_present, both_missing}
+use Rattle.hm_safety.specs.Views.{Agree, both_present, both_missing}
 use Rattle.hm_safety.specs.Changes.{IsLost, Clash}
 use Rattle.hm_safety.specs.Safety.{IsTopmostMark}
 use Rattle.hm_schema.specs.declared.node.NodeId.{NodeId}
 use Rattle.hm_schema.specs.Values.{Names, NodeValue, SchemaValue, node_of}
 use Rattle.hm_schema.specs.Permitted.{Permits}
-use Rattle.hm_schema.specs.Membership.{down, HasNames, IsMember}
+use Rattle.hm_schema.specs.Membership.{HasNames, IsMember}
 use Rattle.hm_schema.proofs.NamesOf.{same_names}
 use Rattle.hm_outcome.specs.Trios.{Trio, views, turned, recorded_side, AreMembers}
 use Rattle.hm_outcome.specs.Carried.{IsCarried, on_both, clashing, kept, brought}

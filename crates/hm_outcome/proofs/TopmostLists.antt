@@ -6,8 +6,6 @@ use Rattle.std.specs.FinMap.{find, is_sorted}
 use Rattle.std.specs.List.{flat_map, Contains, AllByRecursion}
 use Rattle.std.specs.List.Sorted.{IsStrictlySortedBy}
 use Rattle.std.specs.Option.{option_map}
-use Rattle.std.specs.Cmp.{IsTotalOrder}
-use Rattle.std.specs.Cmp.Lexicographic.{lists_total}
 use mathlib.Core.Bool.{true≢false}
 use Rattle.std.proofs.lemmas.Cmp.{tied_itself}
 use Rattle.std.proofs.lemmas.List.{length-map, get_or-map, get_or_default}
@@ -18,12 +16,12 @@ use Rattle.hm_tree.specs.Names.{Name, name_cmp}
 use Rattle.hm_tree.specs.Nodes.{Shape, bare, mark, edge, above, is_node, is_mark, Node, below_all, first, second, depth, is_marked, edges_of, edges, below}
 use Rattle.hm_tree.specs.NodeLaws.{edges_sorted}
 use Rattle.hm_tree.specs.Archives.{Archive, edges_here, depth_here}
-use Rattle.hm_tree.specs.States.{Path, state}
+use Rattle.hm_tree.specs.States.{Path, state, View}
 use Rattle.hm_tree.proofs.Sorted.{name_total, is_less}
+use Rattle.hm_tree.proofs.PathLaws.{path_total}
 use Rattle.hm_tree.proofs.Depths.{depth_edge}
-use Rattle.hm_safety.specs.Views.{View}
 use Rattle.hm_safety.specs.Safety.{IsTopmostMark}
-use Rattle.hm_schema.specs.Membership.{path_cmp}
+use Rattle.hm_tree.specs.PathOrder.{path_cmp}
 use Rattle.hm_schema.proofs.NamesOf.{tie_one}
 use Rattle.hm_outcome.specs.TopmostMarks.{AreTopmostMarks}
 use Rattle.hm_outcome.specs.TopmostList.{below_name, marks_of, topmost_list}
@@ -288,9 +286,6 @@ topmost_listed None = record {
 topmost_listed (Some t) = node_listed (suc (depth t)) t (omega arith)
 
 -- ---- there is one list of the topmost marks
-
-pub path_total : IsTotalOrder path_cmp
-path_total = lists_total name_total
 
 pub marks_once : (archive : View) (xs ys : List Path) → AreTopmostMarks archive xs → AreTopmostMarks archive ys → xs ≡ ys
 marks_once archive xs ys one other =

@@ -1,8 +1,8 @@
 -- Where a mark has to stand, and why.
 use Rattle.std.specs.Prelude.{◌≡◌, ◌≢◌, ◌⊎◌, [], ◌++◌, Some}
 use Rattle.hm_tree.specs.declared.archive.State.TheVariants.{Present, Marked}
-use Rattle.hm_tree.specs.States.{Path}
-use Rattle.hm_safety.specs.Views.{Views, Has}
+use Rattle.hm_tree.specs.States.{Path, Has}
+use Rattle.hm_safety.specs.Views.{Views}
 use Rattle.hm_safety.specs.Changes.{Clash}
 use Rattle.hm_schema.specs.declared.node.NodeId.{NodeId}
 use Rattle.hm_schema.specs.Values.{Names, NodeValue, SchemaValue, node_of}

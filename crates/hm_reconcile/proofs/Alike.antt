@@ -1,15 +1,15 @@
 -- Whether a path is contested, and what shows why, depends only on what stands at the path and below it.
-use Rattle.std.proofs.Common.{◌≡◌, inl, inr, List, [], ◌∷◌, ◌++◌, append-nil, get_or, sym, ap, subst, subst₂, ◌∙◌}
+use Rattle.std.proofs.Common.{◌≡◌, ◌↔◌, inl, inr, List, [], ◌∷◌, ◌++◌, append-nil, get_or, sym, ap, subst, subst₂, ◌∙◌}
 use Rattle.std.proofs.lemmas.List.{get_or_default}
 use Rattle.hm_tree.specs.Archives.{Archive}
-use Rattle.hm_tree.specs.States.{Path, state}
+use Rattle.hm_tree.specs.States.{Path, state, View, down}
 use Rattle.hm_tree.proofs.Paths.{state_at}
-use Rattle.hm_safety.specs.Views.{View, Views, Agree}
+use Rattle.hm_tree.proofs.PathLaws.{first_as}
+use Rattle.hm_safety.specs.Views.{Views, Agree}
 use Rattle.hm_safety.specs.Changes.{IsLost}
 use Rattle.hm_safety.specs.Safety.{IsTopmostMark}
 use Rattle.hm_schema.specs.declared.node.NodeId.{NodeId}
 use Rattle.hm_schema.specs.Values.{Names, SchemaValue}
-use Rattle.hm_schema.specs.Membership.{down}
 use Rattle.hm_outcome.specs.Trios.{Trio, views, Differ}
 use Rattle.hm_outcome.specs.Carried.{AreCarried}
 use Rattle.hm_outcome.specs.Contested.{AreRefused, IsContested, earlier, lost, refused}
@@ -19,7 +19,7 @@ use Rattle.hm_outcome.proofs.Settled.{chained}
 use Rattle.hm_report.specs.Conflicts.{AreConflicts}
 use Rattle.hm_report.specs.declared.conflict.Conflict.{Conflict}
 use Rattle.hm_report.specs.declared.conflict.Why.{Why}
-use Rattle.hm_report.specs.Reasons.{IsFirstNews, LosesFirst, ShowsWhy}
+use Rattle.hm_report.specs.Reasons.{IsNews, IsFirstNews, LosesFirst, ShowsWhy}
 use Rattle.hm_report.specs.Reasons as reason
 use Rattle.hm_report.proofs.Explained.{listed_path}
 use Rattle.hm_reconcile.specs.Alike.{AreAlikeFrom}
@@ -75,13 +75,17 @@ module _ (p : Path) (v w : Views) (alike : AreAlikeFrom p v w) where
       carried_up p w.archive w.left w.right names
       (subst (λ (z : Views). AreCarried z.archive z.left z.right [] names) same_from (λ k. chained (are k) (carried_down p v.archive v.left v.right (k ∷ []))))
 
+  news_left : (r : Path) → IsNews v.archive v.left (p ++ r) ↔ IsNews w.archive w.left (p ++ r)
+  news_left r = (
+    λ n. record { has = sym (alike.left r) ∙ n.has; news = λ present. n.news (alike.archive r ∙ present) },
+    λ n. record { has = alike.left r ∙ n.has; news = λ present. n.news (sym (alike.archive r) ∙ present) },
+  )
+
   first_left : (q : Path) → IsFirstNews v.archive v.left p q → IsFirstNews w.archive w.left p q
   first_left q f = record {
     below = f.below;
     is = f.is;
-    has = ap w.left f.is ∙ sym (alike.left f.below) ∙ ap v.left (sym f.is) ∙ f.has;
-    news = λ present. f.news (ap v.archive f.is ∙ alike.archive f.below ∙ ap w.archive (sym f.is) ∙ present);
-    first = λ r has news less. f.first r (alike.left r ∙ has) (λ present. news (sym (alike.archive r) ∙ present)) less;
+    first = first_as (λ r. IsNews v.archive v.left (p ++ r)) (λ r. IsNews w.archive w.left (p ++ r)) f.below news_left f.first;
   }
 
   loses_left : (q : Path) → LosesFirst v.archive v.left v.right p q → LosesFirst w.archive w.left w.right p q

@@ -9,17 +9,16 @@ use Rattle.hm_tree.specs.Names.{Name, name_cmp}
 use Rattle.hm_tree.specs.Nodes.{Tree, edges, below}
 use Rattle.hm_tree.specs.NodeLaws.{is_marked-node}
 use Rattle.hm_tree.specs.Archives.{Archive, under, with_archive}
-use Rattle.hm_tree.specs.States.{Path, state}
+use Rattle.hm_tree.specs.States.{Path, state, View, Has, down}
 use Rattle.hm_tree.proofs.States.{state_root, state_down}
 use Rattle.std.proofs.lemmas.Cmp.{tied_itself}
 use Rattle.hm_tree.proofs.Sorted.{name_total, below_with}
-use Rattle.hm_safety.specs.Views.{View, Has}
 use Rattle.hm_safety.specs.Changes.{Clash}
 use Rattle.hm_safety.specs.Safety.{IsSafe}
 use Rattle.hm_schema.specs.declared.node.NodeId.{NodeId}
 use Rattle.hm_schema.specs.Values.{NodeValue, SchemaValue, node_at, child_at}
 use Rattle.hm_schema.specs.Permitted.{Permits, PermitsAt, names_of}
-use Rattle.hm_schema.specs.Membership.{down, HasNames, IsMember, HasNoTwins}
+use Rattle.hm_schema.specs.Membership.{HasNames, IsMember, HasNoTwins}
 use Rattle.hm_schema.proofs.NamesOf.{tie_one, names_of-below}
 use Rattle.hm_outcome.specs.Trios.{Trio, given, views, turned, AreMembers}
 use Rattle.hm_outcome.specs.Carried.{IsCarried, on_both, clashing, kept, brought, AreCarried}

@@ -5,9 +5,8 @@ use Rattle.hm_tree.specs.declared.archive.State.TheVariants.{Marked}
 use Rattle.hm_tree.specs.Names.{Name}
 use Rattle.hm_tree.specs.Nodes.{Tree}
 use Rattle.hm_tree.specs.Archives.{Archive}
-use Rattle.hm_tree.specs.States.{state}
+use Rattle.hm_tree.specs.States.{state, View, Has}
 use Rattle.hm_tree.proofs.States.{state_root}
-use Rattle.hm_safety.specs.Views.{View, Has}
 use Rattle.hm_schema.specs.declared.node.NodeId.{NodeId}
 use Rattle.hm_schema.specs.Values.{Names, SchemaValue}
 use Rattle.hm_schema.specs.Permitted.{PermitsAt, names_of}

@@ -1,17 +1,14 @@
 -- What shows why a path is contested, by what stands there.
 use Rattle.std.proofs.Common.{◌≡◌, ◌≢◌, ◌↔◌, inl, inr, Bool, [], ◌∷◌, ◌++◌, Option, Some, None, refl, sym, ap, subst, ◌∙◌}
-use Rattle.std.specs.Ordering.{ordering_then}
-use Rattle.std.proofs.lemmas.Cmp.{tied_itself}
 use Rattle.hm_tree.specs.declared.archive.State.TheVariants.{Present, Marked}
 use Rattle.hm_tree.specs.Nodes.{Node, Tree}
 use Rattle.hm_tree.specs.Archives.{Archive}
-use Rattle.hm_tree.specs.States.{Path, state, at_path, IsWithin}
+use Rattle.hm_tree.specs.States.{Path, state, at_path, IsWithin, View, down}
 use Rattle.hm_tree.proofs.Paths.{state_at, state_here, stands, stands_not}
-use Rattle.hm_tree.proofs.Sorted.{name_total}
-use Rattle.hm_safety.specs.Views.{View, Views}
+use Rattle.hm_tree.proofs.PathLaws.{first_as}
+use Rattle.hm_safety.specs.Views.{Views}
 use Rattle.hm_safety.specs.Changes.{IsLost}
 use Rattle.hm_schema.specs.Values.{Names}
-use Rattle.hm_schema.specs.Membership.{down, path_cmp}
 use Rattle.hm_outcome.specs.Trios.{given, views}
 use Rattle.hm_outcome.specs.Carried.{IsCarried, AreCarried}
 use Rattle.hm_outcome.specs.Contested.{AreRefused, IsContested, earlier, lost, refused}
@@ -19,17 +16,12 @@ use Rattle.hm_outcome.proofs.Downward.{carried_below}
 use Rattle.hm_outcome.proofs.Marks.{has_and_lacks}
 use Rattle.hm_outcome.proofs.Settled.{chained, one_set}
 use Rattle.hm_report.specs.declared.conflict.Why.TheVariants as why
-use Rattle.hm_report.specs.Reasons.{IsFirstNews, LosesFirst, ShowsWhy}
+use Rattle.hm_report.specs.Reasons.{IsNews, IsFirstNews, LosesFirst, ShowsWhy}
 use Rattle.hm_report.specs.Reasons as reason
 use Rattle.hm_reconcile.specs.FirstNews.{IsNewsFrom}
 use Rattle.hm_reconcile.specs.Showing.{IsContestedSomewhere, ShowsWherever}
 
 -- ---- below a path, as from the root
-
--- two paths that go on from one path are in the order of what follows
-same_front : (p q r : Path) → path_cmp (p ++ q) (p ++ r) ≡ path_cmp q r
-same_front [] q r = refl
-same_front (k ∷ p) q r = ap (λ o. ordering_then o (path_cmp (p ++ q) (p ++ r))) (tied_itself name_total k) ∙ same_front p q r
 
 pub carried_down : (p : Path) (archive mine other : View) (q : Path) → IsCarried archive mine other (p ++ q) ↔ IsCarried (down p archive) (down p mine) (down p other) q
 carried_down [] archive mine other q = (λ c. c, λ c. c)
@@ -96,16 +88,20 @@ module _ (o h : Archive) (a b : Tree) (p : Path) (at : h ≡ at_path o p) where
         l.news.2 (archive_from l.news.0 ∙ within l.news.0 (sym (state_at (Some keeper) p l.news.0 ∙ ap (λ x. state x l.news.0) (sym is)) ∙ l.news.1))
 
     first_from : (keeper t : Tree) (q : Path) → Some t ≡ at_path (Some keeper) p → IsNewsFrom (state h) (state (Some t)) p q → IsFirstNews (state o) (state (Some keeper)) p q
-    first_from keeper t q is n = subst (IsFirstNews (state o) (state (Some keeper)) p) (sym n.is) (record {
+    first_from keeper t q is n = record {
       below = n.below;
-      is = refl;
-      has = keeper_from n.below ∙ n.first.has;
-      news = λ present. n.first.news (sym (archive_from n.below) ∙ present);
-      first = λ r has news less. n.first.first r (sym (keeper_from r) ∙ has) (λ present. news (archive_from r ∙ present)) (sym (same_front p r n.below) ∙ less);
-    })
+      is = n.is;
+      first = first_as (IsNews (state h) (state (Some t))) (λ r. IsNews (state o) (state (Some keeper)) (p ++ r)) n.below from_here n.first;
+    }
       where
         keeper_from : (r : Path) → state (Some keeper) (p ++ r) ≡ state (Some t) r
         keeper_from r = state_at (Some keeper) p r ∙ ap (λ x. state x r) (sym is)
+
+        from_here : (r : Path) → IsNews (state h) (state (Some t)) r ↔ IsNews (state o) (state (Some keeper)) (p ++ r)
+        from_here r = (
+          λ n. record { has = keeper_from r ∙ n.has; news = λ present. n.news (sym (archive_from r) ∙ present) },
+          λ n. record { has = sym (keeper_from r) ∙ n.has; news = λ present. n.news (archive_from r ∙ present) },
+        )
 
     module _ (t : Tree) where
       pub left_news : Some t ≡ at_path (Some a) p → None ≡ at_path (Some b) p → IsContestedSomewhere before p → ¬ (IsWithin (Some t) h)

@@ -1,7 +1,7 @@
 -- What is said of a contested path, at whatever node of whatever schema it is contested.
 use Rattle.std.specs.Prelude.{List, All, map}
-use Rattle.hm_tree.specs.States.{Path}
-use Rattle.hm_safety.specs.Views.{View, Views}
+use Rattle.hm_tree.specs.States.{Path, View}
+use Rattle.hm_safety.specs.Views.{Views}
 use Rattle.hm_safety.specs.Safety.{IsTopmostMark}
 use Rattle.hm_schema.specs.declared.node.NodeId.{NodeId}
 use Rattle.hm_schema.specs.Values.{SchemaValue}

@@ -9,17 +9,16 @@ use Rattle.std.proofs.lemmas.List.{get_or-map, length-map, get_or_default}
 use Rattle.std.proofs.lemmas.List.Elements.{All-get_or}
 use Rattle.std.proofs.lemmas.Map.Keys.{Less-from_sorted}
 use Rattle.hm_tree.specs.declared.archive.State.TheVariants.{Marked}
-use Rattle.hm_tree.specs.States.{Path, state}
+use Rattle.hm_tree.specs.States.{Path, state, View}
 use Rattle.hm_tree.proofs.States.{state_unmarked}
-use Rattle.hm_safety.specs.Views.{View}
 use Rattle.hm_safety.specs.Safety.{IsTopmostMark}
 use Rattle.hm_schema.specs.declared.node.NodeId.{NodeId}
-use Rattle.hm_schema.specs.Membership.{path_cmp}
+use Rattle.hm_tree.specs.PathOrder.{path_cmp}
 use Rattle.hm_schema.specs.Values.{SchemaValue}
 use Rattle.hm_outcome.specs.Trios.{Trio, views}
 use Rattle.hm_outcome.specs.Outcomes.{IsOutcome}
 use Rattle.hm_outcome.proofs.Marks.{agree_of, topmost_above, IsUnderTopmost}
-use Rattle.hm_outcome.proofs.TopmostLists.{path_total}
+use Rattle.hm_tree.proofs.PathLaws.{path_total}
 use Rattle.hm_report.specs.declared.conflict.Conflict.{Conflict}
 use Rattle.hm_report.specs.Reasons.{ShowsWhy}
 use Rattle.hm_report.specs.Conflicts.{AreConflicts, AreExplained}

@@ -1,3 +1,4 @@
 pub mod Explained
+pub mod News
 pub mod Once
 pub mod Sets

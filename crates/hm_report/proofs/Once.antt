@@ -1,52 +1,35 @@
 -- A path is in conflict for one reason, and an outcome has one list of conflicts.
-use Rattle.std.proofs.Common.{◌≡◌, ◌≢◌, ◌⊎◌, inl, inr, suc, List, [], ◌∷◌, map, All, refl, sym, ap, subst, ◌∙◌, arith}
-use Rattle.std.specs.Ordering.{ordering_reverse}
-use Rattle.std.specs.FinMap.{slice_cmp-IsAntisymmetric}
-use Rattle.std.specs.declared.cmp.Ordering.{Ordering}
-use Rattle.std.specs.declared.cmp.Ordering.TheVariants.{Less, Equal, Greater}
+use Rattle.std.proofs.Common.{◌≡◌, ◌≢◌, ◌⊎◌, inl, inr, suc, List, [], ◌∷◌, ◌++◌, map, All, refl, sym, ap, subst, ◌∙◌, arith}
 use Rattle.hm_tree.specs.declared.archive.State.{State}
 use Rattle.hm_tree.specs.declared.archive.State.TheVariants.{Present}
-use Rattle.hm_tree.specs.States.{Path}
-use Rattle.hm_tree.proofs.Sorted.{name_one}
-use Rattle.hm_safety.specs.Views.{View, Views}
+use Rattle.hm_tree.specs.States.{Path, View}
+use Rattle.hm_tree.proofs.PathLaws.{first_once}
+use Rattle.hm_safety.specs.Views.{Views}
 use Rattle.hm_schema.specs.declared.node.NodeId.{NodeId}
-use Rattle.hm_schema.specs.Membership.{path_cmp}
 use Rattle.hm_schema.specs.Values.{SchemaValue}
 use Rattle.hm_outcome.specs.Trios.{Trio, views}
 use Rattle.hm_outcome.proofs.Best.{outcome_once}
 use Rattle.hm_outcome.proofs.Settled.{one_set}
-use Rattle.hm_outcome.proofs.TopmostLists.{path_total, marks_once}
+use Rattle.hm_outcome.proofs.TopmostLists.{marks_once}
 use Rattle.hm_report.specs.declared.conflict.Conflict.{Conflict}
 use Rattle.hm_report.specs.declared.conflict.Why.{Why}
 use Rattle.hm_report.specs.declared.conflict.Why.TheVariants as why
-use Rattle.hm_report.specs.Reasons.{IsFirstNews, LosesFirst, ShowsWhy, earlier, lost, refused}
+use Rattle.hm_report.specs.Reasons.{IsNews, IsFirstNews, LosesFirst, ShowsWhy, earlier, lost, refused}
 use Rattle.hm_report.specs.Conflicts.{AreConflicts, IsOutcomeWith}
 
 -- two states of one path
 not_both : {s t u : State} → s ≡ t → s ≡ u → t ≢ u → ⊥
 not_both e f apart = apart (sym e ∙ f)
 
--- of two paths neither of which stands before the other, each is the other
-neither_before : (p q : Path) → path_cmp p q ≢ Less → path_cmp q p ≢ Less → p ≡ q
-neither_before p q one other = go (path_cmp p q) refl
-  where
-    go : (o : Ordering) → path_cmp p q ≡ o → p ≡ q
-    go Less e = absurd (one e)
-    go Equal e = slice_cmp-IsAntisymmetric name_one p q e
-    go Greater e = absurd (other (path_total.antisymm q p ∙ ap ordering_reverse e))
-
-first_once : (archive keeper : View) (p q r : Path) → IsFirstNews archive keeper p q → IsFirstNews archive keeper p r → q ≡ r
-first_once archive keeper p q r one other = neither_before q r (before q r one other) (before r q other one)
-  where
-    before : (q r : Path) → IsFirstNews archive keeper p q → IsFirstNews archive keeper p r → path_cmp q r ≢ Less
-    before q r one other less =
-        other.first one.below (subst (λ z. keeper z ≡ Present) one.is one.has) (λ e. one.news (ap archive one.is ∙ e)) (ap (λ z. path_cmp z r) (sym one.is) ∙ less)
+news_once : (archive keeper : View) (p q r : Path) → IsFirstNews archive keeper p q → IsFirstNews archive keeper p r → q ≡ r
+news_once archive keeper p q r one other =
+    one.is ∙ ap (λ z. p ++ z) (first_once (λ z. IsNews archive keeper (p ++ z)) one.below other.below one.first other.first) ∙ sym other.is
 
 lost_once : (v : Views) (p q r : Path) → LosesFirst v.archive v.left v.right p q ⊎ LosesFirst v.archive v.right v.left p q → LosesFirst v.archive v.left v.right p r ⊎ LosesFirst v.archive v.right v.left p r → q ≡ r
-lost_once v p q r (inl one) (inl other) = first_once v.archive v.left p q r one.first other.first
+lost_once v p q r (inl one) (inl other) = news_once v.archive v.left p q r one.first other.first
 lost_once v p q r (inl one) (inr other) = absurd (not_both one.lost.has other.lost.lacks (λ e. let f : ⊥ = cc in f))
 lost_once v p q r (inr one) (inl other) = absurd (not_both one.lost.has other.lost.lacks (λ e. let f : ⊥ = cc in f))
-lost_once v p q r (inr one) (inr other) = first_once v.archive v.right p q r one.first other.first
+lost_once v p q r (inr one) (inr other) = news_once v.archive v.right p q r one.first other.first
 
 module _ (s : SchemaValue) (i : NodeId) (v : Views) (p : Path) where
   lacks_one : (q : Path) → v.left p ≡ Present → v.right p ≡ Present → LosesFirst v.archive v.left v.right p q ⊎ LosesFirst v.archive v.right v.left p q → ⊥

@@ -1,8 +1,8 @@
 -- The conflicts of a reconciling.
 use Rattle.std.specs.Prelude.{◌≡◌, ◌++◌, List, All, map}
 use Rattle.std.specs.List.{Contains}
-use Rattle.hm_tree.specs.States.{Path}
-use Rattle.hm_safety.specs.Views.{View, Views, Agree}
+use Rattle.hm_tree.specs.States.{Path, View}
+use Rattle.hm_safety.specs.Views.{Views, Agree}
 use Rattle.hm_schema.specs.declared.node.NodeId.{NodeId}
 use Rattle.hm_schema.specs.Values.{SchemaValue}
 use Rattle.hm_outcome.specs.Trios.{Trio, views}

@@ -1,25 +1,27 @@
 -- What shows why the two sides couldn't be brought to agree at a path.
 use Rattle.std.specs.Prelude.{◌≡◌, ◌≢◌, ◌⊎◌, ◌++◌}
-use Rattle.std.specs.declared.cmp.Ordering.TheVariants.{Less}
 use Rattle.hm_tree.specs.declared.archive.State.TheVariants.{Present, Marked}
-use Rattle.hm_tree.specs.States.{Path}
-use Rattle.hm_safety.specs.Views.{View, Views, Has}
+use Rattle.hm_tree.specs.States.{Path, View, Has}
+use Rattle.hm_safety.specs.Views.{Views}
 use Rattle.hm_safety.specs.Changes.{IsLost}
 use Rattle.hm_schema.specs.declared.node.NodeId.{NodeId}
-use Rattle.hm_schema.specs.Membership.{path_cmp}
+use Rattle.hm_tree.specs.PathOrder.{IsFirst}
 use Rattle.hm_schema.specs.Values.{Names, SchemaValue}
 use Rattle.hm_outcome.specs.Trios.{Differ}
 use Rattle.hm_outcome.specs.Contested.{AreRefused}
 use Rattle.hm_report.specs.declared.conflict.Why.{Why}
 use Rattle.hm_report.specs.declared.conflict.Why.TheVariants as why
 
--- q is the first path, in the order of paths, at p or below it, that a side has and at which the archive isn't present
+-- a path that a side has and at which the archive isn't present
+pub record IsNews (archive keeper : View) (p : Path) : Type 0 where
+  pub has : Has keeper p
+  pub news : archive p ≢ Present
+
+-- q is the first path, in the order of paths, at p or below it, that is news
 pub record IsFirstNews (archive keeper : View) (p q : Path) : Type 0 where
   pub below : Path
   pub is : q ≡ p ++ below
-  pub has : Has keeper q
-  pub news : archive q ≢ Present
-  pub first : (r : Path) → Has keeper (p ++ r) → archive (p ++ r) ≢ Present → path_cmp (p ++ r) q ≢ Less
+  pub first : IsFirst (λ r. IsNews archive keeper (p ++ r)) below
 
 -- one side deleted p, and q is the first path of the other's news there
 pub record LosesFirst (archive keeper other : View) (p q : Path) : Type 0 where

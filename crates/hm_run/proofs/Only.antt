@@ -4,22 +4,14 @@ use Rattle.hm_tree.specs.Names.{Name}
 use Rattle.hm_tree.specs.Nodes.{Tree}
 use Rattle.hm_tree.specs.Archives.{Archive}
 use Rattle.hm_tree.specs.States.{Path, state}
-use Rattle.hm_tree.proofs.Sorted.{name_total, name_one}
+use Rattle.hm_tree.proofs.PathLaws.{first_once}
 use Rattle.hm_tree_text.specs.Files.{IsTreeText}
 use Rattle.hm_tree_text.specs.Faults.{TreeFaults}
 use Rattle.hm_tree_text.specs.declared.fault.TextFault.TheVariants.{BadTree, TooDeep, Memory}
 use Rattle.hm_tree_text.proofs.Laws.{tree_once, archive_once, tree_text_reads, archive_text_reads, tree_fault_once, archive_fault_once}
-use Rattle.hm_schema.specs.declared.node.NodeId.{NodeId}
 use Rattle.hm_schema.specs.Values.{SchemaValue}
-use Rattle.hm_schema.specs.Membership.{IsMember, IsFirstOutside, path_cmp}
+use Rattle.hm_schema.specs.Membership.{IsMember, IsOutside, IsFirstOutside}
 use Rattle.hm_schema_text.proofs.Laws.{schema_once, schema_no_line, line_once}
-use Rattle.hm_safety.specs.Views.{View}
-use Rattle.std.specs.Cmp.{IsTotalOrder}
-use Rattle.std.specs.Cmp.Lexicographic.{lists_total}
-use Rattle.std.specs.Ordering.{ordering_reverse}
-use Rattle.std.specs.FinMap.{slice_cmp-IsAntisymmetric}
-use Rattle.std.specs.declared.cmp.Ordering.{Ordering}
-use Rattle.std.specs.declared.cmp.Ordering.TheVariants.{Less, Equal, Greater}
 use Rattle.hm_outcome.specs.Trios.{Trio, given}
 use Rattle.hm_outcome.proofs.Best.{outcome_once}
 use Rattle.hm_outside.specs.Contents.{Contents, held}
@@ -131,25 +123,10 @@ archive_one bytes _ _ (deep_archive h) (archive_of {o} k) = absurd (deep_not_mem
 archive_one bytes _ _ (deep_archive h) (bad_archive {at} k) = absurd (bad_not_deep at (archive_fault_once bytes (BadTree at) TooDeep k h (not_memory at) deep_not_memory))
 archive_one bytes _ _ (deep_archive h) (deep_archive k) = refl
 
--- two first paths outside are one
-path_total : IsTotalOrder path_cmp
-path_total = lists_total name_total
-
-path_one : (p q : Path) → path_cmp p q ≡ Equal → p ≡ q
-path_one = slice_cmp-IsAntisymmetric name_one
-
-outside_one : (s : SchemaValue) (i : NodeId) (a : View) (p q : Path) → IsFirstOutside s i a p → IsFirstOutside s i a q → p ≡ q
-outside_one s i a p q h k = go (path_cmp p q) refl
-  where
-    go : (o : Ordering) → path_cmp p q ≡ o → p ≡ q
-    go Less e = absurd (k.first p e h.outside)
-    go Equal e = path_one p q e
-    go Greater e = absurd (h.first q (path_total.antisymm q p ∙ ap ordering_reverse e) k.outside)
-
 module _ (s : SchemaValue) (at : Slot) (bytes : List ℕ) where
   -- a member has no path outside
   member_not_outside : (t : Tree) (p : Path) → IsMember s s.root (state (Some t)) → IsFirstOutside s s.root (state (Some t)) p → ⊥
-  member_not_outside t p m o = o.outside.refused (m p o.outside.has)
+  member_not_outside t p m o = o.here.refused (m p o.here.has)
 
   member_or_outside : (t u : Tree) (p : Path) → IsTreeText t bytes → IsTreeText u bytes → IsMember s s.root (state (Some t)) → IsFirstOutside s s.root (state (Some u)) p → ⊥
   member_or_outside t u p h k m o = member_not_outside u p (subst (λ z. IsMember s s.root (state (Some z))) (tree_once t u bytes h k) m) o
@@ -191,7 +168,7 @@ module _ (s : SchemaValue) (at : Slot) (bytes : List ℕ) where
   replica_one _ _ (outside {t} u h o) (too_deep w k) = absurd (text_or_deep t h k)
   replica_one _ _ (outside {t} {p} u h o) (outside {t = v} {p = q} w k r) =
       ap (λ (z : Path). Err (BadReplica at (replica_fault.Outside z)))
-      (outside_one s s.root (state (Some v)) p q (subst (λ z. IsFirstOutside s s.root (state (Some z)) p) (tree_once t v bytes h k) o) r)
+      (first_once (IsOutside s s.root (state (Some v))) p q (subst (λ z. IsFirstOutside s s.root (state (Some z)) p) (tree_once t v bytes h k) o) r)
 
 loads_all_one : (c : Contents) (files : FileNames) → FindsOne (LoadsAll c files)
 unfolding LoadsAll

@@ -1,8 +1,8 @@
 -- What has changed since the archive was written, and where the two sides clash (JCSS 2007, section 3).
 use Rattle.std.specs.Prelude.{◌≢◌, ◌⊎◌, ◌++◌}
 use Rattle.hm_tree.specs.declared.archive.State.TheVariants.{Missing, Present}
-use Rattle.hm_tree.specs.States.{Path}
-use Rattle.hm_safety.specs.Views.{View, Views, Has, Lacks, Agree}
+use Rattle.hm_tree.specs.States.{Path, View, Has, Lacks}
+use Rattle.hm_safety.specs.Views.{Views, Agree}
 
 -- a replica has changed where its state and the archive's don't agree
 abbrev pub HasChanged : View → View → Path → Type 0

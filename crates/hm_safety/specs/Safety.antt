@@ -1,8 +1,8 @@
 -- When a result of reconciling is safe (after JCSS 2007, section 3).
 use Rattle.std.specs.Prelude.{◌≡◌, ◌≢◌, ◌⊎◌, [], ◌++◌}
 use Rattle.hm_tree.specs.declared.archive.State.TheVariants.{Marked}
-use Rattle.hm_tree.specs.States.{Path}
-use Rattle.hm_safety.specs.Views.{View, Views, Has}
+use Rattle.hm_tree.specs.States.{Path, View, Has}
+use Rattle.hm_safety.specs.Views.{Views}
 use Rattle.hm_safety.specs.Changes.{HasChanged, Clash}
 
 -- a mark with none above it

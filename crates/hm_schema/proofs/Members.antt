@@ -6,15 +6,14 @@ use Rattle.std.proofs.lemmas.Option.{same_Some, none-some}
 use Rattle.hm_tree.specs.declared.archive.State.TheVariants.{Present}
 use Rattle.hm_tree.specs.Names.{Name}
 use Rattle.hm_tree.specs.Nodes.{Tree, edges, below}
-use Rattle.hm_tree.specs.States.{state, Path}
+use Rattle.hm_tree.specs.States.{state, Path, View, Has, down}
 use Rattle.hm_tree.proofs.Sorted.{below_edge}
 use Rattle.hm_tree.proofs.States.{state_root, state_down}
 use Rattle.hm_tree.proofs.Extent.{same_tree}
-use Rattle.hm_safety.specs.Views.{View, Has}
 use Rattle.hm_schema.specs.declared.node.NodeId.{NodeId}
 use Rattle.hm_schema.specs.Values.{Names, NodeValue, SchemaValue, node_at, child_at, reached, node_of}
 use Rattle.hm_schema.specs.Permitted.{Permits, PermitsAt, names_of}
-use Rattle.hm_schema.specs.Membership.{down, HasNames, IsTwin, Allows, IsAllowed, IsMember}
+use Rattle.hm_schema.specs.Membership.{HasNames, IsTwin, Allows, IsAllowed, IsMember}
 use Rattle.hm_schema.proofs.NamesOf.{names_of-below, same_names, bools, found_value}
 use Rattle.hm_schema.proofs.References.{child_here, child_there}
 

@@ -1,9 +1,8 @@
 -- The first path of a tree at which it isn't allowed: at the root, or below the first name that has one.
-use Rattle.std.proofs.Common.{◌≡◌, ℕ, zero, suc, Bool, true, false, cond, T, is_some, List, [], ◌∷◌, take, slice_get, Option, Some, None, All, refl, sym, ap, subst, ◌∙◌}
+use Rattle.std.proofs.Common.{◌≡◌, ◌↔◌, ℕ, zero, suc, Bool, true, false, cond, T, is_some, List, [], ◌∷◌, take, slice_get, Option, Some, None, All, refl, sym, ap, subst, ◌∙◌}
 use mathlib.Core.Bool.{true≢false}
-use Rattle.std.specs.declared.cmp.Ordering.{Ordering}
-use Rattle.std.specs.declared.cmp.Ordering.TheVariants.{Less, Equal, Greater}
-use Rattle.std.specs.Ordering.{is_lt, eq_by_cmp, ordering_then}
+use Rattle.std.specs.declared.cmp.Ordering.TheVariants.{Less}
+use Rattle.std.specs.Ordering.{is_lt, eq_by_cmp}
 use Rattle.std.specs.FinMap.{find, is_sorted}
 use Rattle.std.proofs.lemmas.Option.{same_Some, none-some}
 use Rattle.std.proofs.lemmas.List.Elements.{All-head, All-tail, All-nil}
@@ -11,12 +10,13 @@ use Rattle.hm_tree.specs.Names.{Name, name_cmp}
 use Rattle.hm_tree.specs.Nodes.{Tree, edges, below, below_all, first, second}
 use Rattle.hm_tree.specs.NodeLaws.{edges_sorted}
 use Rattle.hm_tree.specs.States.{Path}
-use Rattle.hm_tree.proofs.Sorted.{name_total, name_one, below_edge}
+use Rattle.hm_tree.proofs.Sorted.{is_less, name_total, below_edge}
 use Rattle.hm_tree.proofs.States.{state_root}
 use Rattle.hm_schema.specs.declared.node.NodeId.{NodeId}
 use Rattle.hm_schema.specs.Values.{SchemaValue, child_at}
 use Rattle.hm_schema.specs.Permitted.{PermitsAt, names_of}
-use Rattle.hm_schema.specs.Membership.{IsTwin, IsAllowed, path_cmp, IsOutside, IsFirstOutside, HasNoTwins}
+use Rattle.hm_schema.specs.Membership.{IsTwin, IsAllowed, IsOutside, IsFirstOutside, HasNoTwins}
+use Rattle.hm_tree.proofs.PathLaws.{first_at_root, first_as, first_under}
 use Rattle.hm_schema.proofs.NamesOf.{tie_one}
 use Rattle.hm_schema.proofs.Members.{view, IsMemberBelow, allowed_root, permits_root, allowed_up, allowed_down, has_up, has_down, below_has}
 
@@ -24,23 +24,11 @@ use Rattle.hm_schema.proofs.Members.{view, IsMemberBelow, allowed_root, permits_
 pub allowed_names : (s : SchemaValue) (i : NodeId) (t : Tree) → HasNoTwins s → PermitsAt s i (names_of t) → IsAllowed s i (view t) []
 allowed_names s i t none p = allowed_root s i p.node p.is t p.permitted (subst (λ l. All (λ (twin : Name × Name). IsTwin (view t) twin.0 twin.1) l) (sym (none i p.node p.is)) (All-nil (λ (twin : Name × Name). IsTwin (view t) twin.0 twin.1)))
 
--- nothing stands before the root
-root_first : (q : Path) → path_cmp q [] ≡ Less → ⊥
-root_first [] e = cc
-root_first (k ∷ q) e = cc
-
-pub first_at_root : (s : SchemaValue) (i : NodeId) (t : Tree) → ¬ (PermitsAt s i (names_of t)) → IsFirstOutside s i (view t) []
-first_at_root s i t refused = record {
-  outside = record { has = state_root t; refused = λ a. refused (permits_root s i t a) };
-  first = λ q e. absurd (root_first q e);
-}
+pub outside_at_root : (s : SchemaValue) (i : NodeId) (t : Tree) → ¬ (PermitsAt s i (names_of t)) → IsFirstOutside s i (view t) []
+outside_at_root s i t refused =
+    first_at_root (IsOutside s i (view t)) (record { has = state_root t; refused = λ a. refused (permits_root s i t a) })
 
 -- ---- below a name
-
-is_less : (o : Ordering) → T (is_lt o) → o ≡ Less
-is_less Less p = refl
-is_less Equal p = absurd p
-is_less Greater p = absurd p
 
 -- a name before another isn't found among names after that one
 before_all : {X : Type 0} (j k : Name) (es : List (Name × X)) → name_cmp j k ≡ Less → T (below_all k es) → find name_cmp j es ≡ None
@@ -78,20 +66,13 @@ module _ (s : SchemaValue) (i : NodeId) (t : Tree) (root : IsAllowed s i (view t
           let m = before_place (λ l d. IsMemberBelow s i l d) (edges t) (edges_sorted t) place k c at before l d lt e in
           out.refused (allowed_up s i m.place t l d q m.is e (m.member q (has_down t l d q e out.has)))
 
-  pub outside_down : (q : Path) → IsOutside s i (view t) (k ∷ q) → IsOutside s j (view c) q
-  outside_down q out = record { has = has_down t k c q there out.has; refused = λ a. out.refused (allowed_up s i j t k c q is there a) }
+  outside_below : (q : Path) → IsOutside s j (view c) q ↔ IsOutside s i (view t) (k ∷ q)
+  outside_below q = (
+    λ out. record { has = has_up t k c q there out.has; refused = λ a. out.refused (allowed_down s i j t k c q is there a) },
+    λ out. record { has = has_down t k c q there out.has; refused = λ a. out.refused (allowed_up s i j t k c q is there a) },
+  )
 
-  no_earlier : (q : Path) → path_cmp q (k ∷ p) ≡ Less → ¬ (IsOutside s i (view t) q)
-  no_earlier [] e out = out.refused root
-  no_earlier (l ∷ q) e out = go (name_cmp l k) refl e
-    where
-      go : (r : Ordering) → name_cmp l k ≡ r → ordering_then r (path_cmp q p) ≡ Less → ⊥
-      go Less lt e = earlier l q lt out
-      go Equal tie e = here.first q e (outside_down q (subst (λ l. IsOutside s i (view t) (l ∷ q)) (name_one l k tie) out))
-      go Greater gt e = cc
-
-  pub first_below : IsFirstOutside s i (view t) (k ∷ p)
-  first_below = record {
-    outside = record { has = has_up t k c p there here.outside.has; refused = λ a. here.outside.refused (allowed_down s i j t k c p is there a) };
-    first = no_earlier;
-  }
+  pub outside_under : IsFirstOutside s i (view t) (k ∷ p)
+  outside_under =
+      first_under (IsOutside s i (view t)) k p (λ out. out.refused root) earlier
+      (first_as (IsOutside s j (view c)) (λ q. IsOutside s i (view t) (k ∷ q)) p outside_below here)

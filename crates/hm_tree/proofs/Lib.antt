@@ -2,6 +2,7 @@ pub mod Sorted
 pub mod Depths
 pub mod Deepest
 pub mod States
+pub mod PathLaws
 pub mod Paths
 pub mod Extent
 pub mod Kept

@@ -5,6 +5,7 @@ pub mod Nodes
 pub mod NodeLaws
 pub mod Archives
 pub mod States
+pub mod PathOrder
 pub mod Edges
 pub mod Spelling
 pub mod SpellingLaws

@@ -1,5 +1,5 @@
 -- What an archive, a tree or a missing side has at a path (JCSS 2007, section 2).
-use Rattle.std.specs.Prelude.{◌≡◌, Bool, cond, List, [], ◌∷◌, Option, Some, None}
+use Rattle.std.specs.Prelude.{◌≡◌, Bool, cond, List, [], ◌∷◌, ◌++◌, Option, Some, None}
 use Rattle.hm_tree.specs.declared.archive.State.{State}
 use Rattle.hm_tree.specs.declared.archive.State.TheVariants.{Missing, Present, Marked}
 use Rattle.hm_tree.specs.Names.{Name}
@@ -9,6 +9,20 @@ use Rattle.hm_tree.specs.Archives.{Archive}
 -- names from the root down
 abbrev pub Path : Type 0
 Path = List Name
+
+-- what an archive, a tree or a missing side has at each path
+abbrev pub View : Type 0
+View = Path → State
+
+abbrev pub Has : View → Path → Type 0
+Has a p = a p ≡ Present
+
+abbrev pub Lacks : View → Path → Type 0
+Lacks a p = a p ≡ Missing
+
+-- what a view has from a path on
+abbrev pub down : Path → View → View
+down q a = λ p. a (q ++ p)
 
 -- every path below a mark is marked
 abbrev pub state : {m : Bool} → Option (Node m) → Path → State

@@ -5,7 +5,8 @@ use Rattle.hm_tree.specs.States.{state}
 use Rattle.hm_tree.proofs.Depths.{depth_edge}
 use Rattle.hm_tree.proofs.Presence.{IsEdgeWithin, within_all, within_more}
 use Rattle.hm_schema.proofs.Lists.{all_done}
-use Rattle.hm_report.specs.Reasons.{IsFirstNews}
+use Rattle.hm_tree.specs.PathOrder.{IsFirst}
+use Rattle.hm_report.specs.Reasons.{IsNews}
 use Rattle.hm_reconcile.proofs.FirstNews.{news_at_root, news_missing, news_below}
 use Rattle.hm_reconcile.proofs.news.+news.Goals as goal
 
@@ -22,7 +23,7 @@ pub first_news-returns-in-Some : goal.first_news-returns-in-Some
 first_news-returns-in-Some t c =
     let here = MatchOption-at_some _ _ _ c.in-Some.is c.in_ok-path.ensures in
     let whole = news_below c.args.archive.now c.args.tree.now (sym c.root.ensures ∙ c.in-Present.is) c.loop-place.place c.edge.result.0.now c.edge.result.1.now c.edge.ensures c.loop-place.invariant c.in-Some.path here in
-    subst (IsFirstNews (state c.args.archive.now) (state (Some c.args.tree.now)) []) (sym items) whole
+    subst (IsFirst (IsNews (state c.args.archive.now) (state (Some c.args.tree.now)))) (sym items) whole
   where
     named : c.in_ok-copy.field-0 ∷ c.path.inside.names.items ≡ c.edge.result.0.now ∷ c.in-Some.path
     named = λ i. c.in_ok-copy.ensures i ∷ c.path.view_is i

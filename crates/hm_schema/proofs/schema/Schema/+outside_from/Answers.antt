@@ -6,13 +6,13 @@ use Rattle.hm_tree.proofs.Depths.{depth_edge}
 use Rattle.hm_schema.specs.Membership.{IsFirstOutside}
 use Rattle.hm_schema.proofs.Lists.{all_next_read, all_done}
 use Rattle.hm_schema.proofs.Members.{allowed_child, IsMemberBelow, member_whole, view}
-use Rattle.hm_schema.proofs.Outside.{allowed_names, first_at_root, first_below}
+use Rattle.hm_schema.proofs.Outside.{allowed_names, outside_at_root, outside_under}
 use Rattle.hm_schema.proofs.schema.Schema.+outside_from.Goals as goal
 
 pub returns-then-not-permits : goal.returns-then-not-permits
 returns-then-not-permits t c =
     subst (IsFirstOutside c.args.self.now c.args.id (view c.args.tree.now)) (sym c.new.ensures.items)
-    (first_at_root _ _ c.args.tree.now (λ p. let h = c.permits.ensures.1 p in search rules))
+    (outside_at_root _ _ c.args.tree.now (λ p. let h = c.permits.ensures.1 p in search rules))
 
 pub child-requires-clause-there : goal.child-requires-clause-there
 child-requires-clause-there t c = allowed_child _ _ c.args.tree.now _ _ _ c.edge.ensures (c.permits.ensures.0 (search rules))
@@ -25,7 +25,7 @@ outside_from-requires t c =
 pub returns-in-Some : goal.returns-in-Some
 returns-in-Some t c =
     let here = MatchOption-at_some _ _ _ c.in-Some.is c.in_ok-path.ensures in
-    let whole = first_below _ _ c.args.tree.now (allowed_names _ _ c.args.tree.now c.requires.no_twins (c.permits.ensures.0 (search rules))) _ _ _ c.edge.ensures c.loop-place.invariant _ c.child.ensures.child _ here in
+    let whole = outside_under _ _ c.args.tree.now (allowed_names _ _ c.args.tree.now c.requires.no_twins (c.permits.ensures.0 (search rules))) _ _ _ c.edge.ensures c.loop-place.invariant _ c.child.ensures.child _ here in
     let items : c.insert.new.self.items ≡ c.edge.result.0.now ∷ c.in-Some.path =
     c.in_ok-insert.ensures.items ∙ ap (λ k. k ∷ c.path.inside.names.items) c.in_ok-copy.ensures ∙ ap (λ p. c.edge.result.0.now ∷ p) c.path.view_is in
     subst (IsFirstOutside c.args.self.now c.args.id (view c.args.tree.now)) (sym items) whole
