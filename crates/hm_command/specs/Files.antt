@@ -1,6 +1,9 @@
 -- The names that were found among the words.
-use Rattle.std.specs.Prelude.{◌≡◌, Result, Ok, Err}
-use Rattle.hm_command.specs.declared.ending.Refusal.{Refusal}
+use Rattle.std.specs.Prelude.{◌≡◌, Option, Result, Ok, Err}
+use Rattle.std.specs.Option.{option_map}
+use Rattle.hm_files.specs.declared.slot.Slot.{Slot}
+use Rattle.hm_files.specs.Files.{File}
+use Rattle.hm_files.specs.declared.stop.Refusal.{Refusal}
 use Rattle.hm_command.specs.declared.words.Files.{Files}
 use Rattle.hm_command.specs.Words.{FileNames}
 
@@ -11,3 +14,9 @@ names files = record { schema = files.schema.now; archive = files.archive.now; l
 abbrev pub Answers : {A B : Type 0} → (A → B) → Result A Refusal → Result B Refusal → Type 0
 Answers seen (Ok x) wanted = wanted ≡ Ok (seen x)
 Answers seen (Err refusal) wanted = wanted ≡ Err refusal
+
+abbrev pub slot_pair : Option (File × File) → Option (Slot × Slot)
+slot_pair pair = option_map (λ (p : File × File). (p.0.slot, p.1.slot)) pair
+
+abbrev pub slot_of : Option File → Option Slot
+slot_of found = option_map (λ (f : File). f.slot) found

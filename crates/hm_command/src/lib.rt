@@ -5,6 +5,6 @@ mod ending;
 mod lines;
 mod words;
 
-pub use ending::{ArchiveFault, Ending, Refusal, ReplicaFault, Report, Slot, Stop};
+pub use ending::{Ending, Output};
 pub use lines::{line_of, status_of};
 pub use words::{Files, files_of};

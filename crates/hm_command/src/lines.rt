@@ -1,10 +1,12 @@
 //! What a run that stops says, in one line, and the exit status of each end.
 ghost use Rattle.std.specs.Prelude.{◌≡◌, ◌++◌, ◌∷◌, [], IfOk, OnOk};
 ghost use Rattle.std.specs.Fmt.{decimal};
-ghost use Rattle.hm_command.specs.declared.ending.Refusal.TheVariants.{Overgrown};
-ghost use Rattle.hm_command.specs.Lines.{slot_name, archive_fault_text, replica_fault_text, refusal_text, stop_text, line_of, refusal_status, status_of};
+ghost use Rattle.hm_files.specs.declared.stop.FileFault.TheVariants.{BadReplica, Overgrown};
+ghost use Rattle.hm_command.specs.Lines.{slot_name, archive_fault_text, replica_fault_text, fault_text, refusal_text, call_name, stop_text, line_of, refusal_status, work_status, status_of};
 
-use crate::ending::{ArchiveFault, Ending, Refusal, ReplicaFault, Slot, Stop};
+use crate::ending::{Ending, Output};
+use hm_files::{ArchiveFault, FileFault, Refusal, ReplicaFault, Slot, Stop};
+use hm_outside::{Kind, Put};
 use hm_tree::{Memory, append_path};
 use std::alloc::Global;
 
@@ -14,8 +16,17 @@ fn slot_name(slot: Slot) -> &'static [u8]
     match slot {
         Slot::Schema => b"schema",
         Slot::Archive => b"archive",
-        Slot::Left => b"A",
-        Slot::Right => b"B",
+        Slot::A => b"A",
+        Slot::B => b"B",
+    }
+}
+
+fn call_name(kind: Kind) -> &'static [u8]
+    ensures { result.now ≡ call_name kind }
+{
+    match kind {
+        Kind::Load => b"ReadFault ",
+        Kind::Replace => b"WriteFault ",
     }
 }
 
@@ -63,12 +74,43 @@ fn put_replica_fault(alloc: Global, line: &mut Vec<u8>, fault: &ReplicaFault) ->
     }
 }
 
-// Puts the refusal of a new file that is too large behind a line.
-fn put_overgrown(alloc: Global, line: &mut Vec<u8>, slot: Slot, size: usize) -> Result<(), Memory>
-    ensures { OnOk result (line.new.items ≡ line.old.items ++ refusal_text (Overgrown slot size)) }
+// Puts that a replica isn't read behind a line.
+fn put_bad_replica(
+    alloc: Global,
+    line: &mut Vec<u8>,
+    slot: Slot,
+    fault: &ReplicaFault,
+) -> Result<(), Memory>
+    ensures { OnOk result (line.new.items ≡ line.old.items ++ fault_text slot (BadReplica fault.now)) }
 {
-    put_slot(line, b"harmony: Overgrown ", slot)?;
+    put_slot(line, b"BadReplica ", slot)?;
+    line.push(b' ')?;
+    put_replica_fault(alloc, line, fault)
+}
+
+// Puts that a new file is too large behind a line.
+fn put_overgrown(alloc: Global, line: &mut Vec<u8>, slot: Slot, size: usize) -> Result<(), Memory>
+    ensures { OnOk result (line.new.items ≡ line.old.items ++ fault_text slot (Overgrown size)) }
+{
+    put_slot(line, b"Overgrown ", slot)?;
     put_number(alloc, line, b" ", size)
+}
+
+// Puts what is wrong with the file of a slot behind a line.
+fn put_fault(alloc: Global, line: &mut Vec<u8>, slot: Slot, fault: &FileFault) -> Result<(), Memory>
+    ensures { OnOk result (line.new.items ≡ line.old.items ++ fault_text slot fault.now) }
+{
+    match fault {
+        FileFault::Missing => put_slot(line, b"Missing ", slot),
+        FileFault::TooLarge => put_slot(line, b"TooLarge ", slot),
+        FileFault::BadSchema(at) => put_number(alloc, line, b"BadSchema ", *at),
+        FileFault::BadArchive(fault) => {
+            line.extend_from_slice(b"BadArchive ")?;
+            put_archive_fault(alloc, line, *fault)
+        }
+        FileFault::BadReplica(fault) => put_bad_replica(alloc, line, slot, fault),
+        FileFault::Overgrown(size) => put_overgrown(alloc, line, slot, *size),
+    }
 }
 
 // Puts a refusal behind a line.
@@ -81,19 +123,10 @@ fn put_refusal(alloc: Global, line: &mut Vec<u8>, refusal: &Refusal) -> Result<(
             put_slot(line, b"harmony: SameName ", *one)?;
             put_slot(line, b" ", *two)
         }
-        Refusal::Missing(slot) => put_slot(line, b"harmony: Missing ", *slot),
-        Refusal::TooLarge(slot) => put_slot(line, b"harmony: TooLarge ", *slot),
-        Refusal::BadSchema(at) => put_number(alloc, line, b"harmony: BadSchema ", *at),
-        Refusal::BadArchive(fault) => {
-            line.extend_from_slice(b"harmony: BadArchive ")?;
-            put_archive_fault(alloc, line, *fault)
+        Refusal::At(slot, fault) => {
+            line.extend_from_slice(b"harmony: ")?;
+            put_fault(alloc, line, *slot, fault)
         }
-        Refusal::BadReplica(slot, fault) => {
-            put_slot(line, b"harmony: BadReplica ", *slot)?;
-            line.push(b' ')?;
-            put_replica_fault(alloc, line, fault)
-        }
-        Refusal::Overgrown(slot, size) => put_overgrown(alloc, line, *slot, *size),
     }
 }
 
@@ -103,8 +136,10 @@ fn put_stop(alloc: Global, line: &mut Vec<u8>, stop: &Stop) -> Result<(), Memory
 {
     match stop {
         Stop::Refused(refusal) => put_refusal(alloc, line, refusal),
-        Stop::ReadFault(slot) => put_slot(line, b"harmony: ReadFault ", *slot),
-        Stop::WriteFault(slot) => put_slot(line, b"harmony: WriteFault ", *slot),
+        Stop::Fault(kind, slot) => {
+            line.extend_from_slice(b"harmony: ")?;
+            put_slot(line, call_name(*kind), *slot)
+        }
         Stop::Memory => Ok(()),
     }
 }
@@ -131,16 +166,26 @@ fn refusal_status(refusal: &Refusal) -> u8
     }
 }
 
+// Of a run whose work came to this, where all that it had to say was put out.
+fn work_status(work: &Result<Output, Stop>) -> u8
+    ensures { result ≡ work_status work.now }
+{
+    match work {
+        Ok(output) => output.status,
+        Err(Stop::Refused(refusal)) => refusal_status(refusal),
+        Err(Stop::Fault(_, _)) => 4,
+        Err(Stop::Memory) => 5,
+    }
+}
+
 /// The exit status of a run that ends so: 0 agreed, 1 conflicts remain, 2 usage, 3 refused, 4 a fault of the store,
 /// 5 want of memory, 6 a fault of the sink while the output was put.
 pub fn status_of(ending: &Ending) -> u8
     ensures { result ≡ status_of ending.now }
 {
-    match ending {
-        Ending::Stopped(Stop::Refused(refusal)) => refusal_status(refusal),
-        Ending::Stopped(Stop::ReadFault(_) | Stop::WriteFault(_)) => 4,
-        Ending::Stopped(Stop::Memory) => 5,
-        Ending::PutFault(_) => 6,
-        Ending::Done(report) => u8::from(report.conflicts > 0),
+    match (&ending.work, ending.put) {
+        (Ok(_), Put::Failed) => 6,
+        (_, Put::Memory) => 5,
+        (work, _) => work_status(work),
     }
 }

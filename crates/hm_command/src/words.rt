@@ -1,19 +1,46 @@
 //! The words behind the program's name.
-ghost use Rattle.std.specs.Prelude.{◌≡◌, codes};
+ghost use Rattle.std.specs.Prelude.{◌≡◌, ◌≤◌, codes, drop, find, length, map};
 ghost use Rattle.std.specs.Str.{bytes_eq};
-ghost use Rattle.hm_command.specs.Words.{meaning, first_pair, is_flag};
-ghost use Rattle.hm_command.specs.Files.{names, Answers};
+ghost use Rattle.hm_files.specs.Files.{file_of};
+ghost use Rattle.hm_command.specs.Words.{meaning, slots, first_pair, has_name_of, is_flag};
+ghost use Rattle.hm_command.specs.Files.{names, Answers, slot_of, slot_pair};
 
-use crate::ending::{Refusal, Slot};
+use hm_files::{Named, Refusal, Slot};
 use hm_tree::Name;
 
-/// The names of the four files, borrowed from the words.
+/// The names of the files of a synchronisation, borrowed from the words.
 #[derive(Clone, Copy)]
 pub struct Files<'a> {
     pub schema: &'a Name,
     pub archive: &'a Name,
     pub left: &'a Name,
     pub right: &'a Name,
+}
+
+impl<'a> Files<'a> {
+    /// Each with its slot, in the order in which they are loaded.
+    pub fn slots(self) -> [Named<'a>; 4]
+        ensures { map file_of result ≡ slots (names self.entry) }
+    {
+        [
+            Named {
+                slot: Slot::Schema,
+                name: self.schema,
+            },
+            Named {
+                slot: Slot::Archive,
+                name: self.archive,
+            },
+            Named {
+                slot: Slot::A,
+                name: self.left,
+            },
+            Named {
+                slot: Slot::B,
+                name: self.right,
+            },
+        ]
+    }
 }
 
 // Whether a word looks like a flag.
@@ -38,33 +65,42 @@ fn is_sync(word: &Name) -> bool
     word.text() == "sync"
 }
 
-// The first two slots with one name, by the first slot and then the second.
-#[tactic(auto, unfolding(crate::specs::Words::first_pair))]
-fn first_pair(files: Files<'_>) -> Option<(Slot, Slot)>
-    ensures { result ≡ first_pair (names files.entry) }
+// The slot of the first of some files that has the name of another file.
+fn first_same(file: Named<'_>, others: &[Named<'_>]) -> Option<Slot>
+    ensures { result ≡ slot_of (find (has_name_of (file_of file.entry)) (map file_of others.now)) }
 {
-    if is_same(files.schema, files.archive) {
-        return Some((Slot::Schema, Slot::Archive));
-    }
-    if is_same(files.schema, files.left) {
-        return Some((Slot::Schema, Slot::Left));
-    }
-    if is_same(files.schema, files.right) {
-        return Some((Slot::Schema, Slot::Right));
-    }
-    if is_same(files.archive, files.left) {
-        return Some((Slot::Archive, Slot::Left));
-    }
-    if is_same(files.archive, files.right) {
-        return Some((Slot::Archive, Slot::Right));
-    }
-    if is_same(files.left, files.right) {
-        return Some((Slot::Left, Slot::Right));
+    for other in others {
+        if is_same(file.name, other.name) {
+            return Some(other.slot);
+        }
     }
     None
 }
 
-/// The four names that the words give: `sync SCHEMA ARCHIVE A B`, of which none begins with `-` and no two are equal.
+// What stands behind the first files.
+fn behind<'a, 'b>(files: &'b [Named<'a>], count: usize) -> &'b [Named<'a>]
+    requires { count ≤ length files.now }
+    ensures { map file_of result.now ≡ map file_of (drop count files.now) }
+{
+    &files[count..]
+}
+
+// The first two slots with one name, by the first slot and then the second.
+fn first_pair(files: &[Named<'_>]) -> Option<(Slot, Slot)>
+    ensures { result ≡ slot_pair (first_pair (map file_of files.now)) }
+{
+    for place in 0..files.len() {
+        let file = files[place];
+        let others = behind(files, place + 1);
+        if let Some(other) = first_same(file, others) {
+            return Some((file.slot, other));
+        }
+    }
+    None
+}
+
+/// The names of the files that the words give: `sync SCHEMA ARCHIVE A B`, of which none begins with `-` and no two are
+/// equal.
 #[tactic(auto, unfolding(crate::specs::Words::meaning))]
 pub fn files_of(words: &[Name]) -> Result<Files<'_>, Refusal>
     ensures { Answers names result (meaning words.now) }
@@ -81,7 +117,7 @@ pub fn files_of(words: &[Name]) -> Result<Files<'_>, Refusal>
         left,
         right,
     };
-    match first_pair(files) {
+    match first_pair(&files.slots()) {
         Some((one, two)) => Err(Refusal::SameName(one, two)),
         None => Ok(files),
     }

@@ -1,9 +1,4 @@
-pub mod Steps
-pub mod Loading
-pub mod Reading
-pub mod Making
-pub mod Writing
-pub mod Stopping
-pub mod Ending
-pub mod Only
-pub mod Relied
+mod Making
+mod Once
+mod Working
+mod Relied

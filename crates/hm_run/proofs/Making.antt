@@ -9,11 +9,12 @@ use Rattle.hm_tree.specs.States.{Path, state}
 use Rattle.hm_tree.proofs.States.{state_unmarked, state-recorded}
 use Rattle.hm_tree_text.specs.Text.{tree_text, archive_text}
 use Rattle.hm_report.specs.declared.conflict.Conflict.{Conflict}
-use Rattle.hm_run.specs.declared.make.NewFiles.{NewFiles}
-use Rattle.hm_run.specs.Verdict.{Trees, Synced, Becomes, HasConflicts, Tells, texts_of}
-use Rattle.hm_run.specs.Making.{new_bytes, all_as, IsMade}
+use Rattle.hm_run.specs.declared.make.NewTexts.{NewTexts}
+use Rattle.hm_run.specs.Verdict.{Synced, Becomes, HasConflicts, Tells, texts_of}
+use Rattle.hm_run.specs.Making.{new_texts, all_as, IsMade}
+use Rattle.hm_run.specs.Reads.{Trees}
 
-pub made : {E : Type 0} (r : Result NewFiles E) (before : Trees) (after : Synced) (conflicts : List Conflict) → Becomes before after → HasConflicts before after conflicts → IfOk r (λ f. new_bytes f ≡ texts_of after) → IfOk r (λ f. Tells conflicts f.report) → IfOk r (IsMade before)
+pub made : {E : Type 0} (r : Result NewTexts E) (before : Trees) (after : Synced) (conflicts : List Conflict) → Becomes before after → HasConflicts before after conflicts → IfOk r (λ f. new_texts f ≡ texts_of after) → IfOk r (λ f. Tells conflicts f.output) → IfOk r (IsMade before)
 made (Ok f) before after conflicts becomes remain texts tells = record { after = after; becomes = becomes; texts = texts; tells = record { conflicts = conflicts; remain = remain; tells = tells } }
 made (Err e) before after conflicts becomes remain texts tells = tt
 
@@ -24,7 +25,7 @@ text-recorded : (t : Tree) → tree_text t ≡ archive_text (Some (recorded t))
 unfolding recorded
 text-recorded t = refl
 
-pub for_all : (t : Tree) (made : NewFiles) → made.archive.items ≡ made.right.items → made.left.items ≡ made.right.items → made.right.items ≡ tree_text t → new_bytes made ≡ texts_of (all_as t)
+pub for_all : (t : Tree) (made : NewTexts) → made.archive.items ≡ made.right.items → made.left.items ≡ made.right.items → made.right.items ≡ tree_text t → new_texts made ≡ texts_of (all_as t)
 for_all t made archive left right = λ x. record {
   archive = (archive ∙ right ∙ text-recorded t) x;
   left = (left ∙ right) x;

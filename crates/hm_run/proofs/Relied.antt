@@ -1,27 +1,34 @@
 -- What a user relies on, from how a run ended.
-use Rattle.std.proofs.Common.{◌≡◌, ◌⊎◌, inl, inr, ℕ, zero, suc, ◌≤◌, List, ◌++◌, Option, Some, Result, Ok, Err, refl, sym, ◌∙◌, ap, subst, arith}
+use Rattle.std.proofs.Common.{◌≡◌, ◌⊎◌, inl, inr, ⊎_elim, ℕ, zero, suc, ◌≤◌, List, ◌++◌, length, Option, Some, Result, Ok, Err, refl, sym, ◌∙◌, ap, subst, arith}
 use Rattle.hm_tree.specs.Names.{Name}
 use Rattle.hm_outside.specs.Contents.{Contents}
+use Rattle.hm_outside.specs.declared.outside.Failure.{Failure}
+use Rattle.hm_outside.specs.declared.outside.Kind.{Kind}
+use Rattle.hm_outside.specs.declared.outside.Kind.TheVariants.{Load, Replace}
+use Rattle.hm_outside.specs.declared.outside.Put.{Put}
+use Rattle.hm_outside.specs.declared.outside.Put.TheVariants as put
 use Rattle.hm_outside.proofs.Risen.{not_risen}
-use Rattle.hm_command.specs.declared.ending.Refusal.{Refusal}
-use Rattle.hm_command.specs.declared.ending.Refusal.TheVariants.{Usage, SameName, Missing, TooLarge, BadSchema, BadArchive, BadReplica, Overgrown}
-use Rattle.hm_command.specs.declared.ending.Stop.TheVariants.{Refused, ReadFault, WriteFault, Memory}
+use Rattle.hm_files.specs.declared.slot.Slot.{Slot}
+use Rattle.hm_files.specs.declared.stop.Refusal.{Refusal}
+use Rattle.hm_files.specs.declared.stop.Refusal.TheVariants.{Usage, SameName, At}
+use Rattle.hm_files.specs.declared.stop.Stop.{Stop}
+use Rattle.hm_files.specs.declared.stop.Stop.TheVariants.{Refused, Fault, Memory}
+use Rattle.hm_files.specs.Did.{WhereTold}
+use Rattle.hm_files.specs.Steps.{stops, goes_on}
 use Rattle.hm_command.specs.declared.ending.Ending.{Ending}
-use Rattle.hm_command.specs.declared.ending.Ending.TheVariants.{Stopped, PutFault, Done}
-use Rattle.hm_command.specs.declared.ending.Report.{Report}
-use Rattle.hm_command.specs.Words.{FileNames}
-use Rattle.hm_command.specs.Lines.{output_of, status_of, refusal_status, conflicts_status}
+use Rattle.hm_command.specs.declared.ending.Output.{Output}
+use Rattle.hm_command.specs.Words.{FileNames, meaning}
+use Rattle.hm_command.specs.Lines.{put_status, work_status, status_of, refusal_status}
 use Rattle.hm_outcome.specs.Trios.{given, views, AreMembers}
 use Rattle.hm_outcome.proofs.Apart.{marks_differ}
 use Rattle.hm_outcome.proofs.Best.{outcome_maximal, outcome_only}
 use Rattle.hm_report.proofs.Explained.{explained}
-use Rattle.hm_run.specs.Steps.{stops, goes_on}
-use Rattle.hm_run.specs.Verdict.{Trees, Becomes, reconciled, IsReport, Plan, Plans, Verdict, stop_state}
-use Rattle.hm_run.specs.Causes.{IsDone}
-use Rattle.hm_run.specs.Seen.{WhereTold}
-use Rattle.hm_run.specs.Endings.{Outside, HasCause, Leaves, Puts, EndsAs, TellsConflicts, old_trio, new_trio, IsSynchronised, IsReported, IsComplete}
-use Rattle.hm_run.proofs.Only.{verdict_one}
-use Rattle.hm_run.proofs.Reading.{members}
+use Rattle.hm_run.specs.Reads.{Trees}
+use Rattle.hm_run.specs.Verdict.{Becomes, IsReport, Plan, Plans, PlansFrom, VerdictOf, Verdict, conflicts_status, stop_state}
+use Rattle.hm_run.specs.Work.{IsDone, IsRefused, Works}
+use Rattle.hm_run.specs.Endings.{Outside, HasPut, EndsAs, TellsConflicts, old_trio, new_trio, IsPlan, IsSynchronised, IsReported, IsComplete}
+use Rattle.hm_run.proofs.Once.{verdict_once}
+use Rattle.hm_run.proofs.Working.{of_schema}
 
 -- ---- what a plan begins with, and comes to
 
@@ -30,148 +37,242 @@ record IsFounded (plan : Plan) : Type 0 where
   outcome : Becomes plan.before plan.after
   members : AreMembers plan.before.schema plan.before.schema.root (views (old_trio plan))
 
+same_refusal : (p q : Refusal) → ◌≡◌ {A = Result Plan Refusal} (Err p) (Err q) → p ≡ q
+same_refusal p q e = cc
+
 plan_is : (p q : Plan) → ◌≡◌ {A = Result Plan Refusal} (Ok p) (Ok q) → p ≡ q
 plan_is p q e = cc
 
-planned_founded : (files : FileNames) (before : Trees) (plan : Plan) (r : Result Plan Refusal) → AreMembers before.schema before.schema.root (views (given before.archive before.left before.right)) → r ≡ Ok plan → Plans files before r → IsFounded plan
+planned_founded : (files : FileNames) (before : Trees) (plan : Plan) (r : Result Plan Refusal)
+    → AreMembers before.schema before.schema.root (views (given before.archive before.left before.right))
+    → r ≡ Ok plan → Plans files before r → IsFounded plan
 unfolding Plans
-planned_founded files before plan _ of e (stops h) = elim h [ ]
+planned_founded files before plan _ of e (stops h) = absurd h
 planned_founded files before plan _ of e (goes_on h (stops k)) = absurd (let no : ⊥ = cc in no)
-planned_founded files before plan r of e (goes_on {x = after} (reconciled h) (goes_on k is)) =
+planned_founded files before plan r of e (goes_on {x = after} h (goes_on k is)) =
     subst IsFounded (plan_is (record { files = files; before = before; after = after }) plan (sym is ∙ e)) (record { outcome = h; members = of })
 
-founded : (c : Contents) (words : List Name) (plan : Plan) (r : Result Plan Refusal) → r ≡ Ok plan → Verdict c words r → IsFounded plan
-unfolding Verdict
-founded c words plan _ e (stops h) = absurd (let no : ⊥ = cc in no)
-founded c words plan _ e (goes_on h (stops k)) = absurd (let no : ⊥ = cc in no)
-founded c words plan _ e (goes_on h (goes_on k (stops l))) = absurd (let no : ⊥ = cc in no)
-founded c words plan r e (goes_on {x = files} h (goes_on {x = bytes} k (goes_on {x = before} l m))) = planned_founded files before plan r (members bytes before l) e m
+founded : (c : Contents) (meant : Result FileNames Refusal) (plan : Plan) (r : Result Plan Refusal) → r ≡ Ok plan → VerdictOf c meant r → IsFounded plan
+unfolding VerdictOf PlansFrom
+founded c meant plan _ e (stops h) = absurd (let no : ⊥ = cc in no)
+founded c meant plan _ e (goes_on h (stops k)) = absurd (let no : ⊥ = cc in no)
+founded c meant plan _ e (goes_on h (goes_on k (stops l))) = absurd (let no : ⊥ = cc in no)
+founded c meant plan r e (goes_on {x = files} h (goes_on {x = all} k (goes_on {x = before} l m))) =
+    planned_founded files before plan r (of_schema all before l).1 e m
 
--- ---- after 0 and 1
+is_plan : (words : List Name) (c : Contents) (plan : Plan) → Verdict c words (Ok plan) → IsPlan words c plan
+is_plan words c plan h = record { planned = h; only = λ r k. verdict_once c (meaning words) r (Ok plan) k h }
 
-status_told : (plan : Plan) (report : Report) → IsReport plan.before plan.after report → TellsConflicts plan (conflicts_status report.conflicts)
-status_told plan report tells = record { conflicts = tells.conflicts; remain = tells.remain; told = ap conflicts_status tells.tells.number }
-
-done_synchronised : (words : List Name) (c : Contents) (report : Report) (left : Option Contents) → IsDone words c report left → IsSynchronised words c (conflicts_status report.conflicts) left
-done_synchronised words c report left h = let outcome = (founded c words h.state.plan (Ok h.state.plan) refl h.state.planned).outcome in record {
-  plan = h.state.plan;
-  planned = h.state.planned;
-  new = h.state.is;
-  safe = outcome.safe.safe;
-  member_left = outcome.safe.members.left;
-  member_right = outcome.safe.members.right;
-  outcome = outcome;
-  best = outcome_maximal h.state.plan.before.schema h.state.plan.before.schema.root (old_trio h.state.plan) (new_trio h.state.plan) outcome;
-  only = outcome_only h.state.plan.before.schema h.state.plan.before.schema.root (old_trio h.state.plan) (new_trio h.state.plan) outcome;
-  tells = status_told h.state.plan report h.tells;
-}
-
-refusal_is_high : (refusal : Refusal) (n : ℕ) → n ≡ refusal_status refusal → (n ≡ 0) ⊎ (n ≡ 1) → ⊥
-refusal_is_high Usage n e h = omega arith
-refusal_is_high (SameName one two) n e h = omega arith
-refusal_is_high (Missing slot) n e h = omega arith
-refusal_is_high (TooLarge slot) n e h = omega arith
-refusal_is_high (BadSchema line) n e h = omega arith
-refusal_is_high (BadArchive fault) n e h = omega arith
-refusal_is_high (BadReplica slot fault) n e h = omega arith
-refusal_is_high (Overgrown slot size) n e h = omega arith
-
-synchronised_by : (ending : Ending) (words : List Name) (c : Contents) (left : Option Contents) → (status_of ending ≡ 0) ⊎ (status_of ending ≡ 1) → Leaves ending words c left → IsSynchronised words c (status_of ending) left
-synchronised_by (Stopped (Refused refusal)) words c left status h = absurd (refusal_is_high refusal _ refl status)
-synchronised_by (Stopped (ReadFault slot)) words c left status h = absurd (omega arith)
-synchronised_by (Stopped (WriteFault slot)) words c left status h = absurd (omega arith)
-synchronised_by (Stopped Memory) words c left status h = absurd (omega arith)
-synchronised_by (PutFault report) words c left status h = absurd (omega arith)
-synchronised_by (Done report) words c left status h = done_synchronised words c report left h
-
-pub synchronised : (ending : Ending) (words : List Name) (before after : Outside) (status : ℕ) → status ≡ status_of ending → EndsAs ending words before after → (status ≡ 0) ⊎ (status ≡ 1) → WhereTold before.contents (λ c. IsSynchronised words c status after.contents)
-synchronised ending words before after status is h at = λ c told.
-    let P : ℕ → Type 0 = λ n. (n ≡ 0) ⊎ (n ≡ 1) in
-    let Q : ℕ → Type 0 = λ n. IsSynchronised words c n after.contents in
-    subst Q (sym is) (synchronised_by ending words c after.contents (subst P is at) (h.contents c told))
-
--- ---- what is put after 0 and 1
-
-done_reported : (words : List Name) (c : Contents) (w : List ℕ) (report : Report) (left : Option Contents) (out : Option (List ℕ)) → IsDone words c report left → out ≡ Some (w ++ output_of (Done report)) → IsReported words c w (conflicts_status report.conflicts) out
-done_reported words c w report left out h put = let plan = founded c words h.state.plan (Ok h.state.plan) refl h.state.planned in record {
-  plan = h.state.plan;
-  planned = h.state.planned;
-  conflicts = h.tells.conflicts;
-  remain = h.tells.remain;
-  told = ap conflicts_status h.tells.tells.number;
-  put = put ∙ ap (λ t. Some (w ++ t)) h.tells.tells.text;
-  explained = explained h.state.plan.before.schema h.state.plan.before.schema.root (old_trio h.state.plan) (new_trio h.state.plan) h.tells.conflicts plan.outcome h.tells.remain;
-  apart = marks_differ h.state.plan.before.schema h.state.plan.before.schema.root (old_trio h.state.plan) (new_trio h.state.plan) plan.members plan.outcome;
-}
-
-reported_by : (ending : Ending) (words : List Name) (c : Contents) (w : List ℕ) (left : Option Contents) (before after : ℕ) (out : Option (List ℕ)) → (status_of ending ≡ 0) ⊎ (status_of ending ≡ 1) → Leaves ending words c left → Puts ending w before after out → IsReported words c w (status_of ending) out
-reported_by (Stopped (Refused refusal)) words c w left before after out status h p = absurd (refusal_is_high refusal _ refl status)
-reported_by (Stopped (ReadFault slot)) words c w left before after out status h p = absurd (omega arith)
-reported_by (Stopped (WriteFault slot)) words c w left before after out status h p = absurd (omega arith)
-reported_by (Stopped Memory) words c w left before after out status h p = absurd (omega arith)
-reported_by (PutFault report) words c w left before after out status h p = absurd (omega arith)
-reported_by (Done report) words c w left before after out status h p = done_reported words c w report left out h p
-
-pub reported : (ending : Ending) (words : List Name) (before after : Outside) (status : ℕ) → status ≡ status_of ending → EndsAs ending words before after → (status ≡ 0) ⊎ (status ≡ 1) → WhereTold before.contents (λ c. WhereTold before.written (λ w. IsReported words c w status after.written))
-reported ending words before after status is h at = λ c told w put.
-    let P : ℕ → Type 0 = λ n. (n ≡ 0) ⊎ (n ≡ 1) in
-    let Q : ℕ → Type 0 = λ n. IsReported words c w n after.written in
-    subst Q (sym is) (reported_by ending words c w after.contents before.faults after.faults after.written (subst P is at) (h.contents c told) (h.written w put))
-
--- ---- after 2 and 3
+-- ---- statuses
 
 conflicts_low : (n : ℕ) → conflicts_status n ≤ 1
 conflicts_low zero = omega arith
 conflicts_low (suc n) = omega arith
 
-refused_by : (ending : Ending) (words : List Name) (c : Contents) (left : Option Contents) → (status_of ending ≡ 2) ⊎ (status_of ending ≡ 3) → Leaves ending words c left → left ≡ Some c
-refused_by (Stopped (Refused refusal)) words c left status h = h.same
-refused_by (Stopped (ReadFault slot)) words c left status h = h.same
-refused_by (Stopped (WriteFault slot)) words c left status h = absurd (omega arith)
-refused_by (Stopped Memory) words c left status h = absurd (omega arith)
-refused_by (PutFault report) words c left status h = absurd (omega arith)
-refused_by (Done report) words c left status h = absurd (let low = conflicts_low report.conflicts in omega arith)
+refusal_high : (refusal : Refusal) → 2 ≤ refusal_status refusal
+refusal_high Usage = omega arith
+refusal_high (SameName one two) = omega arith
+refusal_high (At at fault) = omega arith
 
-pub refused : (ending : Ending) (words : List Name) (before after : Outside) (status : ℕ) → status ≡ status_of ending → EndsAs ending words before after → (status ≡ 2) ⊎ (status ≡ 3) → WhereTold before.contents (λ c. after.contents ≡ Some c)
-refused ending words before after status is h at = λ c told.
-    let P : ℕ → Type 0 = λ n. (n ≡ 2) ⊎ (n ≡ 3) in
-    refused_by ending words c after.contents (subst P is at) (h.contents c told)
+stop_high : (stop : Stop) → 2 ≤ work_status (Err stop)
+stop_high (Refused refusal) = refusal_high refusal
+stop_high (Fault kind at) = omega arith
+stop_high Memory = omega arith
 
--- ---- where nothing outside fails
+put_high : (stop : Stop) (answer : Put) → 2 ≤ put_status (Err stop) answer
+put_high stop put.Done = stop_high stop
+put_high stop put.Failed = stop_high stop
+put_high stop put.Memory = omega arith
 
-module _ (words : List Name) (c : Contents) where
-  same_plan : (p q : Plan) → Verdict c words (Ok p) → Verdict c words (Ok q) → p ≡ q
-  same_plan p q h k = plan_is p q (verdict_one c words (Ok p) (Ok q) h k)
+fault_high : (kind : Kind) (at : Slot) (answer : Put) → 4 ≤ put_status (Err (Fault kind at)) answer
+fault_high kind at put.Done = omega arith
+fault_high kind at put.Failed = omega arith
+fault_high kind at put.Memory = omega arith
 
-  not_both : (p : Plan) (refusal : Refusal) → Verdict c words (Ok p) → Verdict c words (Err refusal) → ⊥
-  not_both p refusal h k = let e = verdict_one c words (Ok p) (Err refusal) h k in let no : ⊥ = cc in no
+spent : (answer : Put) → put_status (Err Memory) answer ≡ 5
+spent put.Done = refl
+spent put.Failed = refl
+spent put.Memory = refl
 
-  same_refusal : (p q : Refusal) → Verdict c words (Err p) → Verdict c words (Err q) → p ≡ q
-  same_refusal p q h k = inside (verdict_one c words (Err p) (Err q) h k)
-    where
-      inside : ◌≡◌ {A = Result Plan Refusal} (Err p) (Err q) → p ≡ q
-      inside e = cc
+-- a status of 0 or 1 is that of an output that was put out
+data IsLow : Result Output Stop → Put → Type 0 where
+  low : {output : Output} → IsLow (Ok output) put.Done
 
-  complete_by : (ending : Ending) (before after : Outside) → HasCause ending words before after → Leaves ending words c after.contents → after.failed ≡ before.failed → after.faults ≡ before.faults → IsComplete words c (status_of ending) after.contents
-  complete_by (Stopped (Refused refusal)) before after cause leaves f s = record {
-    carried_out = λ plan k. absurd (not_both plan refusal k leaves.first);
-    refused = λ other k. inr (ap refusal_status (same_refusal refusal other leaves.first k), leaves.same);
-  }
-  complete_by (Stopped (ReadFault slot)) before after cause leaves f s = absurd (not_risen f cause.risen)
-  complete_by (Stopped (WriteFault slot)) before after cause leaves f s = absurd (not_risen f cause.1.risen)
-  complete_by (Stopped Memory) before after cause leaves f s = record { carried_out = λ plan k. inl refl; refused = λ other k. inl refl }
-  complete_by (PutFault report) before after cause leaves f s = absurd (omega (arith, cause.1, s))
-  complete_by (Done report) before after cause leaves f s = record {
-    carried_out = λ plan k.
-        let same : leaves.state.plan ≡ plan = same_plan leaves.state.plan plan leaves.state.planned k in
-        inr (
-          subst (λ (p : Plan). TellsConflicts p (conflicts_status report.conflicts)) same (status_told leaves.state.plan report leaves.tells),
-          leaves.state.is ∙ ap (λ (p : Plan). Some (stop_state c p 3)) same,
-        );
-    refused = λ other k. absurd (not_both leaves.state.plan other leaves.state.planned k);
-  }
+low_status : (work : Result Output Stop) (answer : Put) → (put_status work answer ≡ 0) ⊎ (put_status work answer ≡ 1) → IsLow work answer
+low_status (Ok output) put.Done s = low
+low_status (Ok output) put.Failed s = absurd (omega arith)
+low_status (Ok output) put.Memory s = absurd (omega arith)
+low_status (Err stop) answer s = absurd (omega (arith, put_high stop answer))
 
-pub complete : (ending : Ending) (words : List Name) (before after : Outside) (status : ℕ) → status ≡ status_of ending → EndsAs ending words before after → after.failed ≡ before.failed → after.faults ≡ before.faults → WhereTold before.contents (λ c. IsComplete words c status after.contents)
-complete ending words before after status is h f s = λ c told.
-    let Q : ℕ → Type 0 = λ n. IsComplete words c n after.contents in
-    subst Q (sym is) (complete_by words c ending before after h.cause (h.contents c told) f s)
+-- ---- after 0 and 1
+
+status_told : (plan : Plan) (output : Output) → IsReport plan.before plan.after output → TellsConflicts plan output.status
+status_told plan output tells = record { conflicts = tells.conflicts; remain = tells.remain; told = tells.tells.status }
+
+done_synchronised : (words : List Name) (c : Contents) (output : Output) (left : Option Contents)
+    → IsDone (meaning words) c output left → IsSynchronised words c output.status left
+done_synchronised words c output left h =
+    let plan = h.state.plan in
+    let s = plan.before.schema in
+    let outcome = (founded c (meaning words) plan (Ok plan) refl h.state.planned).outcome in record {
+      plan = plan;
+      planned = is_plan words c plan h.state.planned;
+      new = h.state.is;
+      safe = outcome.safe.safe;
+      member_left = outcome.safe.members.left;
+      member_right = outcome.safe.members.right;
+      outcome = outcome;
+      best = outcome_maximal s s.root (old_trio plan) (new_trio plan) outcome;
+      only = outcome_only s s.root (old_trio plan) (new_trio plan) outcome;
+      tells = status_told plan output h.tells;
+    }
+
+done_reported : (words : List Name) (c : Contents) (w : List ℕ) (output : Output) (left : Option Contents) (out : Option (List ℕ))
+    → IsDone (meaning words) c output left → out ≡ Some (w ++ output.text.items) → IsReported words c w output.status out
+done_reported words c w output left out h put =
+    let plan = h.state.plan in
+    let s = plan.before.schema in
+    let begun = founded c (meaning words) plan (Ok plan) refl h.state.planned in record {
+      plan = plan;
+      planned = is_plan words c plan h.state.planned;
+      conflicts = h.tells.conflicts;
+      remain = h.tells.remain;
+      told = h.tells.tells.status;
+      put = put ∙ ap (λ t. Some (w ++ t)) h.tells.tells.text;
+      explained = explained s s.root (old_trio plan) (new_trio plan) h.tells.conflicts begun.outcome h.tells.remain;
+      apart = marks_differ s s.root (old_trio plan) (new_trio plan) begun.members begun.outcome;
+    }
+
+-- ---- how a run ended, and what follows from it
+
+-- what the work left, by the rows of what it came to
+worked_output : (meant : Result FileNames Refusal) (told left : Option Contents) (before after : List Failure) (output : Output)
+    → Works meant told left before after (Ok output) → WhereTold told (λ c. IsDone meant c output left)
+worked_output (Ok files) told left before after output h = h.0.0
+worked_output (Err refusal) told left before after output h = absurd (let e = h.0 in let no : ⊥ = cc in no)
+
+refusal_is : (p q : Refusal) → ◌≡◌ {A = Result Output Stop} (Err (Refused p)) (Err (Refused q)) → p ≡ q
+refusal_is p q e = cc
+
+worked_refusal : (meant : Result FileNames Refusal) (told left : Option Contents) (before after : List Failure) (refusal : Refusal)
+    → Works meant told left before after (Err (Refused refusal)) → WhereTold told (λ c. IsRefused meant c refusal left)
+unfolding VerdictOf
+worked_refusal (Ok files) told left before after (At at fault) h = h.0.0
+worked_refusal (Ok files) told left before after Usage h = absurd h.0
+worked_refusal (Ok files) told left before after (SameName one two) h = absurd h.0
+worked_refusal (Err other) told left before after refusal h = λ c is_told.
+    record { first = stops (ap (λ (z : Refusal). Err z) (refusal_is refusal other h.0)); same = h.1 ∙ is_told }
+
+-- a fault of the store has left its call in the list
+worked_fault : (meant : Result FileNames Refusal) (told left : Option Contents) (before after : List Failure) (kind : Kind) (at : Slot)
+    → after ≡ before → Works meant told left before after (Err (Fault kind at)) → ⊥
+worked_fault (Ok files) told left before after Load at same h = not_risen same h.0.0.0.unread.risen
+worked_fault (Ok files) told left before after Replace at same h = not_risen same h.0.0.unwritten.risen
+worked_fault (Err refusal) told left before after kind at same h = let e = h.0 in cc
+
+module _ (words : List Name) (before after : Outside) where
+  -- what the work came to, and how it was put out
+  abbrev Ended : Result Output Stop → Put → Type 0
+  Ended work answer =
+      Works (meaning words) before.contents after.contents before.failed after.failed work × HasPut work answer before after
+
+  module _ {output : Output} {answer : Put} (h : Ended (Ok output) answer) where
+    is_done : WhereTold before.contents (λ c. IsDone (meaning words) c output after.contents)
+    is_done = worked_output (meaning words) before.contents after.contents before.failed after.failed output h.0
+
+  module _ {refusal : Refusal} {answer : Put} (h : Ended (Err (Refused refusal)) answer) where
+    is_refused : WhereTold before.contents (λ c. IsRefused (meaning words) c refusal after.contents)
+    is_refused = worked_refusal (meaning words) before.contents after.contents before.failed after.failed refusal h.0
+
+  synchronised_by : (work : Result Output Stop) (answer : Put) → IsLow work answer → Ended work answer
+      → WhereTold before.contents (λ c. IsSynchronised words c (put_status work answer) after.contents)
+  synchronised_by _ _ (low {output}) h c told = done_synchronised words c output after.contents (is_done h c told)
+
+  reported_by : (work : Result Output Stop) (answer : Put) → IsLow work answer → Ended work answer
+      → WhereTold before.contents (λ c. WhereTold before.written (λ w. IsReported words c w (put_status work answer) after.written))
+  reported_by _ _ (low {output}) h c told w is =
+      done_reported words c w output after.contents after.written (is_done h c told) (h.1.written w is)
+
+  refused_by : (work : Result Output Stop) (answer : Put) → (put_status work answer ≡ 2) ⊎ (put_status work answer ≡ 3) → Ended work answer
+      → WhereTold before.contents (λ c. after.contents ≡ Some c)
+  refused_by (Ok output) put.Done s h c told =
+      let done = is_done h c told in
+      absurd (omega (arith, done.tells.tells.status, conflicts_low (length done.tells.conflicts)))
+  refused_by (Ok output) put.Failed s h c told = absurd (omega arith)
+  refused_by (Ok output) put.Memory s h c told = absurd (omega arith)
+  refused_by (Err (Refused refusal)) answer s h c told = (is_refused h c told).same
+  refused_by (Err (Fault kind at)) answer s h c told = absurd (omega (arith, fault_high kind at answer))
+  refused_by (Err Memory) answer s h c told = absurd (omega (arith, spent answer))
+
+  module _ (same_failed : after.failed ≡ before.failed) (same_faults : after.faults ≡ before.faults) (c : Contents) (told : before.contents ≡ Some c) where
+    -- no output was put out in part
+    put_whole : (work : Result Output Stop) (answer : Put) → HasPut work answer before after
+        → (put_status work answer ≡ 5) ⊎ (put_status work answer ≡ work_status work)
+    put_whole work put.Done h = inr refl
+    put_whole work put.Failed h = absurd (let risen = h.faults in omega arith)
+    put_whole (Ok output) put.Memory h = inl refl
+    put_whole (Err stop) put.Memory h = inl refl
+
+    complete_by : (work : Result Output Stop) (answer : Put) → Ended work answer → IsComplete words c (put_status work answer) after.contents
+    complete_by (Ok output) answer h =
+        let done = is_done h c told in
+        let only = (is_plan words c done.state.plan done.state.planned).only in record {
+          carried_out = λ plan k.
+              let same : done.state.plan ≡ plan = plan_is done.state.plan plan (sym (only (Ok plan) k)) in
+              ⊎_elim (λ five. inl five) (λ whole. inr (
+                subst (λ (p : Plan). TellsConflicts p (put_status (Ok output) answer)) same
+                    (subst (TellsConflicts done.state.plan) (sym whole) (status_told done.state.plan output done.tells)),
+                done.state.is ∙ ap (λ (p : Plan). Some (stop_state c p 3)) same,
+              )) (put_whole (Ok output) answer h.1);
+          refused = λ other k. absurd (let e = only (Err other) k in let no : ⊥ = cc in no);
+        }
+    complete_by (Err (Refused refusal)) answer h =
+        let refused = is_refused h c told in record {
+          carried_out = λ plan k. absurd (let e = verdict_once c (meaning words) (Ok plan) (Err refusal) k refused.first in let no : ⊥ = cc in no);
+          refused = λ other k. ⊎_elim (λ five. inl five)
+              (λ whole. inr (whole ∙ ap refusal_status (same_refusal refusal other (verdict_once c (meaning words) (Err refusal) (Err other) refused.first k)), refused.same))
+              (put_whole (Err (Refused refusal)) answer h.1);
+        }
+    complete_by (Err (Fault kind at)) answer h =
+        absurd (worked_fault (meaning words) before.contents after.contents before.failed after.failed kind at same_failed h.0)
+    complete_by (Err Memory) answer h = record { carried_out = λ plan k. inl (spent answer); refused = λ other k. inl (spent answer) }
+
+module _ (ending : Ending) (words : List Name) (before after : Outside) (status : ℕ) (is : status ≡ status_of ending) (h : EndsAs ending words before after) where
+  abbrev ended : Ended words before after ending.work ending.put
+  ended = (h.works, h.puts)
+
+  pub synchronised : (status ≡ 0) ⊎ (status ≡ 1) → WhereTold before.contents (λ c. IsSynchronised words c status after.contents)
+  synchronised at =
+      let P : ℕ → Type 0 = λ n. (n ≡ 0) ⊎ (n ≡ 1) in
+      let Q : ℕ → Type 0 = λ n. WhereTold before.contents (λ c. IsSynchronised words c n after.contents) in
+      subst Q (sym is) (synchronised_by words before after ending.work ending.put (low_status ending.work ending.put (subst P is at)) ended)
+
+  pub reported : (status ≡ 0) ⊎ (status ≡ 1)
+      → WhereTold before.contents (λ c. WhereTold before.written (λ w. IsReported words c w status after.written))
+  reported at =
+      let P : ℕ → Type 0 = λ n. (n ≡ 0) ⊎ (n ≡ 1) in
+      let Q : ℕ → Type 0 = λ n. WhereTold before.contents (λ c. WhereTold before.written (λ w. IsReported words c w n after.written)) in
+      subst Q (sym is) (reported_by words before after ending.work ending.put (low_status ending.work ending.put (subst P is at)) ended)
+
+  pub refused : (status ≡ 2) ⊎ (status ≡ 3) → WhereTold before.contents (λ c. after.contents ≡ Some c)
+  refused at =
+      let P : ℕ → Type 0 = λ n. (n ≡ 2) ⊎ (n ≡ 3) in
+      refused_by words before after ending.work ending.put (subst P is at) ended
+
+  pub complete : after.failed ≡ before.failed → after.faults ≡ before.faults
+      → WhereTold before.contents (λ c. IsComplete words c status after.contents)
+  complete f s c told =
+      let Q : ℕ → Type 0 = λ n. IsComplete words c n after.contents in
+      subst Q (sym is) (complete_by words before after f s c told ending.work ending.put ended)
+
+-- ---- the work of some words
+
+pub worked : (meant : Result FileNames Refusal) (files : FileNames) → meant ≡ Ok files
+    → (told left : Option Contents) (before after : List Failure) (r : Result Output Stop)
+    → Works (Ok files) told left before after r → Works meant told left before after r
+worked meant files is told left before after r h = subst (λ (m : Result FileNames Refusal). Works m told left before after r) (sym is) h
+
+pub words_refused : (meant : Result FileNames Refusal) (refusal : Refusal) → meant ≡ Err refusal
+    → (told : Option Contents) (failed : List Failure) → Works meant told told failed failed (Err (Refused refusal))
+words_refused meant refusal is told failed =
+    subst (λ (m : Result FileNames Refusal). Works m told told failed failed (Err (Refused refusal))) (sym is) (refl, refl, refl)

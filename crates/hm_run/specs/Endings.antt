@@ -1,27 +1,29 @@
 -- How a run ends: the cause, what it leaves in the store, and what it puts out.
-use Rattle.std.specs.Prelude.{◌≡◌, ◌≢◌, ◌⊎◌, ℕ, ◌<◌, ◌≤◌, List, ◌++◌, length, take, Option, Some, Result, Ok, Err}
+use Rattle.std.specs.Prelude.{◌≡◌, ◌⊎◌, ℕ, ◌<◌, List, ◌++◌, length, Option, Some, Result, Ok, Err}
 use Rattle.hm_tree.specs.Names.{Name}
 use Rattle.hm_outside.specs.Contents.{Contents}
-use Rattle.hm_outside.specs.Failures.{Extends}
+use Rattle.hm_outside.specs.Answers.{PutsAfter}
 use Rattle.hm_outside.specs.declared.outside.Failure.{Failure}
+use Rattle.hm_outside.specs.declared.outside.Put.{Put}
+use Rattle.hm_outside.specs.declared.outside.Put.TheVariants as put
 use Rattle.hm_tree.specs.States.{Path, state}
 use Rattle.hm_schema.specs.Membership.{IsMember}
 use Rattle.hm_safety.specs.Safety.{IsTopmostMark, IsSafe}
 use Rattle.hm_outcome.specs.Trios.{Trio, given, views, Differ}
 use Rattle.hm_outcome.specs.Outcomes.{IsOutcome, IsMaximal, IsOnlyOne}
-use Rattle.hm_command.specs.declared.ending.Refusal.{Refusal}
-use Rattle.hm_command.specs.declared.ending.Stop.{Stop}
-use Rattle.hm_command.specs.declared.ending.Report.{Report}
-use Rattle.hm_command.specs.declared.ending.Stop.TheVariants.{Refused, ReadFault, WriteFault, Memory}
-use Rattle.hm_command.specs.declared.ending.Ending.{Ending}
-use Rattle.hm_command.specs.declared.ending.Ending.TheVariants.{Stopped, PutFault, Done}
 use Rattle.hm_report.specs.declared.conflict.Conflict.{Conflict}
 use Rattle.hm_report.specs.Conflicts.{AreExplained}
 use Rattle.hm_report.specs.Text.{report_text}
-use Rattle.hm_command.specs.Lines.{output_of, refusal_status, conflicts_status}
-use Rattle.hm_run.specs.Causes.{HasMeaning, HasStopCause, Synchronises, IsDone}
-use Rattle.hm_run.specs.Seen.{WhereTold}
-use Rattle.hm_run.specs.Verdict.{Plan, Verdict, stop_state, HasConflicts}
+use Rattle.hm_files.specs.declared.stop.Refusal.{Refusal}
+use Rattle.hm_files.specs.declared.stop.Stop.{Stop}
+use Rattle.hm_files.specs.declared.stop.Stop.TheVariants.{Memory}
+use Rattle.hm_files.specs.Did.{WhereTold}
+use Rattle.hm_command.specs.declared.ending.Output.{Output}
+use Rattle.hm_command.specs.declared.ending.Ending.{Ending}
+use Rattle.hm_command.specs.Words.{meaning}
+use Rattle.hm_command.specs.Lines.{output_of, refusal_status}
+use Rattle.hm_run.specs.Verdict.{Plan, Verdict, stop_state, HasConflicts, conflicts_status}
+use Rattle.hm_run.specs.Work.{Works}
 
 -- what is known of the store and the sink at one moment
 pub record Outside : Type 0 where
@@ -30,70 +32,22 @@ pub record Outside : Type 0 where
   pub written : Option (List ℕ)
   pub faults : ℕ
 
--- why a run ended so, whatever is told
-abbrev pub HasCause : Ending → List Name → Outside → Outside → Type 0
-HasCause (Stopped stop) words before after = HasStopCause {A = Report} words before.failed after.failed (Err stop)
-HasCause (PutFault report) words before after = HasMeaning words × (before.faults < after.faults)
-HasCause (Done report) words before after = HasMeaning words
+-- the sink's faults have risen where it failed, and only there
+abbrev pub TellsFaults : Put → ℕ → ℕ → Type 0
+TellsFaults put.Done before after = after ≡ before
+TellsFaults put.Failed before after = before < after
+TellsFaults put.Memory before after = after ≡ before
 
--- where no fault is told, no call has failed: for want of memory a fault of the store may be left untold, and a refusal
--- stays one where the sink has failed
-abbrev pub TellsFaults : Ending → Outside → Outside → Type 0
-TellsFaults (Stopped (Refused refusal)) before after = after.failed ≡ before.failed
-TellsFaults (Stopped (ReadFault slot)) before after = Unit {0}
-TellsFaults (Stopped (WriteFault slot)) before after = Unit {0}
-TellsFaults (Stopped Memory) before after = after.faults ≡ before.faults
-TellsFaults (PutFault report) before after = after.failed ≡ before.failed
-TellsFaults (Done report) before after = (after.failed ≡ before.failed) × (after.faults ≡ before.faults)
-
--- the contents that it leaves
-abbrev pub Leaves : Ending → List Name → Contents → Option Contents → Type 0
-Leaves (Stopped stop) words c left = Synchronises words c (Err stop) left
-Leaves (PutFault report) words c left = IsDone words c report left
-Leaves (Done report) words c left = IsDone words c report left
-
--- a first part of the text was put behind these bytes
-abbrev pub PutsPart : List ℕ → List ℕ → Option (List ℕ) → Type 0
-PutsPart text w out = (n : ℕ) × (out ≡ Some (w ++ take n text))
-
--- all of the text was put behind these bytes; a part of it only where the sink has failed
-abbrev pub PutsLine : List ℕ → List ℕ → ℕ → ℕ → Option (List ℕ) → Type 0
-PutsLine text w before after out = (out ≡ Some (w ++ text)) ⊎ ((before < after) × PutsPart text w out)
-
--- what it puts behind the bytes that were written before
-abbrev pub Puts : Ending → List ℕ → ℕ → ℕ → Option (List ℕ) → Type 0
-Puts (Stopped (Refused refusal)) w before after out = PutsLine (output_of (Stopped (Refused refusal))) w before after out
-Puts (Stopped (ReadFault slot)) w before after out = PutsLine (output_of (Stopped (ReadFault slot))) w before after out
-Puts (Stopped (WriteFault slot)) w before after out = PutsLine (output_of (Stopped (WriteFault slot))) w before after out
-Puts (Stopped Memory) w before after out = out ≡ Some w
-Puts (PutFault report) w before after out = PutsPart (output_of (PutFault report)) w out
-Puts (Done report) w before after out = out ≡ Some (w ++ output_of (Done report))
+-- how what the work had to say was put out; for want of memory it has nothing to say
+pub record HasPut (work : Result Output Stop) (answer : Put) (before after : Outside) : Type 0 where
+  pub written : WhereTold before.written (λ w. PutsAfter w (output_of work) answer after.written)
+  pub faults : TellsFaults answer before.faults after.faults
+  pub silent : work ≡ Err Memory → answer ≡ put.Memory
 
 -- a run of these words ends so
 pub record EndsAs (ending : Ending) (words : List Name) (before after : Outside) : Type 0 where
-  pub cause : HasCause ending words before after
-  pub contents : WhereTold before.contents (λ c. Leaves ending words c after.contents)
-  pub written : WhereTold before.written (λ w. Puts ending w before.faults after.faults after.written)
-  pub faults_told : TellsFaults ending before after
-  pub failed : Extends before.failed after.failed
-  pub faults : before.faults ≤ after.faults
-
--- ---- how the output makes the end
-
-abbrev pub ending_of : Result Report Stop → Ending
-ending_of (Ok report) = Done report
-ending_of (Err stop) = Stopped stop
-
--- what a fault of the sink makes of an end: a refusal stays one
-abbrev pub after_fault : Ending → Ending
-after_fault (Done report) = PutFault report
-after_fault (PutFault report) = PutFault report
-after_fault (Stopped stop) = Stopped stop
-
-pub data Finishes (given : Ending) (before after : ℕ) (ending : Ending) : Type 0 where
-  said : after ≡ before → ending ≡ given → Finishes given before after ending
-  failed : given ≢ Stopped Memory → before < after → ending ≡ after_fault given → Finishes given before after ending
-  no_memory : after ≡ before → ending ≡ Stopped Memory → Finishes given before after ending
+  pub works : Works (meaning words) before.contents after.contents before.failed after.failed ending.work
+  pub puts : HasPut ending.work ending.put before after
 
 -- ---- what a user relies on
 
@@ -110,11 +64,16 @@ old_trio plan = given plan.before.archive plan.before.left plan.before.right
 abbrev pub new_trio : Plan → Trio
 new_trio plan = given plan.after.archive plan.after.left plan.after.right
 
+-- the plan of these words over these contents: there is no other verdict
+pub record IsPlan (words : List Name) (c : Contents) (plan : Plan) : Type 0 where
+  pub planned : Verdict c words (Ok plan)
+  pub only : (r : Result Plan Refusal) → Verdict c words r → r ≡ Ok plan
+
 -- the store has the three new texts; what they hold is a safe result of what was read, both replicas are members, they
 -- agree wherever those of any safe result do, and no other safe result agrees wherever they do
 pub record IsSynchronised (words : List Name) (c : Contents) (status : ℕ) (left : Option Contents) : Type 0 where
   pub plan : Plan
-  pub planned : Verdict c words (Ok plan)
+  pub planned : IsPlan words c plan
   pub new : left ≡ Some (stop_state c plan 3)
   pub safe : IsSafe (views (old_trio plan)) (views (new_trio plan))
   pub member_left : IsMember plan.before.schema plan.before.schema.root (state (Some plan.after.left))
@@ -128,7 +87,7 @@ pub record IsSynchronised (words : List Name) (c : Contents) (status : ℕ) (lef
 -- of them alone stands there or above, and it shows why; and at each of them the new replicas differ
 pub record IsReported (words : List Name) (c : Contents) (w : List ℕ) (status : ℕ) (out : Option (List ℕ)) : Type 0 where
   pub plan : Plan
-  pub planned : Verdict c words (Ok plan)
+  pub planned : IsPlan words c plan
   pub conflicts : List Conflict
   pub remain : HasConflicts plan.before plan.after conflicts
   pub told : status ≡ conflicts_status (length conflicts)
@@ -138,5 +97,7 @@ pub record IsReported (words : List Name) (c : Contents) (w : List ℕ) (status 
 
 -- where there is a plan and nothing outside fails, it is carried out, unless memory runs out
 pub record IsComplete (words : List Name) (c : Contents) (status : ℕ) (left : Option Contents) : Type 0 where
-  pub carried_out : (plan : Plan) → Verdict c words (Ok plan) → (status ≡ 5) ⊎ (TellsConflicts plan status × (left ≡ Some (stop_state c plan 3)))
-  pub refused : (refusal : Refusal) → Verdict c words (Err refusal) → (status ≡ 5) ⊎ ((status ≡ refusal_status refusal) × (left ≡ Some c))
+  pub carried_out : (plan : Plan) → Verdict c words (Ok plan)
+      → (status ≡ 5) ⊎ (TellsConflicts plan status × (left ≡ Some (stop_state c plan 3)))
+  pub refused : (refusal : Refusal) → Verdict c words (Err refusal)
+      → (status ≡ 5) ⊎ ((status ≡ refusal_status refusal) × (left ≡ Some c))

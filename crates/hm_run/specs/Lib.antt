@@ -1,7 +1,5 @@
-pub mod Steps
+pub mod Reads
 pub mod Verdict
-pub mod Seen
 pub mod Making
-pub mod Writing
-pub mod Causes
+pub mod Work
 pub mod Endings

@@ -1,11 +1,12 @@
 //! Reading the values that the four files hold.
-ghost use Rattle.std.specs.Prelude.{◌≡◌, IsUtf8};
+ghost use Rattle.std.specs.Prelude.{◌≡◌, length, map};
 ghost use Rattle.hm_schema.specs.Membership.{HasNoTwins};
-ghost use Rattle.hm_run.specs.Verdict.{ReadsSchema, ReadsArchive, ReadsReplica, ReadsAll};
-ghost use Rattle.hm_run.specs.Seen.{loads_of, inputs_of, itself, Follows, StopsInMemory};
+ghost use Rattle.hm_files.specs.Did.{Computes, itself};
+ghost use Rattle.hm_files.specs.Files.{bytes_of};
+ghost use Rattle.hm_run.specs.Reads.{Told, ReadsTree, ReadsArchive, ReadsSchema, ChecksText, ChecksMember, ReadsReplica, ReadsFour, ReadsAll, schema_stop, archive_stop, replica_stop};
+ghost use Rattle.hm_run.specs.Making.{inputs_of};
 
-use crate::load::Loads;
-use hm_command::{ArchiveFault, Refusal, ReplicaFault, Slot, Stop};
+use hm_files::{ArchiveFault, FileFault, Refusal, ReplicaFault, Slot, Stop};
 use hm_schema::Schema;
 use hm_schema_text::SchemaFault;
 use hm_tree::{Archive, Tree};
@@ -24,86 +25,128 @@ pub struct Inputs {
     pub right: Tree,
 }
 
+fn schema_stop(fault: SchemaFault) -> Stop
+    ensures { result ≡ schema_stop fault }
+{
+    match fault {
+        SchemaFault::BadSchema { line } => {
+            Stop::Refused(Refusal::At(Slot::Schema, FileFault::BadSchema(line)))
+        }
+        SchemaFault::Memory => Stop::Memory,
+    }
+}
+
+fn archive_stop(fault: TextFault) -> Stop
+    ensures { result ≡ archive_stop fault }
+{
+    let fault = match fault {
+        TextFault::BadTree { at } => ArchiveFault::At(at),
+        TextFault::TooDeep => ArchiveFault::Deep,
+        TextFault::Memory => return Stop::Memory,
+    };
+    Stop::Refused(Refusal::At(Slot::Archive, FileFault::BadArchive(fault)))
+}
+
+fn replica_stop(slot: Slot, fault: TextFault) -> Stop
+    ensures { result ≡ replica_stop slot fault }
+{
+    let fault = match fault {
+        TextFault::BadTree { at } => ReplicaFault::BadItem(at),
+        TextFault::TooDeep => ReplicaFault::TooDeep(TOO_DEEP),
+        TextFault::Memory => return Stop::Memory,
+    };
+    Stop::Refused(Refusal::At(slot, FileFault::BadReplica(fault)))
+}
+
 fn read_schema(alloc: Global, bytes: &[u8]) -> Result<Schema, Stop>
-    ensures cause { StopsInMemory result }
-    ensures finds { Follows itself result (ReadsSchema bytes.now) }
+    ensures { Computes itself (Told schema_stop (ReadsSchema bytes.now)) result }
 {
     match hm_schema_text::read_schema(alloc, bytes) {
         Ok(schema) => Ok(schema),
-        Err(SchemaFault::BadSchema { line }) => Err(Stop::Refused(Refusal::BadSchema(line))),
-        Err(SchemaFault::Memory) => Err(Stop::Memory),
+        Err(fault) => Err(schema_stop(fault)),
     }
 }
 
 fn read_archive(alloc: Global, bytes: &[u8]) -> Result<Archive, Stop>
-    ensures cause { StopsInMemory result }
-    ensures finds { Follows itself result (ReadsArchive bytes.now) }
+    ensures { Computes itself (Told archive_stop (ReadsArchive bytes.now)) result }
 {
     match hm_tree_text::read_archive(alloc, bytes) {
         Ok(archive) => Ok(archive),
-        Err(TextFault::BadTree { at }) => {
-            Err(Stop::Refused(Refusal::BadArchive(ArchiveFault::At(at))))
-        }
-        Err(TextFault::TooDeep) => Err(Stop::Refused(Refusal::BadArchive(ArchiveFault::Deep))),
-        Err(TextFault::Memory) => Err(Stop::Memory),
+        Err(fault) => Err(archive_stop(fault)),
     }
 }
 
-// The tree of a replica that is a member of the schema.
-fn read_member(alloc: Global, schema: &Schema, slot: Slot, bytes: &[u8]) -> Result<Tree, Stop>
-    requires no_twins { HasNoTwins schema.now }
-    requires utf8 { IsUtf8 bytes.now }
-    ensures cause { StopsInMemory result }
-    ensures finds { Follows itself result (ReadsReplica schema.now slot bytes.now) }
+fn read_tree(alloc: Global, slot: Slot, bytes: &[u8]) -> Result<Tree, Stop>
+    ensures { Computes itself (Told (replica_stop slot) (ReadsTree bytes.now)) result }
 {
     match hm_tree_text::read_tree(alloc, bytes) {
-        Ok(tree) => match schema.first_outside(alloc, &tree) {
-            Ok(None) => Ok(tree),
-            Ok(Some(path)) => Err(Stop::Refused(Refusal::BadReplica(
-                slot,
-                ReplicaFault::Outside(path),
-            ))),
-            Err(_) => Err(Stop::Memory),
-        },
-        Err(TextFault::BadTree { at }) => Err(Stop::Refused(Refusal::BadReplica(
+        Ok(tree) => Ok(tree),
+        Err(fault) => Err(replica_stop(slot, fault)),
+    }
+}
+
+fn check_text(slot: Slot, bytes: &[u8]) -> Result<(), Stop>
+    ensures { Computes itself (ChecksText slot bytes.now) result }
+{
+    match std::str::from_utf8(bytes) {
+        Ok(_) => Ok(()),
+        Err(error) => Err(Stop::Refused(Refusal::At(
             slot,
-            ReplicaFault::BadItem(at),
+            FileFault::BadReplica(ReplicaFault::NotUtf8(error.valid_up_to())),
         ))),
-        Err(TextFault::TooDeep) => Err(Stop::Refused(Refusal::BadReplica(
+    }
+}
+
+fn check_member(alloc: Global, schema: &Schema, slot: Slot, tree: Tree) -> Result<Tree, Stop>
+    requires { HasNoTwins schema.now }
+    ensures { Computes itself (ChecksMember schema.now slot tree) result }
+{
+    match schema.first_outside(alloc, &tree)? {
+        None => Ok(tree),
+        Some(path) => Err(Stop::Refused(Refusal::At(
             slot,
-            ReplicaFault::TooDeep(TOO_DEEP),
+            FileFault::BadReplica(ReplicaFault::Outside(path)),
         ))),
-        Err(TextFault::Memory) => Err(Stop::Memory),
     }
 }
 
 fn read_replica(alloc: Global, schema: &Schema, slot: Slot, bytes: &[u8]) -> Result<Tree, Stop>
     requires { HasNoTwins schema.now }
-    ensures cause { StopsInMemory result }
-    ensures finds { Follows itself result (ReadsReplica schema.now slot bytes.now) }
+    ensures { Computes itself (ReadsReplica schema.now slot bytes.now) result }
 {
-    match std::str::from_utf8(bytes) {
-        Ok(_) => read_member(alloc, schema, slot, bytes),
-        Err(error) => Err(Stop::Refused(Refusal::BadReplica(
-            slot,
-            ReplicaFault::NotUtf8(error.valid_up_to()),
-        ))),
-    }
+    check_text(slot, bytes)?;
+    let tree = read_tree(alloc, slot, bytes)?;
+    check_member(alloc, schema, slot, tree)
 }
 
-/// The values of the four files, or the first stop.
-pub fn read_all(alloc: Global, loads: &Loads) -> Result<Inputs, Stop>
-    ensures cause { StopsInMemory result }
-    ensures finds { Follows inputs_of result (ReadsAll (loads_of loads.now)) }
+fn read_four(
+    alloc: Global,
+    schema: &[u8],
+    archive: &[u8],
+    left: &[u8],
+    right: &[u8],
+) -> Result<Inputs, Stop>
+    ensures { Computes inputs_of (ReadsFour schema.now archive.now left.now right.now) result }
 {
-    let schema = read_schema(alloc, &loads.schema)?;
-    let archive = read_archive(alloc, &loads.archive)?;
-    let left = read_replica(alloc, &schema, Slot::Left, &loads.left)?;
-    let right = read_replica(alloc, &schema, Slot::Right, &loads.right)?;
+    let schema = read_schema(alloc, schema)?;
+    let archive = read_archive(alloc, archive)?;
+    let left = read_replica(alloc, &schema, Slot::A, left)?;
+    let right = read_replica(alloc, &schema, Slot::B, right)?;
     Ok(Inputs {
         schema,
         archive,
         left,
         right,
     })
+}
+
+/// The values of the four files, by their bytes in the order of their slots, or the first stop.
+pub fn read_all(alloc: Global, loads: &[Vec<u8>]) -> Result<Inputs, Stop>
+    requires { length loads.now ≡ 4 }
+    ensures { Computes inputs_of (ReadsAll (map bytes_of loads.now)) result }
+{
+    let [schema, archive, left, right] = loads else {
+        unreachable!();
+    };
+    read_four(alloc, schema, archive, left, right)
 }

@@ -1,90 +1,45 @@
 //! The top call.
-ghost use Rattle.std.specs.Prelude.{◌≡◌, ◌≢◌, ◌⊎◌, ◌<◌, ◌≤◌, Some};
+ghost use Rattle.std.specs.Prelude.{◌≡◌, ◌⊎◌, Some, Err};
 ghost use Rattle.hm_outside.specs.Answers.{PutsAfter};
-ghost use Rattle.hm_outside.specs.Failures.{Extends};
 ghost use Rattle.hm_outside.specs.declared.outside.Put.TheVariants as put;
+ghost use Rattle.hm_files.specs.declared.stop.Stop.TheVariants.{Memory as OutOfMemory};
+ghost use Rattle.hm_files.specs.Did.{WhereTold};
 ghost use Rattle.hm_command.specs.declared.ending.Ending.{Ending as EndingOf};
+ghost use Rattle.hm_command.specs.Words.{meaning};
 ghost use Rattle.hm_command.specs.Lines.{output_of, status_of};
-ghost use Rattle.hm_run.specs.Seen.{WhereTold, IsCalm};
-ghost use Rattle.hm_run.specs.Causes.{HasStopCause, Synchronises};
-ghost use Rattle.hm_run.specs.Endings.{EndsAs, Finishes, Puts, IsSynchronised, IsReported, IsComplete, after_fault, ending_of};
+ghost use Rattle.hm_run.specs.Work.{Works};
+ghost use Rattle.hm_run.specs.Endings.{TellsFaults, EndsAs, IsSynchronised, IsReported, IsComplete};
 
-use crate::load::load_all;
-use crate::make::make;
-use crate::measure::measure_all;
-use crate::read::read_all;
-use crate::write::write_all;
-use hm_command::{Ending, Report, Stop, files_of, line_of, status_of};
+use crate::work::synchronise;
+use hm_command::{Ending, Output, files_of, line_of, status_of};
+use hm_files::Stop;
 use hm_outside::{Put, Sink, Store};
 use hm_tree::Name;
 use std::alloc::Global;
 
-// Reads, reconciles and writes, and says what conflicts remain.
-fn synchronise<S: Store>(alloc: Global, words: &[Name], store: &mut S) -> Result<Report, Stop>
-    ensures failed { Extends (S.failed store.old) (S.failed store.new) }
-    ensures calm { IsCalm result (S.failed store.old) (S.failed store.new) }
-    ensures cause { HasStopCause words.now (S.failed store.old) (S.failed store.new) result }
-    ensures told { WhereTold (S.contents store.old) (λ c. Synchronises words.now c result (S.contents store.new)) }
+// What the words mean is carried out.
+fn work<S: Store>(alloc: Global, words: &[Name], store: &mut S) -> Result<Output, Stop>
+    ensures { Works (meaning words.now) (S.contents store.old) (S.contents store.new) (S.failed store.old) (S.failed store.new) result }
 {
-    let files = files_of(words)?;
-    let loads = load_all(alloc, store, files)?;
-    let inputs = read_all(alloc, &loads)?;
-    // What was read isn't needed any more, and takes as much memory as the new files.
-    drop(loads);
-    let new = make(alloc, inputs)?;
-    measure_all(&new)?;
-    write_all(store, files, &new)?;
-    Ok(new.report)
-}
-
-// What a fault of the sink makes of an end.
-fn after_fault(ending: Ending) -> Ending
-    ensures { result ≡ after_fault ending }
-{
-    match ending {
-        Ending::Done(report) | Ending::PutFault(report) => Ending::PutFault(report),
-        Ending::Stopped(stop) => Ending::Stopped(stop),
+    match files_of(words) {
+        Ok(files) => synchronise(alloc, store, files),
+        Err(refusal) => Err(Stop::Refused(refusal)),
     }
 }
 
-// Puts out what this end has to say, in one piece.
-fn put_output<K: Sink>(alloc: Global, ending: &Ending, out: &mut K) -> Put
-    ensures faults { K.faults out.old ≤ K.faults out.new }
-    ensures cause { result ≡ put.Failed → K.faults out.old < K.faults out.new }
-    ensures calm { result ≢ put.Failed → K.faults out.new ≡ K.faults out.old }
-    ensures told { WhereTold (K.written out.old) (λ w. PutsAfter w (output_of ending.now) result (K.written out.new)) }
+// Puts out what the work has to say, in one piece; for want of memory it has nothing to say.
+fn put_output<K: Sink>(alloc: Global, work: &Result<Output, Stop>, out: &mut K) -> Put
+    ensures written { WhereTold (K.written out.old) (λ w. PutsAfter w (output_of work.now) result (K.written out.new)) }
+    ensures faults { TellsFaults result (K.faults out.old) (K.faults out.new) }
+    ensures silent { work.now ≡ Err OutOfMemory → result ≡ put.Memory }
 {
-    match ending {
-        Ending::Stopped(stop) => match line_of(alloc, stop) {
+    match work {
+        Ok(output) => out.put(&output.text),
+        Err(Stop::Memory) => Put::Memory,
+        Err(stop) => match line_of(alloc, stop) {
             Ok(line) => out.put(&line),
             Err(_) => Put::Memory,
         },
-        Ending::Done(report) | Ending::PutFault(report) => out.put(&report.text),
-    }
-}
-
-// Puts out what this end has to say, and says how the run ended.
-fn finish<K: Sink>(alloc: Global, ending: Ending, out: &mut K) -> Ending
-    ensures faults { K.faults out.old ≤ K.faults out.new }
-    ensures finishes { Finishes ending (K.faults out.old) (K.faults out.new) result }
-    ensures told { WhereTold (K.written out.old) (λ w. Puts result w (K.faults out.old) (K.faults out.new) (K.written out.new)) }
-{
-    if let Ending::Stopped(Stop::Memory) = ending {
-        return ending;
-    }
-    match put_output(alloc, &ending, out) {
-        Put::Done => ending,
-        Put::Failed => after_fault(ending),
-        Put::Memory => Ending::Stopped(Stop::Memory),
-    }
-}
-
-fn ending_of(synchronised: Result<Report, Stop>) -> Ending
-    ensures { result ≡ ending_of synchronised }
-{
-    match synchronised {
-        Ok(report) => Ending::Done(report),
-        Err(stop) => Ending::Stopped(stop),
     }
 }
 
@@ -109,7 +64,7 @@ pub fn run<S: Store, K: Sink>(alloc: Global, words: &[Name], store: &mut S, out:
     // unless memory runs out.
     ensures complete { S.failed store.new ≡ S.failed store.old → K.faults out.new ≡ K.faults out.old → WhereTold (S.contents store.old) (λ c. IsComplete words.now c result (S.contents store.new)) }
 {
-    let given = ending_of(synchronise(alloc, words, store));
-    let ending = finish(alloc, given, out);
-    status_of(&ending)
+    let work = work(alloc, words, store);
+    let put = put_output(alloc, &work, out);
+    status_of(&Ending { work, put })
 }

@@ -7,4 +7,4 @@ use Rattle.hm_command.proofs.lines.put_overgrown.Goals as goal
 pub returns : goal.returns
 returns c =
     behind_both c.put_number.result c.args.line.now.items c.put_slot.new.line.items c.put_number.new.line.items
-    (codes "harmony: Overgrown " ++ slot_name c.args.slot) (codes " ") (decimal c.args.size) c.in_ok-put_slot.ensures c.put_number.ensures
+    (codes "Overgrown " ++ slot_name c.args.slot) (codes " ") (decimal c.args.size) c.in_ok-put_slot.ensures c.put_number.ensures

@@ -1,6 +1,5 @@
 use Rattle.std.proofs.Common.{[]}
-use Rattle.hm_run.specs.Seen.{inputs_of, outcome_of}
-use Rattle.hm_run.specs.Making.{all_as}
+use Rattle.hm_run.specs.Making.{inputs_of, outcome_of, all_as}
 use Rattle.hm_run.proofs.Making.{made, no_conflicts}
 use Rattle.hm_run.proofs.make.make.Goals as goal
 

@@ -1,0 +1,9 @@
+//! Whole runs over a store and a sink in memory: what no clause says of them is that they succeed.
+#![tactic(auto)]
+
+#[cfg(test)]
+mod results;
+#[cfg(test)]
+mod setting;
+#[cfg(test)]
+mod words;

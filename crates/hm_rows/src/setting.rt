@@ -1,0 +1,71 @@
+//! A run of some words over files in memory.
+
+use hm_outside::{Loaded, MemSink, MemStore, Store, Stored};
+use hm_run::run;
+use hm_tree::Name;
+use std::alloc::Global;
+use std::process::Abort;
+use std::test::Fail;
+
+/// Every tree is a member.
+pub const EVERY: &str = "harmony schema 1\nroot R\nnode R\n  other any R\n  shape + 0..\n";
+
+/// Members have one name at the root, and nothing below it.
+pub const ONE: &str = "harmony schema 1\nroot R\nnode R\n  other any Empty\n  shape + 1..1\n";
+
+/// The archive and the two replicas, by the names of their files.
+pub const FILES: [&str; 3] = ["o", "a", "b"];
+
+/// The names of some texts.
+pub fn names_of(alloc: Global, texts: &[&str]) -> Result<Vec<Name>, Fail> {
+    let mut names = Vec::new(alloc);
+    for text in texts {
+        names.push(Name::from_text(alloc, text)?)?;
+    }
+    Ok(names)
+}
+
+/// Puts a file into the store.
+pub fn hold(alloc: Global, store: &mut MemStore, name: &str, text: &str) -> Result<(), Fail> {
+    match store.replace(&Name::from_text(alloc, name)?, text.as_bytes()) {
+        Stored::Done => Ok(()),
+        Stored::Failed | Stored::Memory => Err("not held")?,
+    }
+}
+
+/// A store with a schema, and with the files that aren't `-`.
+pub fn store_of(alloc: Global, schema: &str, files: &[&str; 3]) -> Result<MemStore, Fail> {
+    let mut store = MemStore::empty(alloc);
+    hold(alloc, &mut store, "s", schema)?;
+    for (name, text) in FILES.iter().zip(files) {
+        if *text != "-" {
+            hold(alloc, &mut store, name, text)?;
+        }
+    }
+    Ok(store)
+}
+
+/// Whether a file holds a text, or isn't there where that is `-`.
+pub fn holds(alloc: Global, store: &mut MemStore, name: &str, text: &str) -> Result<bool, Fail> {
+    Ok(match store.load(&Name::from_text(alloc, name)?, 100_000) {
+        Loaded::Bytes(bytes) => bytes.as_slice() == text.as_bytes(),
+        Loaded::Absent => text == "-",
+        _ => false,
+    })
+}
+
+/// Runs the words, and compares what is put out and the status.
+pub fn expect_output(
+    rt: &impl Abort,
+    alloc: Global,
+    store: &mut MemStore,
+    words: &[&str],
+    output: &str,
+    status: u8,
+) -> Result<(), Fail> {
+    let mut out = MemSink::empty(alloc);
+    let answer = run(alloc, &names_of(alloc, words)?, store, &mut out);
+    assert_eq!(rt; out.bytes(), output.as_bytes());
+    assert_eq!(rt; answer, status);
+    Ok(())
+}

@@ -1,0 +1,148 @@
+-- A reader finds one result at the most, and so does a run.
+use Rattle.std.proofs.Common.{◌≡◌, ◌≢◌, ℕ, List, [], ◌∷◌, Option, Some, Result, Ok, Err, refl, sym, ◌∙◌, ap}
+use Rattle.hm_tree.specs.Nodes.{Tree}
+use Rattle.hm_tree.specs.States.{Path, state}
+use Rattle.hm_tree.proofs.PathLaws.{first_once}
+use Rattle.hm_tree_text.specs.declared.fault.TextFault.{TextFault}
+use Rattle.hm_tree_text.specs.declared.fault.TextFault.TheVariants.{BadTree, TooDeep, Memory}
+use Rattle.hm_tree_text.specs.Faults.{TreeFaults, ArchiveFaults}
+use Rattle.hm_tree_text.proofs.Laws.{tree_once, archive_once, tree_text_reads, archive_text_reads, tree_fault_once, archive_fault_once}
+use Rattle.hm_schema.specs.Values.{SchemaValue}
+use Rattle.hm_schema.specs.Membership.{IsOutside}
+use Rattle.hm_schema_text.specs.declared.fault.SchemaFault.{SchemaFault}
+use Rattle.hm_schema_text.specs.declared.fault.SchemaFault.TheVariants as schema
+use Rattle.hm_schema_text.proofs.Laws.{schema_once, schema_no_line, line_once}
+use Rattle.hm_outcome.specs.Trios.{Trio, given}
+use Rattle.hm_outcome.proofs.Best.{outcome_once}
+use Rattle.hm_outside.specs.Contents.{Contents}
+use Rattle.hm_files.specs.declared.slot.Slot.{Slot}
+use Rattle.hm_files.specs.declared.slot.Slot.TheVariants as slot
+use Rattle.hm_files.specs.declared.stop.ReplicaFault.TheVariants.{Outside}
+use Rattle.hm_files.specs.declared.stop.FileFault.TheVariants.{BadReplica}
+use Rattle.hm_files.specs.declared.stop.Refusal.{Refusal}
+use Rattle.hm_files.specs.declared.stop.Refusal.TheVariants.{At}
+use Rattle.hm_files.specs.declared.stop.Stop.{Stop}
+use Rattle.hm_files.specs.declared.stop.Stop.TheVariants.{Refused}
+use Rattle.hm_files.specs.Steps.{FindsOne}
+use Rattle.hm_files.proofs.Steps.{sides_once, equals_once, then_once}
+use Rattle.hm_command.specs.Words.{FileNames}
+use Rattle.hm_run.specs.Reads.{ReadsTree, ReadsArchive, ReadsSchema, Told, ChecksText, ChecksMember, ReadsReplica, ReadsFour, ReadsAll, Trees, schema_stop, archive_stop, replica_stop}
+use Rattle.hm_run.specs.Verdict.{Synced, Plans, PlansFrom, VerdictOf, Becomes, Reconciles}
+
+-- ---- the readers' laws
+
+-- a fault that is told is not want of memory
+tree_fault : (bytes : List ℕ) (f : TextFault) → ReadsTree bytes (Err f) → (f ≢ Memory) × TreeFaults bytes f
+tree_fault bytes (BadTree at) h = ((λ e. let no : ⊥ = cc in no), h)
+tree_fault bytes TooDeep h = ((λ e. let no : ⊥ = cc in no), h)
+tree_fault bytes Memory h = absurd h
+
+pub tree_reads_once : (bytes : List ℕ) → FindsOne (ReadsTree bytes)
+tree_reads_once bytes = sides_once (ReadsTree bytes) (λ t u. tree_once t u bytes)
+    (λ t f h k. (tree_fault bytes f k).0 (tree_text_reads t bytes h f (tree_fault bytes f k).1))
+    (λ f g h k. tree_fault_once bytes f g (tree_fault bytes f h).1 (tree_fault bytes g k).1 (tree_fault bytes f h).0 (tree_fault bytes g k).0)
+
+archive_fault : (bytes : List ℕ) (f : TextFault) → ReadsArchive bytes (Err f) → (f ≢ Memory) × ArchiveFaults bytes f
+archive_fault bytes (BadTree at) h = ((λ e. let no : ⊥ = cc in no), h)
+archive_fault bytes TooDeep h = ((λ e. let no : ⊥ = cc in no), h)
+archive_fault bytes Memory h = absurd h
+
+pub archive_reads_once : (bytes : List ℕ) → FindsOne (ReadsArchive bytes)
+archive_reads_once bytes = sides_once (ReadsArchive bytes) (λ o a. archive_once o a bytes)
+    (λ o f h k. (archive_fault bytes f k).0 (archive_text_reads o bytes h f (archive_fault bytes f k).1))
+    (λ f g h k. archive_fault_once bytes f g (archive_fault bytes f h).1 (archive_fault bytes g k).1 (archive_fault bytes f h).0 (archive_fault bytes g k).0)
+
+schema_apart : (bytes : List ℕ) (s : SchemaValue) (f : SchemaFault) → ReadsSchema bytes (Ok s) → ReadsSchema bytes (Err f) → ⊥
+schema_apart bytes s (schema.BadSchema line) h k = schema_no_line bytes s line h k
+schema_apart bytes s schema.Memory h k = k
+
+schema_faults : (bytes : List ℕ) (f g : SchemaFault) → ReadsSchema bytes (Err f) → ReadsSchema bytes (Err g) → f ≡ g
+schema_faults bytes (schema.BadSchema a) (schema.BadSchema b) h k = ap schema.BadSchema (line_once bytes a b h k)
+schema_faults bytes (schema.BadSchema a) schema.Memory h k = absurd k
+schema_faults bytes schema.Memory g h k = absurd h
+
+pub schema_reads_once : (bytes : List ℕ) → FindsOne (ReadsSchema bytes)
+schema_reads_once bytes = sides_once (ReadsSchema bytes) (λ s t. schema_once bytes s t) (schema_apart bytes) (schema_faults bytes)
+
+-- ---- what a reader finds, told as a refusal
+
+told_once : {A F : Type 0} (tell : F → Stop) (reads : Result A F → Type 0) → FindsOne reads → FindsOne (Told tell reads)
+told_once {A} {F} tell reads once = sides_once (Told tell reads)
+    (λ x y h k. value x y (once (Ok x) (Ok y) h k))
+    (λ x f h k. apart x k.0 (once (Ok x) (Err k.0) h k.1))
+    (λ f g h k. same f g (sym h.2 ∙ ap tell (fault h.0 k.0 (once (Err h.0) (Err k.0) h.1 k.1)) ∙ k.2))
+  where
+    value : (x y : A) → ◌≡◌ {A = Result A F} (Ok x) (Ok y) → x ≡ y
+    value x y e = cc
+
+    apart : (x : A) (f : F) → ◌≡◌ {A = Result A F} (Ok x) (Err f) → ⊥
+    apart x f e = cc
+
+    fault : (f g : F) → ◌≡◌ {A = Result A F} (Err f) (Err g) → f ≡ g
+    fault f g e = cc
+
+    same : (f g : Refusal) → Refused f ≡ Refused g → f ≡ g
+    same f g e = cc
+
+-- ---- a replica
+
+text_once : (at : Slot) (bytes : List ℕ) → FindsOne (ChecksText at bytes)
+text_once at bytes = sides_once (ChecksText at bytes) (λ x y h k. refl) (λ x f h k. k.0 h) (λ f g h k. h.1 ∙ sym k.1)
+
+member_once : (s : SchemaValue) (at : Slot) (t : Tree) → FindsOne (ChecksMember s at t)
+member_once s at t = sides_once (ChecksMember s at t) (λ u v h k. h.0 ∙ sym k.0)
+    (λ u f h k. k.1.here.refused (h.1 k.0 k.1.here.has))
+    (λ f g h k. h.2
+    ∙ ap (λ (p : Path). At at (BadReplica (Outside p))) (first_once (IsOutside s s.root (state (Some t))) h.0 k.0 h.1 k.1)
+    ∙ sym k.2)
+
+replica_once : (s : SchemaValue) (at : Slot) (bytes : List ℕ) → FindsOne (ReadsReplica s at bytes)
+unfolding ReadsReplica
+replica_once s at bytes =
+    then_once _ _ (text_once at bytes) (λ u.
+    then_once _ _ (told_once (replica_stop at) (ReadsTree bytes) (tree_reads_once bytes)) (member_once s at))
+
+-- ---- the four files
+
+four_once : (schema archive left right : List ℕ) → FindsOne (ReadsFour schema archive left right)
+unfolding ReadsFour
+four_once schema archive left right =
+    then_once _ _ (told_once schema_stop (ReadsSchema schema) (schema_reads_once schema)) (λ s.
+    then_once _ _ (told_once archive_stop (ReadsArchive archive) (archive_reads_once archive)) (λ o.
+    then_once _ _ (replica_once s slot.A left) (λ a.
+    then_once _ _ (replica_once s slot.B right) (λ b. equals_once _))))
+
+all_once : (all : List (List ℕ)) → FindsOne (ReadsAll all)
+all_once (x ∷ y ∷ z ∷ w ∷ []) = four_once x y z w
+all_once [] = λ r s h k. absurd h
+all_once (x ∷ []) = λ r s h k. absurd h
+all_once (x ∷ y ∷ []) = λ r s h k. absurd h
+all_once (x ∷ y ∷ z ∷ []) = λ r s h k. absurd h
+all_once (x ∷ y ∷ z ∷ w ∷ v ∷ vs) = λ r s h k. absurd h
+
+-- ---- the verdict
+
+some_tree : (t u : Tree) → ◌≡◌ {A = Option Tree} (Some t) (Some u) → t ≡ u
+some_tree t u e = cc
+
+becomes_once : (before : Trees) (one other : Synced) → Becomes before one → Becomes before other → one ≡ other
+becomes_once before one other h k =
+    let e = outcome_once before.schema before.schema.root (given before.archive before.left before.right)
+    (given one.archive one.left one.right) (given other.archive other.left other.right) h k in
+    λ i. record {
+      archive = (e i).archive;
+      left = some_tree one.left other.left (ap (λ (t : Trio). t.left) e) i;
+      right = some_tree one.right other.right (ap (λ (t : Trio). t.right) e) i;
+    }
+
+plans_once : (files : FileNames) (before : Trees) → FindsOne (Plans files before)
+unfolding Plans
+plans_once files before =
+    then_once _ _ (sides_once (Reconciles before) (becomes_once before) (λ x f h k. k) (λ f g h k. absurd h)) (λ after.
+    then_once _ _ (equals_once _) (λ sizes. equals_once _))
+
+-- there is one verdict at the most
+pub verdict_once : (c : Contents) (meant : Result FileNames Refusal) → FindsOne (VerdictOf c meant)
+unfolding VerdictOf PlansFrom
+verdict_once c meant =
+    then_once _ _ (equals_once _) (λ files. then_once _ _ (equals_once _) (λ all. then_once _ _ (all_once all) (plans_once files)))

@@ -1,0 +1,103 @@
+-- What reading the four files finds: each reader's relation, with its faults told as refusals.
+use Rattle.std.specs.Prelude.{◌≡◌, ℕ, List, [], ◌∷◌, Some, Result, Ok, Err, IsUtf8}
+use Rattle.std.specs.Str.Lossy.{utf8_valid_len}
+use Rattle.hm_tree.specs.Nodes.{Tree}
+use Rattle.hm_tree.specs.Archives.{Archive}
+use Rattle.hm_tree.specs.States.{Path, state}
+use Rattle.hm_tree_text.specs.Files.{IsTreeText, IsArchiveText}
+use Rattle.hm_tree_text.specs.Faults.{TreeFaults, ArchiveFaults}
+use Rattle.hm_tree_text.specs.declared.fault.TextFault.{TextFault}
+use Rattle.hm_tree_text.specs.declared.fault.TextFault.TheVariants as text
+use Rattle.hm_schema.specs.Values.{SchemaValue}
+use Rattle.hm_schema.specs.Membership.{IsMember, IsFirstOutside}
+use Rattle.hm_schema_text.specs.SchemaFiles.{IsSchemaFile, FaultsAt}
+use Rattle.hm_schema_text.specs.declared.fault.SchemaFault.{SchemaFault}
+use Rattle.hm_schema_text.specs.declared.fault.SchemaFault.TheVariants as schema
+use Rattle.hm_files.specs.declared.slot.Slot.{Slot}
+use Rattle.hm_files.specs.declared.slot.Slot.TheVariants as slot
+use Rattle.hm_files.specs.declared.stop.ArchiveFault.TheVariants as archive_fault
+use Rattle.hm_files.specs.declared.stop.ReplicaFault.TheVariants as replica_fault
+use Rattle.hm_files.specs.declared.stop.FileFault.TheVariants.{BadSchema, BadArchive, BadReplica}
+use Rattle.hm_files.specs.declared.stop.Refusal.{Refusal}
+use Rattle.hm_files.specs.declared.stop.Refusal.TheVariants.{At}
+use Rattle.hm_files.specs.declared.stop.Stop.{Stop}
+use Rattle.hm_files.specs.declared.stop.Stop.TheVariants.{Refused, Memory}
+use Rattle.hm_files.specs.Steps.{Then}
+
+-- ---- the readers
+
+abbrev pub ReadsTree : List ℕ → Result Tree TextFault → Type 0
+ReadsTree bytes (Ok t) = IsTreeText t bytes
+ReadsTree bytes (Err (text.BadTree at)) = TreeFaults bytes (text.BadTree at)
+ReadsTree bytes (Err text.TooDeep) = TreeFaults bytes text.TooDeep
+ReadsTree bytes (Err text.Memory) = ⊥
+
+abbrev pub ReadsArchive : List ℕ → Result Archive TextFault → Type 0
+ReadsArchive bytes (Ok o) = IsArchiveText o bytes
+ReadsArchive bytes (Err (text.BadTree at)) = ArchiveFaults bytes (text.BadTree at)
+ReadsArchive bytes (Err text.TooDeep) = ArchiveFaults bytes text.TooDeep
+ReadsArchive bytes (Err text.Memory) = ⊥
+
+abbrev pub ReadsSchema : List ℕ → Result SchemaValue SchemaFault → Type 0
+ReadsSchema bytes (Ok s) = IsSchemaFile bytes s
+ReadsSchema bytes (Err (schema.BadSchema line)) = FaultsAt bytes (schema.BadSchema line)
+ReadsSchema bytes (Err schema.Memory) = ⊥
+
+-- ---- their faults, as what stops a run
+
+abbrev pub schema_stop : SchemaFault → Stop
+schema_stop (schema.BadSchema line) = Refused (At slot.Schema (BadSchema line))
+schema_stop schema.Memory = Memory
+
+abbrev pub archive_stop : TextFault → Stop
+archive_stop (text.BadTree place) = Refused (At slot.Archive (BadArchive (archive_fault.At place)))
+archive_stop text.TooDeep = Refused (At slot.Archive (BadArchive archive_fault.Deep))
+archive_stop text.Memory = Memory
+
+abbrev pub replica_stop : Slot → TextFault → Stop
+replica_stop at (text.BadTree place) = Refused (At at (BadReplica (replica_fault.BadItem place)))
+replica_stop at text.TooDeep = Refused (At at (BadReplica (replica_fault.TooDeep 1001)))
+replica_stop at text.Memory = Memory
+
+-- what a reader finds, with its fault told as a refusal
+abbrev pub Told : {A F : Type 0} → (F → Stop) → (Result A F → Type 0) → Result A Refusal → Type 0
+Told tell reads (Ok x) = reads (Ok x)
+Told {F} tell reads (Err refusal) = (fault : F) × reads (Err fault) × (tell fault ≡ Refused refusal)
+
+-- ---- a replica is UTF-8, the text of a tree, and a member of the schema
+
+abbrev pub ChecksText : Slot → List ℕ → Result (Unit {0}) Refusal → Type 0
+ChecksText at bytes (Ok x) = IsUtf8 bytes
+ChecksText at bytes (Err refusal) = ¬ (IsUtf8 bytes) × (refusal ≡ At at (BadReplica (replica_fault.NotUtf8 (utf8_valid_len bytes))))
+
+abbrev pub ChecksMember : SchemaValue → Slot → Tree → Result Tree Refusal → Type 0
+ChecksMember s at t (Ok u) = (u ≡ t) × IsMember s s.root (state (Some t))
+ChecksMember s at t (Err refusal) =
+    (p : Path) × IsFirstOutside s s.root (state (Some t)) p × (refusal ≡ At at (BadReplica (replica_fault.Outside p)))
+
+unfoldable pub ReadsReplica : SchemaValue → Slot → List ℕ → Result Tree Refusal → Type 0
+ReadsReplica s at bytes =
+    Then (ChecksText at bytes) (λ checked.
+    Then (Told (replica_stop at) (ReadsTree bytes)) (ChecksMember s at))
+
+-- ---- the four files
+
+-- a schema, an archive and two replicas
+pub record Trees : Type 0 where
+  pub schema : SchemaValue
+  pub archive : Archive
+  pub left : Tree
+  pub right : Tree
+
+unfoldable pub ReadsFour : List ℕ → List ℕ → List ℕ → List ℕ → Result Trees Refusal → Type 0
+ReadsFour schema archive left right =
+    Then (Told schema_stop (ReadsSchema schema)) (λ s.
+    Then (Told archive_stop (ReadsArchive archive)) (λ o.
+    Then (ReadsReplica s slot.A left) (λ a.
+    Then (ReadsReplica s slot.B right) (λ b r.
+    r ≡ Ok (record { schema = s; archive = o; left = a; right = b })))))
+
+-- by the bytes of the files in the order of their slots
+abbrev pub ReadsAll : List (List ℕ) → Result Trees Refusal → Type 0
+ReadsAll (schema ∷ archive ∷ left ∷ right ∷ []) found = ReadsFour schema archive left right found
+ReadsAll _ found = ⊥

@@ -1,0 +1,20 @@
+//! The work of a run: files are loaded, reconciled and written anew.
+ghost use Rattle.std.specs.Prelude.{Ok};
+ghost use Rattle.hm_command.specs.Files.{names};
+ghost use Rattle.hm_run.specs.Work.{Works};
+
+use crate::make::plan;
+use hm_command::{Files, Output};
+use hm_files::{Stop, load_all, write_all};
+use hm_outside::Store;
+use std::alloc::Global;
+
+/// Loads, reconciles and writes the files, and says what conflicts remain.
+pub fn synchronise<S: Store>(alloc: Global, store: &mut S, files: Files<'_>) -> Result<Output, Stop>
+    ensures { Works (Ok (names files.entry)) (S.contents store.old) (S.contents store.new) (S.failed store.old) (S.failed store.new) result }
+{
+    let loads = load_all(alloc, store, &files.slots())?;
+    let (news, output) = plan(alloc, files, loads)?;
+    write_all(store, &news)?;
+    Ok(output)
+}
