@@ -5,3 +5,4 @@ pub mod Members
 pub mod References
 pub mod Outside
 pub mod Small
+pub mod Decided

@@ -28,7 +28,7 @@ is_equal Greater h = absurd (true≢false (sym h))
 pub tied_one : (x y : Name) → tied x y ≡ true → x ≡ y
 tied_one x y h = name_one x y (is_equal (name_cmp x y) h)
 
-tied_self : (x : Name) → tied x x ≡ true
+pub tied_self : (x : Name) → tied x x ≡ true
 tied_self x = ap is_eq (tied_itself name_total x)
 
 tied_back : (x y : Name) → tied x y ≡ true → tied y x ≡ true
