@@ -12,7 +12,7 @@ use Rattle.hm_tree.specs.Nodes.{Tree, below}
 use Rattle.hm_tree.specs.Archives.{Archive}
 use Rattle.hm_tree.specs.States.{state, at_path, IsWithin}
 use Rattle.hm_tree.proofs.Sorted.{name_total}
-use Rattle.hm_tree.proofs.States.{state_root, state_down}
+use Rattle.hm_tree.proofs.States.{state_root, state_down, state_unmarked}
 use Rattle.hm_tree.proofs.Extent.{stands}
 use Rattle.hm_schema.specs.Values.{Names}
 use Rattle.hm_schema.proofs.NamesOf.{tie_one}
@@ -25,7 +25,6 @@ use Rattle.hm_certify.proofs.Verdicts.{is_so, is_not, as_well}
 use Rattle.hm_certify.proofs.Steps.{tree_step}
 use Rattle.hm_certify.proofs.Along.{carried_along}
 use Rattle.hm_certify.proofs.SafeTests.{has_some, lacks_none}
-use Rattle.hm_tree.proofs.States.{state_unmarked}
 
 missing_or_there : (o : Archive) → (o ≡ None) ⊎ (state o [] ≢ Missing)
 missing_or_there None = inl refl

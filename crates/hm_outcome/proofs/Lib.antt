@@ -9,3 +9,7 @@ pub mod SortedLists
 pub mod TopmostLists
 pub mod Examples
 pub mod Apart
+pub mod Alone
+pub mod Gathered
+pub mod NameLists
+pub mod Existence

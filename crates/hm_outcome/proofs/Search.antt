@@ -55,7 +55,7 @@ upto (suc n) t h P test = elim (test []) [ inr f ↦ inr ([], state_root t, f) |
 pub search : (t : Tree) (P : Path → Type 0) → ((p : Path) → P p ⊎ ¬ (P p)) → ((p : Path) → Has (state (Some t)) p → P p) ⊎ ((p : Path) × Has (state (Some t)) p × ¬ (P p))
 search t P test = upto (suc (depth t)) t (omega arith) P test
 
-is_present : (s : State) → s ≡ Present ⊎ s ≢ Present
+pub is_present : (s : State) → s ≡ Present ⊎ s ≢ Present
 is_present Missing = inr (λ e. let f : ⊥ = cc in f)
 is_present Present = inl refl
 is_present Marked = inr (λ e. let f : ⊥ = cc in f)

@@ -18,9 +18,10 @@ use Rattle.hm_schema.proofs.NamesOf.{tie_one}
 use Rattle.hm_outcome.specs.Carried.{IsCarried, on_both, clashing, kept, brought, AreCarried}
 use Rattle.hm_outcome.proofs.Marks.{agree_same, has_and_lacks}
 use Rattle.hm_reconcile.specs.Carriers.{AreCarriers, with_name}
-use Rattle.hm_reconcile.specs.Taken.{IsInEither, IsTaken, AreOver}
-use Rattle.hm_reconcile.proofs.Alone.{news_lost}
-use Rattle.hm_reconcile.proofs.Gathered.{carried_under, tied_same}
+use Rattle.hm_outcome.specs.Gathering.{IsInEither}
+use Rattle.hm_reconcile.specs.Taken.{IsTaken, AreOver}
+use Rattle.hm_outcome.proofs.Alone.{news_lost}
+use Rattle.hm_outcome.proofs.Gathered.{carried_under, tied_same}
 use Rattle.hm_reconcile.proofs.Passing.{AreLeft, Passed, all_left, none_passed, fresh, left_here, right_here, passes, next_left, all_passed, either_way}
 
 -- ---- a name that one side alone has, or both

@@ -15,11 +15,10 @@ use Rattle.hm_outcome.specs.Trios.{Trio, given}
 use Rattle.hm_outcome.proofs.Downward.{state_under}
 use Rattle.hm_reconcile.specs.declared.side.Sides.{Sides}
 use Rattle.hm_reconcile.specs.declared.trees.Trees.{Trees}
-use Rattle.hm_reconcile.specs.Gathering.{outcome_of}
-use Rattle.hm_reconcile.specs.Sides.{sides_of, recorded_on_both}
+use Rattle.hm_reconcile.specs.Sides.{outcome_of, sides_of}
+use Rattle.hm_outcome.specs.Sides.{recorded_on_both}
 use Rattle.hm_reconcile.specs.Holding.{Holds}
-use Rattle.hm_reconcile.proofs.Nodes.{none_below, root_there}
-use Rattle.hm_reconcile.proofs.Gathered.{tied_same, archive_here, archive_there, still_present}
+use Rattle.hm_outcome.proofs.Gathered.{none_below, root_there, tied_same, archive_here, archive_there, still_present}
 
 -- nothing is held where nothing is marked
 pub holds_recorded : (old new held : Archive) (t : Tree) → new ≡ Some (recorded t) → Holds old new held

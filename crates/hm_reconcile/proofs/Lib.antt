@@ -1,6 +1,4 @@
 pub mod Passing
-pub mod Alone
-pub mod Gathered
 pub mod Falling
 pub mod Nodes
 pub mod TopmostAppend

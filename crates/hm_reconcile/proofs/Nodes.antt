@@ -21,10 +21,10 @@ use Rattle.hm_outcome.proofs.Search.{same_or_differ}
 use Rattle.hm_outcome.proofs.Settled.{equal_sides, stopped}
 use Rattle.hm_outcome.proofs.Downward.{child}
 use Rattle.hm_reconcile.specs.declared.trees.Trees.{Trees}
-use Rattle.hm_reconcile.specs.Gathering.{outcome_of}
-use Rattle.hm_reconcile.specs.Taken.{IsInEither}
+use Rattle.hm_reconcile.specs.Sides.{outcome_of}
+use Rattle.hm_outcome.specs.Gathering.{IsInEither}
 use Rattle.hm_reconcile.proofs.Falling.{side_size}
-use Rattle.hm_reconcile.proofs.Gathered.{IsGathered, no_node}
+use Rattle.hm_outcome.proofs.Gathered.{no_node, member_at}
 use Rattle.hm_reconcile.proofs.Passing.{Passed, none_passed}
 
 -- ---- what is given, by what is known of it
@@ -51,15 +51,6 @@ module _ (s : SchemaValue) (i : NodeId) (o : Archive) (a b : Tree) (members : Ar
       go (Some j) leads = ap is_some leads
       go None none = absurd (true≢false (sym (subst (λ (z : Option Tree × Option Tree). IsInEither z.0 z.1) (λ x. (no_node s i a members.left k none x, no_node s i b members.right k none x)) there)))
 
-member_at : (s : SchemaValue) (i j : NodeId) (t : Tree) (k : Name) → IsMember s i (state (Some t)) → child_at s i k ≡ Some j → IsMember s j (state (below k t))
-member_at s i j t k member leads p has =
-    let at = member (k ∷ p) (state_down t k p ∙ has) in
-    record {
-      node = at.node;
-      is = sym (ap (λ x. option_and_then (node_at s) (option_and_then (λ j. reached s j p) x)) leads) ∙ at.is;
-      allowed = subst (Allows at.node) (λ x q. state_down t k (p ++ q) x) at.allowed;
-    }
-
 -- both sides are members below a name
 pub members_at : (s : SchemaValue) (i j : NodeId) (o c : Archive) (a b : Tree) (k : Name) (one two : Option Tree) → AreMembers s i (views (given o a b)) → child_at s i k ≡ Some j → one ≡ below k a → two ≡ below k b → AreMembers s j (views (record { archive = c; left = one; right = two }))
 members_at s i j o c a b k one two members leads left right = record {
@@ -68,21 +59,6 @@ members_at s i j o c a b k one two members leads left right = record {
 }
 
 -- ---- the loop
-
-pub none_below : {m : Bool} (k : Name) → below k (empty {m = m}) ≡ None
-unfolding edges edges_of empty
-none_below k = refl
-
-pub root_there : state (Some (empty {m = true})) [] ≡ Present
-unfolding is_marked empty
-root_there = refl
-
-pub gathered_none : (s : SchemaValue) (i : NodeId) (before : Trio) (a b : Tree) → IsGathered s i before (Passed a b (edges a) (edges b)) (given (Some empty) empty empty)
-gathered_none s i before a b = record {
-  archive = root_there;
-  settled = λ k was. absurd (none_passed a b k was);
-  rest = λ k fresh. λ x. record { archive = none_below k x; left = none_below k x; right = none_below k x };
-}
 
 pub size_falls : (a : Tree) (k : Name) (one : Option Tree) (work : ℕ) → one ≡ below k a → work ≤ 3 → side_size one work < 4 * depth a + 1
 size_falls a k None work is small = omega arith

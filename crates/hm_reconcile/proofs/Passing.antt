@@ -11,8 +11,9 @@ use Rattle.hm_tree.specs.Nodes.{Tree, edges, below, below_all, both, first, seco
 use Rattle.hm_tree.specs.NodeLaws.{edges_sorted}
 use Rattle.hm_tree.proofs.Sorted.{name_total, back_less}
 use Rattle.hm_schema.proofs.NamesOf.{tie_one}
-use Rattle.hm_reconcile.specs.Taken.{IsInEither, IsBeforeFirst, IsTakenOff, IsTaken, AreOver}
-use Rattle.hm_reconcile.proofs.Gathered.{tied_same}
+use Rattle.hm_outcome.specs.Gathering.{IsInEither}
+use Rattle.hm_reconcile.specs.Taken.{IsBeforeFirst, IsTakenOff, IsTaken, AreOver}
+use Rattle.hm_outcome.proofs.Gathered.{tied_same}
 
 abbrev Edges : Type 0
 Edges = List (Name × Tree)

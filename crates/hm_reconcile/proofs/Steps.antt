@@ -13,16 +13,16 @@ use Rattle.hm_tree.specs.States.{state}
 use Rattle.hm_schema.specs.declared.node.NodeId.{NodeId}
 use Rattle.hm_schema.specs.Values.{SchemaValue, child_at}
 use Rattle.hm_schema.specs.Membership.{HasNoTwins}
+use Rattle.hm_schema.specs.Permitted.{names_of}
 use Rattle.hm_outcome.specs.Trios.{Trio, given, views, AreMembers}
 use Rattle.hm_outcome.specs.Outcomes.{IsOutcome}
 use Rattle.hm_outcome.proofs.Downward.{child}
-use Rattle.hm_reconcile.specs.Gathering.{with_trio}
+use Rattle.hm_outcome.specs.Gathering.{with_trio, IsInEither}
 use Rattle.hm_reconcile.specs.Holding.{Holds}
 use Rattle.hm_reconcile.specs.Naming.{ArePermitted}
-use Rattle.hm_reconcile.specs.Taken.{IsInEither, IsTaken, AreOver, nothing_or, found}
+use Rattle.hm_reconcile.specs.Taken.{IsTaken, AreOver, nothing_or, found}
 use Rattle.hm_reconcile.proofs.Passing.{Passed, AreLeft, all_left, none_passed, fresh, in_either, passes, next_left, all_passed, passed_before}
-use Rattle.hm_reconcile.proofs.Gathered.{nothing, IsGathered, gathered_next, gathered_permitted}
-use Rattle.hm_reconcile.proofs.Nodes.{gathered_none}
+use Rattle.hm_outcome.proofs.Gathered.{nothing, IsGathered, gathered_none, gathered_next, carried_left, carried_right, gathered}
 use Rattle.hm_reconcile.proofs.Held.{IsHeld, held_none, held_next, held_all}
 
 -- what is left of the three, and what was made of the names that were passed
@@ -64,7 +64,7 @@ under_way_start s i o a b old es fs made held old_is left_is right_is made_is he
       left = all_left a b;
       sorted = here_rises o;
       old_is = λ k fresh there. found_here o k;
-      gathered = gathered_none s i (given o a b) a b;
+      gathered = gathered_none s i (given o a b) (Passed a b (edges a) (edges b)) (none_passed a b);
       held = held_none o (Passed a b (edges a) (edges b)) (λ k was. none_passed a b k was);
     })
 
@@ -96,7 +96,10 @@ module _ {s : SchemaValue} {i : NodeId} {o : Archive} {a b : Tree} {old : List (
 
 module _ {s : SchemaValue} {i : NodeId} {o : Archive} {a b : Tree} {old : List (Name × Archive)} {es fs : List (Name × Tree)} {made_o : Archive} {made_a made_b : Tree} {aside : Archive} (w : IsUnderWay s i o a b old es fs (given made_o made_a made_b) aside) (over : AreOver es fs) where
   pub outcome_whole : AreMembers s i (views (given o a b)) → state o [] ≢ Marked → HasNoTwins s → ArePermitted s i (views (given o a b)) → IsOutcome s i (given o a b) (given made_o made_a made_b)
-  outcome_whole members unmarked no_twins permitted = gathered_permitted s i o a b members unmarked (Passed a b es fs) (all_passed over) made_o made_a made_b w.gathered no_twins permitted
+  outcome_whole members unmarked no_twins permitted =
+      gathered s i o a b members unmarked (Passed a b es fs) (all_passed over) made_o made_a made_b w.gathered no_twins
+      (permitted.left (names_of made_a) (carried_left s i o a b members unmarked (Passed a b es fs) (all_passed over) made_o made_a made_b w.gathered))
+      (permitted.right (names_of made_b) (carried_right s i o a b members unmarked (Passed a b es fs) (all_passed over) made_o made_a made_b w.gathered))
 
   pub held_whole : state o [] ≢ Marked → Holds o made_o aside
   held_whole unmarked = held_all o made_o aside (Passed a b es fs) unmarked w.gathered.archive w.held (λ k. go k (below k a) (below k b) refl refl)

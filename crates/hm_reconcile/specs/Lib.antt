@@ -1,4 +1,3 @@
-pub mod Gathering
 pub mod Sides
 pub mod Fates
 pub mod Appending

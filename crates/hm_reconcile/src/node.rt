@@ -10,11 +10,10 @@ ghost use Rattle.hm_schema.specs.Values.{SchemaValue};
 ghost use Rattle.hm_outcome.specs.Trios.{given, views, AreMembers};
 ghost use Rattle.hm_outcome.specs.Contested.{IsContested};
 ghost use Rattle.hm_outcome.specs.Outcomes.{IsOutcome};
-ghost use Rattle.hm_reconcile.specs.Gathering.{with_side, with_trio, outcome_of};
+ghost use Rattle.hm_outcome.specs.Gathering.{with_side, with_trio, IsInEither};
+ghost use Rattle.hm_reconcile.specs.Sides.{outcome_of, sides_of};
 ghost use Rattle.hm_reconcile.specs.Holding.{Holds};
 ghost use Rattle.hm_reconcile.specs.Naming.{ArePermitted};
-ghost use Rattle.hm_reconcile.specs.Sides.{sides_of};
-ghost use Rattle.hm_reconcile.specs.Taken.{IsInEither};
 
 use crate::apart::{take_next, take_under};
 use crate::names::are_permitted;

@@ -1,6 +1,6 @@
 -- When a line is bad, by what it says.
 use Rattle.std.proofs.Common.{◌≡◌, ◌≢◌, inl, inr, ℕ, suc, ◌+◌, ◌<◌, ◌≤◌, Bool, true, false, cond, List, [], ◌∷◌, ◌++◌, length, take, drop, Option, Some, None, refl, sym, ap, ◌∙◌, subst, count_by, arith}
-use Rattle.std.specs.Prelude.{codes}
+use Rattle.std.specs.Prelude.{codes, ◌==◌, nat_le, IsTrue, is_some, not}
 use mathlib.Core.Bool.{true≢false}
 use Rattle.std.specs.List.{Contains, cons_option}
 use Rattle.std.proofs.lemmas.List.Sums.{sum_by-cons}
@@ -11,7 +11,6 @@ use Rattle.hm_schema_text.specs.Items.{is_inside, ItemValue, header, root, node,
 use Rattle.hm_schema_text.specs.Entries.{EntryValue, unknown, says}
 use Rattle.hm_schema_text.specs.Firsts.{place_in, begun_name, listed_name, node_names, edge_names}
 use Rattle.hm_schema_text.specs.BadLines.{Says, named, is_placed, begins_node, is_shape, up_to_node, earlier, around, behind, lines_before, nodes_before, Declares, Lists, SpeaksOfOthers, HasShape, IsNode, names_of_shape, HasDouble, IsNoneCounted, IsBadLine, unreadable, misplaced, in_no_node, declared_twice, declares_empty, names_no_node, listed_twice, others_twice, unlisted_name, name_twice, least_above_most, no_others_to_count, no_shape, too_many_nodes, too_many_shapes}
-use Rattle.std.specs.Prelude.{◌==◌, nat_le, IsTrue, is_some, not}
 use Rattle.std.proofs.lemmas.Bool.Decides.{nat_tests}
 use Rattle.hm_schema_text.specs.Judging.{IsOutside}
 use Rattle.hm_schema_text.proofs.Sections.{drop_more, around_next, from_here}

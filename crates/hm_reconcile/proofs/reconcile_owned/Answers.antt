@@ -7,7 +7,7 @@ use Rattle.hm_outcome.proofs.Best.{outcome_maximal, outcome_only}
 use Rattle.hm_report.specs.Conflicts.{AreConflicts}
 use Rattle.hm_report.proofs.Explained.{explained}
 use Rattle.hm_report.proofs.Once.{once_with}
-use Rattle.hm_reconcile.specs.Gathering.{outcome_of}
+use Rattle.hm_reconcile.specs.Sides.{outcome_of}
 use Rattle.hm_reconcile.proofs.Alike.{held_contested, held_conflicts}
 use Rattle.hm_reconcile.proofs.reconcile_owned.Goals as goal
 

@@ -5,9 +5,9 @@ use Rattle.hm_schema.specs.declared.node.NodeId.{NodeId}
 use Rattle.hm_schema.specs.Values.{SchemaValue}
 use Rattle.hm_outcome.specs.Trios.{Trio, given, views, AreMembers}
 use Rattle.hm_outcome.specs.Outcomes.{IsOutcome}
-use Rattle.hm_reconcile.specs.Gathering.{outcome_of}
+use Rattle.hm_reconcile.specs.Sides.{outcome_of, sides_of, Settles}
 use Rattle.hm_reconcile.specs.Holding.{Holds}
-use Rattle.hm_reconcile.specs.Sides.{sides_of, on_left, on_right, Settles}
+use Rattle.hm_outcome.specs.Sides.{on_left, on_right}
 use Rattle.hm_reconcile.proofs.Nodes.{comes_to, equal_outcome, stopped_outcome, has_node, members_at, size_falls, settled_here}
 use Rattle.hm_reconcile.proofs.Falling.{side_size}
 use Rattle.hm_reconcile.proofs.Held.{holds_agreed, holds_all}

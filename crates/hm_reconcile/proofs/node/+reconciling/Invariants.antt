@@ -1,6 +1,6 @@
 use Rattle.std.proofs.Common.{◌+◌, ◌*◌, length}
 use Rattle.hm_tree.specs.Nodes.{depth}
-use Rattle.hm_reconcile.specs.Gathering.{outcome_of}
+use Rattle.hm_reconcile.specs.Sides.{outcome_of}
 use Rattle.hm_reconcile.proofs.Steps.{IsUnderWay}
 use Rattle.hm_reconcile.proofs.Falling.{side_size}
 use Rattle.hm_reconcile.proofs.node.+reconciling.Given as goal

@@ -5,7 +5,7 @@ use Rattle.hm_schema.specs.declared.node.NodeId.{NodeId}
 use Rattle.hm_schema.specs.Values.{SchemaValue}
 use Rattle.hm_outcome.specs.Trios.{given, views, AreMembers}
 use Rattle.hm_outcome.specs.Outcomes.{IsOutcome}
-use Rattle.hm_reconcile.specs.Gathering.{outcome_of}
+use Rattle.hm_reconcile.specs.Sides.{outcome_of}
 use Rattle.hm_reconcile.proofs.Held.{holds_agreed, holds_all}
 use Rattle.hm_reconcile.proofs.Nodes.{equal_outcome, stopped_outcome, marked_contested, refuted}
 use Rattle.hm_reconcile.proofs.node.at_mark.Goals as goal

@@ -2,8 +2,9 @@ use Rattle.std.proofs.Common.{◌≡◌, Some, refl, ap}
 use Rattle.std.proofs.lemmas.Result.{IfOk-weaker}
 use Rattle.hm_outcome.specs.Trios.{Trio}
 use Rattle.hm_outcome.proofs.Settled.{taken_out}
-use Rattle.hm_reconcile.specs.Sides.{sides_of, on_left, recorded_on_both, Settles}
-use Rattle.hm_reconcile.proofs.Alone.{left_taken, left_stopped}
+use Rattle.hm_reconcile.specs.Sides.{sides_of, Settles}
+use Rattle.hm_outcome.specs.Sides.{on_left, recorded_on_both}
+use Rattle.hm_outcome.proofs.Alone.{left_taken, left_stopped}
 use Rattle.hm_reconcile.proofs.Held.{holds_taken, holds_missing, holds_all}
 use Rattle.hm_reconcile.proofs.side.left_alone.Goals as goal
 

@@ -4,7 +4,8 @@ use Rattle.hm_outcome.specs.Trios.{Trio}
 use Rattle.hm_outcome.specs.Outcomes.{IsOutcome}
 use Rattle.hm_outcome.proofs.Settled.{outcome_turned}
 use Rattle.hm_reconcile.specs.Holding.{Holds}
-use Rattle.hm_reconcile.specs.Sides.{sides_of, on_left, on_right}
+use Rattle.hm_reconcile.specs.Sides.{sides_of}
+use Rattle.hm_outcome.specs.Sides.{on_left, on_right}
 use Rattle.hm_reconcile.proofs.side.right_alone.Goals as goal
 
 pub returns : goal.returns

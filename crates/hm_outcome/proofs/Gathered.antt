@@ -6,7 +6,7 @@ use mathlib.Core.Bool.{true≢false}
 use Rattle.std.proofs.lemmas.Option.{same_Some}
 use Rattle.hm_tree.specs.declared.archive.State.TheVariants.{Present, Marked}
 use Rattle.hm_tree.specs.Names.{Name, name_cmp}
-use Rattle.hm_tree.specs.Nodes.{Tree, edges, below}
+use Rattle.hm_tree.specs.Nodes.{Tree, edges, edges_of, below, empty, is_marked}
 use Rattle.hm_tree.specs.NodeLaws.{is_marked-node}
 use Rattle.hm_tree.specs.Archives.{Archive, under, with_archive}
 use Rattle.hm_tree.specs.States.{Path, state, View, Has, down}
@@ -16,9 +16,9 @@ use Rattle.hm_tree.proofs.Sorted.{name_total, below_with}
 use Rattle.hm_safety.specs.Changes.{Clash}
 use Rattle.hm_safety.specs.Safety.{IsSafe}
 use Rattle.hm_schema.specs.declared.node.NodeId.{NodeId}
-use Rattle.hm_schema.specs.Values.{NodeValue, SchemaValue, node_at, child_at}
+use Rattle.hm_schema.specs.Values.{NodeValue, SchemaValue, node_at, child_at, reached}
 use Rattle.hm_schema.specs.Permitted.{Permits, PermitsAt, names_of}
-use Rattle.hm_schema.specs.Membership.{HasNames, IsMember, HasNoTwins}
+use Rattle.hm_schema.specs.Membership.{HasNames, Allows, IsMember, HasNoTwins}
 use Rattle.hm_schema.proofs.NamesOf.{tie_one, names_of-below}
 use Rattle.hm_outcome.specs.Trios.{Trio, given, views, turned, AreMembers}
 use Rattle.hm_outcome.specs.Carried.{IsCarried, on_both, clashing, kept, brought, AreCarried}
@@ -26,9 +26,7 @@ use Rattle.hm_outcome.specs.Outcomes.{IsOutcome}
 use Rattle.hm_outcome.proofs.Forced.{safe_turned, has_carried, carried_has}
 use Rattle.hm_outcome.proofs.Settled.{chained, equal_sides}
 use Rattle.hm_outcome.proofs.Downward.{child, views_below, views_child, carried_below, TakesNames, downward}
-use Rattle.hm_reconcile.specs.Taken.{IsInEither}
-use Rattle.hm_reconcile.specs.Gathering.{with_side, with_trio}
-use Rattle.hm_reconcile.specs.Naming.{ArePermitted}
+use Rattle.hm_outcome.specs.Gathering.{IsInEither, with_side, with_trio}
 
 -- nothing stands in any of the three
 abbrev pub nothing : Trio
@@ -39,6 +37,24 @@ pub record IsGathered (s : SchemaValue) (i : NodeId) (before : Trio) (passed : N
   pub archive : state made.archive [] ≡ Present
   pub settled : (k : Name) → passed k → (j : NodeId) → child_at s i k ≡ Some j → IsOutcome s j (child k before) (child k made)
   pub rest : (k : Name) → ¬ (passed k) → child k made ≡ nothing
+
+-- ---- no name yet
+
+pub none_below : {m : Bool} (k : Name) → below k (empty {m = m}) ≡ None
+unfolding edges edges_of empty
+none_below k = refl
+
+pub root_there : state (Some (empty {m = true})) [] ≡ Present
+unfolding is_marked empty
+root_there = refl
+
+pub gathered_none : (s : SchemaValue) (i : NodeId) (before : Trio) (passed : Name → Type 0) → ((k : Name) → ¬ (passed k)) →
+    IsGathered s i before passed (given (Some empty) empty empty)
+gathered_none s i before passed none = record {
+  archive = root_there;
+  settled = λ k was. absurd (none k was);
+  rest = λ k fresh. λ x. record { archive = none_below k x; left = none_below k x; right = none_below k x };
+}
 
 -- ---- one name more
 
@@ -185,6 +201,15 @@ no_node s i t member k none = go (below k t) refl
         let nowhere : None ≡ Some at.node = ap (λ z. option_and_then (node_at s) (option_and_then (λ j. Some j) z)) (sym none) ∙ at.is in
         let no : ⊥ = cc in absurd no
 
+pub member_at : (s : SchemaValue) (i j : NodeId) (t : Tree) (k : Name) → IsMember s i (state (Some t)) → child_at s i k ≡ Some j → IsMember s j (state (below k t))
+member_at s i j t k member leads p has =
+    let at = member (k ∷ p) (state_down t k p ∙ has) in
+    record {
+      node = at.node;
+      is = sym (ap (λ x. option_and_then (node_at s) (option_and_then (λ j. reached s j p) x)) leads) ∙ at.is;
+      allowed = subst (Allows at.node) (λ x q. state_down t k (p ++ q) x) at.allowed;
+    }
+
 -- ---- all names
 
 module _ (s : SchemaValue) (i : NodeId) (o : Archive) (a b : Tree) (members : AreMembers s i (views (given o a b))) (unmarked : state o [] ≢ Marked) (passed : Name → Type 0) (all : (k : Name) → passed k ↔ IsInEither (below k a) (below k b)) (made_archive : Archive) (made_left made_right : Tree) (h : IsGathered s i (given o a b) passed (given made_archive made_left made_right)) where
@@ -224,12 +249,12 @@ module _ (s : SchemaValue) (i : NodeId) (o : Archive) (a b : Tree) (members : Ar
   pub unplaced : (k : Name) → child_at s i k ≡ None → child k after ≡ nothing
   unplaced k none = h.rest k (not_passed k (no_node s i a members.left k none) (no_node s i b members.right k none))
 
-  carried_left : AreCarried (state o) (state (Some a)) (state (Some b)) [] (names_of made_left)
+  pub carried_left : AreCarried (state o) (state (Some a)) (state (Some b)) [] (names_of made_left)
   carried_left k = chained (tree_names made_left k) (turned_round (name_carried s i o unmarked a b made_left k
       (λ none. (no_node s i a members.left k none, no_node s i b members.right k none, ap (λ (t : Trio). t.left) (unplaced k none)))
       (λ j leads. root_carried (child k before) (child k after) (under_it k j leads).safe.safe)))
 
-  carried_right : AreCarried (state o) (state (Some b)) (state (Some a)) [] (names_of made_right)
+  pub carried_right : AreCarried (state o) (state (Some b)) (state (Some a)) [] (names_of made_right)
   carried_right k = chained (tree_names made_right k) (turned_round (name_carried s i o unmarked b a made_right k
       (λ none. (no_node s i b members.right k none, no_node s i a members.left k none, ap (λ (t : Trio). t.right) (unplaced k none)))
       (λ j leads. root_carried (turned (child k before)) (turned (child k after)) (safe_turned (child k before) (child k after) (under_it k j leads).safe.safe))))
@@ -242,7 +267,8 @@ module _ (s : SchemaValue) (i : NodeId) (o : Archive) (a b : Tree) (members : Ar
     has = tree_names t;
   }
 
-  gathered : HasNoTwins s → PermitsAt s i (names_of made_left) → PermitsAt s i (names_of made_right) → IsOutcome s i before after
+  -- where each side may have the names that it has come to have
+  pub gathered : HasNoTwins s → PermitsAt s i (names_of made_left) → PermitsAt s i (names_of made_right) → IsOutcome s i before after
   gathered no_twins left right = downward s i before after no_twins members (record {
     unmarked = unmarked;
     has_left = state_root a;
@@ -257,7 +283,3 @@ module _ (s : SchemaValue) (i : NodeId) (o : Archive) (a b : Tree) (members : Ar
     left_names = takes left.node left.is made_left (state o) (state (Some a)) (state (Some b)) carried_left left;
     right_names = takes left.node left.is made_right (state o) (state (Some b)) (state (Some a)) carried_right right;
   })
-
-  -- where each side may have the names that it is to have
-  pub gathered_permitted : HasNoTwins s → ArePermitted s i (views before) → IsOutcome s i before after
-  gathered_permitted no_twins permitted = gathered no_twins (permitted.left (names_of made_left) carried_left) (permitted.right (names_of made_right) carried_right)

@@ -17,14 +17,14 @@ use Rattle.hm_outcome.specs.Outcomes.{IsOutcome}
 use Rattle.hm_outcome.proofs.Marks.{has_and_lacks}
 use Rattle.hm_outcome.proofs.Settled.{right_unchanged, stopped}
 use Rattle.hm_outcome.proofs.Search.{within_or_news, agree_has}
-use Rattle.hm_reconcile.specs.Sides.{on_left, recorded_on_both}
+use Rattle.hm_outcome.specs.Sides.{on_left, recorded_on_both}
 
 missing_none : (o : Archive) → state o [] ≡ Missing → o ≡ None
 missing_none None e = refl
 missing_none (Some a) e = absurd (stands a e)
 
 -- a missing side is a member
-missing_member : (s : SchemaValue) (i : NodeId) → IsMember s i (state {m = false} None)
+pub missing_member : (s : SchemaValue) (i : NodeId) → IsMember s i (state {m = false} None)
 missing_member s i p h = absurd (has_and_lacks h refl)
 
 -- what one side alone has, the archive knows and doesn't hold is lost on the other side
