@@ -9,7 +9,7 @@ use Rattle.hm_tree.proofs.Paths.{state_at, state_here, nothing_below}
 use Rattle.hm_tree.proofs.PathLaws.{first_as}
 use Rattle.hm_safety.specs.Views.{Agree}
 use Rattle.hm_safety.specs.Changes.{HasChanged, IsLost}
-use Rattle.hm_report.proofs.News.{first_behind}
+use Rattle.hm_report.proofs.FirstNews.{first_behind}
 use Rattle.hm_outcome.specs.Trios.{Trio, views, Differ}
 use Rattle.hm_outcome.specs.Carried.{IsCarried, on_both, clashing, kept, brought}
 use Rattle.hm_report.specs.Reasons.{IsNews, IsFirstNews, LosesFirst}

@@ -11,23 +11,14 @@ use Rattle.hm_tree.specs.Archives.{Archive, under}
 use Rattle.hm_tree.specs.States.{Path, state, Has}
 use Rattle.hm_tree.proofs.States.{state_root, state_down}
 use Rattle.hm_tree.specs.PathOrder.{path_cmp, IsFirst}
-use Rattle.hm_tree.proofs.PathLaws.{first_at_root, first_as, first_under, first_below}
+use Rattle.hm_tree.proofs.PathLaws.{first_as, first_below}
 use Rattle.hm_outcome.proofs.Marks.{has_and_lacks}
 use Rattle.hm_outcome.proofs.Downward.{state_under}
-use Rattle.hm_report.specs.Reasons.{IsNews}
+use Rattle.hm_outcome.proofs.Search.{is_present}
+use Rattle.hm_report.proofs.FirstNews.{NewsOf, news_at_root, news_below}
 use Rattle.hm_certify.specs.News.{IsWithinBefore}
 use Rattle.hm_certify.proofs.Verdicts.{is_not}
 use Rattle.hm_tree.proofs.Paths.{front_is}
-
--- what a tree has and an archive doesn't hold
-abbrev pub NewsOf : Archive → Tree → Path → Type 0
-NewsOf o t = IsNews (state o) (state (Some t))
-
--- an archive is present there, or not
-abbrev present_or_not : (s : State) → (s ≡ Present) ⊎ (s ≢ Present)
-present_or_not Missing = inr (λ e. let f : ⊥ = cc in f)
-present_or_not Present = inl refl
-present_or_not Marked = inr (λ e. let f : ⊥ = cc in f)
 
 not_marked : {s : State} → s ≡ Present → s ≢ Marked
 not_marked e m = let f : Present ≡ Marked = sym e ∙ m in cc
@@ -35,7 +26,7 @@ not_marked e m = let f : Present ≡ Marked = sym e ∙ m in cc
 -- ---- at the end of the names
 
 pub news_here : (o : Archive) (t : Tree) → (state o [] ≢ Present) ↔ IsFirst (NewsOf o t) []
-news_here o t = (λ n. first_at_root (NewsOf o t) (record { has = state_root t; news = n }), λ f. f.here.news)
+news_here o t = (news_at_root o t, λ f. f.here.news)
 
 -- ---- a name more
 
@@ -48,7 +39,7 @@ module _ (o : Archive) (t : Tree) (k : Name) (q : Path) (present : state o [] �
   down j r = state_under o j r (not_marked present)
 
   pub news_before : IsFirst (NewsOf o t) (k ∷ q) → IsWithinBefore t o k
-  news_before f j c is less r has = elim (present_or_not (state (under j o) r)) [
+  news_before f j c is less r has = elim (is_present (state (under j o) r)) [
     | inl there ↦ there
     | inr n ↦ (
         let news : NewsOf o t (j ∷ r) = record { has = state_down t j r ∙ ap (λ (x : Option Tree). state x r) is ∙ has; news = λ e. n (sym (down j r) ∙ e) } in
@@ -65,19 +56,10 @@ module _ (o : Archive) (t : Tree) (k : Name) (q : Path) (present : state o [] �
       λ n. record { has = here r ∙ n.has; news = λ e. n.news (sym (down k r) ∙ e) },
     )
 
-    none_earlier : IsWithinBefore t o k → (j : Name) (r : Path) → name_cmp j k ≡ Less → ¬ (NewsOf o t (j ∷ r))
-    none_earlier before j r less n = at (below j t) refl
-      where
-        at : (a : Option Tree) → below j t ≡ a → ⊥
-        at None none = has_and_lacks n.has (state_down t j r ∙ ap (λ (x : Option Tree). state x r) none)
-        at (Some d) some =
-            n.news (down j r ∙ before j d some less r (sym (state_down t j r ∙ ap (λ (x : Option Tree). state x r) some) ∙ n.has))
-
     pub news_step : IsWithinBefore t o k → IsFirst (NewsOf o t) (k ∷ q) ↔ IsFirst (NewsOf (under k o) c) q
     news_step before = (
       λ f. first_as (λ r. NewsOf o t (k ∷ r)) (NewsOf (under k o) c) q news_under (first_below (NewsOf o t) k q f),
-      λ f. first_under (NewsOf o t) k q (λ n. n.news present) (none_earlier before)
-          (first_as (NewsOf (under k o) c) (λ r. NewsOf o t (k ∷ r)) q (λ r. ((news_under r).1, (news_under r).0)) f),
+      news_below o t present k c is before q,
     )
 
 -- ---- along a list of names, of which i were passed

@@ -12,6 +12,7 @@ ghost use Rattle.std.specs.Prelude.{◌↔◌, IsTrue};
 ghost use Rattle.hm_schema.specs.Membership.{HasNoTwins};
 ghost use Rattle.hm_outcome.specs.Trios.{given, views, AreMembers};
 ghost use Rattle.hm_outcome.specs.Outcomes.{IsMaximal};
+ghost use Rattle.hm_report.specs.Conflicts.{HasOneOutcomeWith};
 ghost use Rattle.hm_certify.specs.Certificates.{IsCertified, HasOutcomeSides};
 
 use crate::marks::are_at_marks;
@@ -36,6 +37,7 @@ pub fn certify(
     requires members { AreMembers schema.now schema.now.root (views (given archive.now left.now right.now)) }
     ensures certified { IsTrue result ↔ IsCertified schema.now schema.now.root (given archive.now left.now right.now) (given outcome.now.archive outcome.now.left outcome.now.right) outcome.now.conflicts.items }
     ensures best { IsTrue result → IsMaximal schema.now schema.now.root (given archive.now left.now right.now) (given outcome.now.archive outcome.now.left outcome.now.right) }
+    ensures one_outcome { HasOneOutcomeWith schema.now schema.now.root (given archive.now left.now right.now) }
     ensures sides { IsTrue result → HasOutcomeSides schema.now schema.now.root (given archive.now left.now right.now) (given outcome.now.archive outcome.now.left outcome.now.right) }
 {
     let before = Standing {

@@ -201,7 +201,9 @@ no_node s i t member k none = go (below k t) refl
         let nowhere : None ≡ Some at.node = ap (λ z. option_and_then (node_at s) (option_and_then (λ j. Some j) z)) (sym none) ∙ at.is in
         let no : ⊥ = cc in absurd no
 
-pub member_at : (s : SchemaValue) (i j : NodeId) (t : Tree) (k : Name) → IsMember s i (state (Some t)) → child_at s i k ≡ Some j → IsMember s j (state (below k t))
+-- what stands under a name is a member at the node of that name
+pub member_at : (s : SchemaValue) (i j : NodeId) (t : Tree) (k : Name) → IsMember s i (state (Some t)) → child_at s i k ≡ Some j →
+    IsMember s j (state (below k t))
 member_at s i j t k member leads p has =
     let at = member (k ∷ p) (state_down t k p ∙ has) in
     record {

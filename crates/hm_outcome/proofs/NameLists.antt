@@ -47,7 +47,7 @@ pub record IsLeast (A B : Name → Type 0) (names : List Name) : Type 0 where
   pub holds : B name
   pub before : (k : Name) → IsListed names k → name_cmp k name ≡ Less → A k
 
-not_before_itself : (k : Name) → name_cmp k k ≡ Less → ⊥
+pub not_before_itself : (k : Name) → name_cmp k k ≡ Less → ⊥
 not_before_itself k e = let bad : Equal ≡ Less = sym (tied_itself name_total k) ∙ e in cc
 
 -- of each name of a list A holds

@@ -16,9 +16,9 @@ pub struct MemStore {
 }
 
 impl MemStore {
-    ghost use Rattle.hm_outside.specs.Shown.{stored_in, written_to};
+    ghost use Rattle.hm_outside.specs.Shown.{stored_in};
     ghost use Rattle.hm_outside.specs.Contents.{nothing_held};
-    ghost use Rattle.std.specs.Prelude.{◌≡◌, []};
+    ghost use Rattle.std.specs.Prelude.{◌≡◌};
 
     /// A store that holds nothing.
     pub fn empty(alloc: Global) -> MemStore
@@ -81,6 +81,8 @@ pub struct MemSink {
 }
 
 impl MemSink {
+    ghost use Rattle.hm_outside.specs.Shown.{written_to};
+    ghost use Rattle.std.specs.Prelude.{◌≡◌, []};
 
     /// A sink with nothing written.
     pub fn empty(alloc: Global) -> MemSink

@@ -14,12 +14,10 @@ use Rattle.hm_schema.proofs.NamesOf.{tie_one}
 use Rattle.hm_outcome.specs.Gathering.{IsInEither}
 use Rattle.hm_reconcile.specs.Taken.{IsBeforeFirst, IsTakenOff, IsTaken, AreOver}
 use Rattle.hm_outcome.proofs.Gathered.{tied_same}
+use Rattle.hm_outcome.proofs.NameLists.{not_before_itself}
 
 abbrev Edges : Type 0
 Edges = List (Name × Tree)
-
-pub not_before_itself : (k : Name) → name_cmp k k ≡ Less → ⊥
-not_before_itself k e = let bad : Equal ≡ Less = sym (tied_itself name_total k) ∙ e in cc
 
 -- ---- a list that rises
 

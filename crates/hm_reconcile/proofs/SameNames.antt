@@ -9,9 +9,7 @@ use Rattle.hm_tree.specs.Nodes.{Tree, edges}
 use Rattle.hm_tree.specs.Sets.{ascending}
 use Rattle.hm_schema.specs.Permitted.{names_of}
 use Rattle.hm_schema.proofs.NamesOf.{ascending-names_of}
-
-abbrev pub name_list : Tree → List Name
-name_list t = map (λ e. e.0) (edges t)
+use Rattle.hm_outcome.proofs.NameLists.{name_list}
 
 -- the first so many names are the same
 abbrev pub AreSameUpTo : Tree → Tree → ℕ → Type 0

@@ -18,6 +18,7 @@ use Rattle.hm_outcome.proofs.Settled.{chained, one_set}
 use Rattle.hm_report.specs.declared.conflict.Why.TheVariants as why
 use Rattle.hm_report.specs.Reasons.{IsNews, IsFirstNews, LosesFirst, ShowsWhy}
 use Rattle.hm_report.specs.Reasons as reason
+use Rattle.hm_report.proofs.FirstNews as first
 use Rattle.hm_reconcile.specs.FirstNews.{IsNewsFrom}
 use Rattle.hm_reconcile.specs.Showing.{IsContestedSomewhere, ShowsWherever}
 
@@ -88,20 +89,8 @@ module _ (o h : Archive) (a b : Tree) (p : Path) (at : h ≡ at_path o p) where
         l.news.2 (archive_from l.news.0 ∙ within l.news.0 (sym (state_at (Some keeper) p l.news.0 ∙ ap (λ x. state x l.news.0) (sym is)) ∙ l.news.1))
 
     first_from : (keeper t : Tree) (q : Path) → Some t ≡ at_path (Some keeper) p → IsNewsFrom (state h) (state (Some t)) p q → IsFirstNews (state o) (state (Some keeper)) p q
-    first_from keeper t q is n = record {
-      below = n.below;
-      is = n.is;
-      first = first_as (IsNews (state h) (state (Some t))) (λ r. IsNews (state o) (state (Some keeper)) (p ++ r)) n.below from_here n.first;
-    }
-      where
-        keeper_from : (r : Path) → state (Some keeper) (p ++ r) ≡ state (Some t) r
-        keeper_from r = state_at (Some keeper) p r ∙ ap (λ x. state x r) (sym is)
-
-        from_here : (r : Path) → IsNews (state h) (state (Some t)) r ↔ IsNews (state o) (state (Some keeper)) (p ++ r)
-        from_here r = (
-          λ n. record { has = keeper_from r ∙ n.has; news = λ present. n.news (sym (archive_from r) ∙ present) },
-          λ n. record { has = sym (keeper_from r) ∙ n.has; news = λ present. n.news (archive_from r ∙ present) },
-        )
+    first_from keeper t q is n =
+        subst (IsFirstNews (state o) (state (Some keeper)) p) (sym n.is) (first.first_from o h (Some keeper) t p n.below at is n.first)
 
     module _ (t : Tree) where
       pub left_news : Some t ≡ at_path (Some a) p → None ≡ at_path (Some b) p → IsContestedSomewhere before p → ¬ (IsWithin (Some t) h)

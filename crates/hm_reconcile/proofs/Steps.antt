@@ -97,9 +97,10 @@ module _ {s : SchemaValue} {i : NodeId} {o : Archive} {a b : Tree} {old : List (
 module _ {s : SchemaValue} {i : NodeId} {o : Archive} {a b : Tree} {old : List (Name × Archive)} {es fs : List (Name × Tree)} {made_o : Archive} {made_a made_b : Tree} {aside : Archive} (w : IsUnderWay s i o a b old es fs (given made_o made_a made_b) aside) (over : AreOver es fs) where
   pub outcome_whole : AreMembers s i (views (given o a b)) → state o [] ≢ Marked → HasNoTwins s → ArePermitted s i (views (given o a b)) → IsOutcome s i (given o a b) (given made_o made_a made_b)
   outcome_whole members unmarked no_twins permitted =
-      gathered s i o a b members unmarked (Passed a b es fs) (all_passed over) made_o made_a made_b w.gathered no_twins
-      (permitted.left (names_of made_a) (carried_left s i o a b members unmarked (Passed a b es fs) (all_passed over) made_o made_a made_b w.gathered))
-      (permitted.right (names_of made_b) (carried_right s i o a b members unmarked (Passed a b es fs) (all_passed over) made_o made_a made_b w.gathered))
+      let all = all_passed over in
+      gathered s i o a b members unmarked (Passed a b es fs) all made_o made_a made_b w.gathered no_twins
+      (permitted.left (names_of made_a) (carried_left s i o a b members unmarked (Passed a b es fs) all made_o made_a made_b w.gathered))
+      (permitted.right (names_of made_b) (carried_right s i o a b members unmarked (Passed a b es fs) all made_o made_a made_b w.gathered))
 
   pub held_whole : state o [] ≢ Marked → Holds o made_o aside
   held_whole unmarked = held_all o made_o aside (Passed a b es fs) unmarked w.gathered.archive w.held (λ k. go k (below k a) (below k b) refl refl)

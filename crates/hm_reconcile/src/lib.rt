@@ -18,6 +18,7 @@ mod whole;
 ghost use Rattle.std.specs.Prelude.{IfOk};
 ghost use Rattle.hm_schema.specs.Membership.{HasNoTwins};
 ghost use Rattle.hm_outcome.specs.Trios.{given, views, AreMembers};
+ghost use Rattle.hm_report.specs.Conflicts.{HasOneOutcomeWith};
 ghost use Rattle.hm_reconcile.specs.Reconciled.{IsReconciled};
 
 use crate::conflicts::conflicts_of;
@@ -40,7 +41,8 @@ pub fn reconcile(
 ) -> Result<Outcome, Memory>
     requires no_twins { HasNoTwins schema.now }
     requires members { AreMembers schema.now schema.now.root (views (given archive.now left.now right.now)) }
-    ensures { IfOk result (IsReconciled schema.now (given archive.now left.now right.now)) }
+    ensures reconciled { IfOk result (IsReconciled schema.now (given archive.now left.now right.now)) }
+    ensures one_outcome { HasOneOutcomeWith schema.now schema.now.root (given archive.now left.now right.now) }
 {
     reconcile_owned(alloc, schema, archive.copy()?, left.copy()?, right.copy()?)
 }
@@ -55,7 +57,8 @@ pub fn reconcile_owned(
 ) -> Result<Outcome, Memory>
     requires no_twins { HasNoTwins schema.now }
     requires members { AreMembers schema.now schema.now.root (views (given archive left right)) }
-    ensures { IfOk result (IsReconciled schema.now (given archive left right)) }
+    ensures reconciled { IfOk result (IsReconciled schema.now (given archive left right)) }
+    ensures one_outcome { HasOneOutcomeWith schema.now schema.now.root (given archive left right) }
 {
     let made = at_node(alloc, schema, schema.root(), archive, left, right)?;
     let conflicts = conflicts_of(alloc, &made.held, &made.left, &made.right, &made.archive)?;

@@ -1,4 +1,5 @@
 pub mod Explained
-pub mod News
 pub mod Once
 pub mod Sets
+pub mod FirstNews
+pub mod Existence

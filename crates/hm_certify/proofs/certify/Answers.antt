@@ -5,6 +5,7 @@ use Rattle.hm_outcome.specs.Trios.{given, views}
 use Rattle.hm_outcome.specs.TopmostMarks.{AreTopmostMarks}
 use Rattle.hm_report.specs.declared.conflict.Conflict.{Conflict}
 use Rattle.hm_report.specs.Reasons.{ShowsWhy}
+use Rattle.hm_report.proofs.Existence.{one_outcome_with}
 use Rattle.hm_certify.specs.Certificates.{IsCertified}
 use Rattle.hm_certify.proofs.ConflictPaths.{paths_of}
 use Rattle.hm_certify.proofs.Certified.{certified_maximal, certified_sides}
@@ -32,3 +33,20 @@ pub returns-clause-sides : goal.returns-clause-sides
 returns-clause-sides c shown =
     certified_sides c.args.schema.now c.args.schema.now.root (given c.args.archive.now c.args.left.now c.args.right.now) (given c.args.outcome.now.archive c.args.outcome.now.left c.args.outcome.now.right)
     c.args.outcome.now.conflicts.items (certified c shown)
+
+-- ---- there is one outcome, whatever is certified
+
+pub returns-then-not-is_safe-clause-one_outcome : goal.returns-then-not-is_safe-clause-one_outcome
+returns-then-not-is_safe-clause-one_outcome c = one_outcome_with _ c.requires.no_twins _ _ _ _ c.requires.members
+
+pub returns-then-not-member-clause-one_outcome : goal.returns-then-not-member-clause-one_outcome
+returns-then-not-member-clause-one_outcome c = one_outcome_with _ c.requires.no_twins _ _ _ _ c.requires.members
+
+pub returns-then-not-member-2-clause-one_outcome : goal.returns-then-not-member-2-clause-one_outcome
+returns-then-not-member-2-clause-one_outcome c = one_outcome_with _ c.requires.no_twins _ _ _ _ c.requires.members
+
+pub returns-then-not-are_at_marks-clause-one_outcome : goal.returns-then-not-are_at_marks-clause-one_outcome
+returns-then-not-are_at_marks-clause-one_outcome c = one_outcome_with _ c.requires.no_twins _ _ _ _ c.requires.members
+
+pub returns-clause-one_outcome : goal.returns-clause-one_outcome
+returns-clause-one_outcome c = one_outcome_with _ c.requires.no_twins _ _ _ _ c.requires.members

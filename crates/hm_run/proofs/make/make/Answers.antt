@@ -9,4 +9,6 @@ returns-in-Some c =
     (c.in-Some.ensures.outcome c.args.inputs.schema c.args.inputs.schema.root c.requires.members) (no_conflicts (inputs_of c.args.inputs) c.in-Some.side.now) c.spell_for_all.ensures.texts c.spell_for_all.ensures.tells
 
 pub returns : goal.returns
-returns c = made c.spell.result (inputs_of c.args.inputs) (outcome_of c.in_ok-outcome.outcome) c.in_ok-outcome.outcome.conflicts.items c.in_ok-outcome.ensures.outcome c.in_ok-outcome.ensures.conflicts c.spell.ensures.texts c.spell.ensures.tells
+returns c =
+    made c.spell.result (inputs_of c.args.inputs) (outcome_of c.in_ok-outcome.outcome) c.in_ok-outcome.outcome.conflicts.items
+    c.in_ok-outcome.ensures.reconciled.outcome c.in_ok-outcome.ensures.reconciled.conflicts c.spell.ensures.texts c.spell.ensures.tells
