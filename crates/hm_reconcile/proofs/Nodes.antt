@@ -1,19 +1,18 @@
 -- The cases at a node, and what the steps of its loop need.
-use Rattle.std.proofs.Common.{◌≡◌, ◌⊎◌, inl, inr, ℕ, ◌+◌, ◌*◌, ◌<◌, ◌≤◌, Bool, true, false, [], ◌∷◌, ◌++◌, length, Option, Some, None, is_some, IsTrue, option_and_then, Result, Ok, Err, slice_get, get_or, refl, sym, ap, subst, ◌∙◌, arith}
+use Rattle.std.proofs.Common.{◌≡◌, ◌⊎◌, inl, inr, ℕ, ◌+◌, ◌*◌, ◌<◌, ◌≤◌, false, [], length, Option, Some, None, is_some, IsTrue, Result, Ok, Err, slice_get, get_or, refl, sym, ap, subst, ◌∙◌, arith}
 use Rattle.std.specs.Prelude.{IfOk, IsSome}
 use Rattle.std.proofs.lemmas.Option.{same_Some, slice_get_cases}
 use mathlib.Core.Bool.{true≢false}
-use Rattle.hm_tree.specs.declared.archive.State.TheVariants.{Present, Marked}
+use Rattle.hm_tree.specs.declared.archive.State.TheVariants.{Marked}
 use Rattle.hm_tree.specs.declared.memory.Memory.{Memory}
 use Rattle.hm_tree.specs.Names.{Name}
-use Rattle.hm_tree.specs.Nodes.{Tree, below, depth, empty, edges, edges_of, is_marked, marked}
+use Rattle.hm_tree.specs.Nodes.{Tree, below, depth, marked}
 use Rattle.hm_tree.specs.Archives.{Archive, under, recorded}
 use Rattle.hm_tree.specs.States.{state}
-use Rattle.hm_tree.proofs.States.{state_down}
 use Rattle.hm_tree.proofs.Depths.{depth_below}
 use Rattle.hm_schema.specs.declared.node.NodeId.{NodeId}
-use Rattle.hm_schema.specs.Values.{NodeValue, SchemaValue, node_at, child_at, reached}
-use Rattle.hm_schema.specs.Membership.{Allows, IsMember}
+use Rattle.hm_schema.specs.Values.{NodeValue, SchemaValue, node_at, child_at}
+use Rattle.hm_schema.specs.Membership.{IsMember}
 use Rattle.hm_outcome.specs.Trios.{Trio, given, views, AreMembers}
 use Rattle.hm_outcome.specs.Contested.{IsContested, earlier}
 use Rattle.hm_outcome.specs.Outcomes.{IsOutcome}
@@ -25,7 +24,6 @@ use Rattle.hm_reconcile.specs.Sides.{outcome_of}
 use Rattle.hm_outcome.specs.Gathering.{IsInEither}
 use Rattle.hm_reconcile.proofs.Falling.{side_size}
 use Rattle.hm_outcome.proofs.Gathered.{no_node, member_at}
-use Rattle.hm_reconcile.proofs.Passing.{Passed, none_passed}
 
 -- ---- what is given, by what is known of it
 

@@ -1,5 +1,5 @@
 -- Trees with the same names right below their roots: their names, in ascending order, are the same at each place.
-use Rattle.std.proofs.Common.{◌≡◌, ℕ, ◌+◌, ◌≤◌, List, length, map, take, slice_get, Some, sym, ap, ◌∙◌, arith}
+use Rattle.std.proofs.Common.{◌≡◌, ℕ, ◌+◌, ◌≤◌, length, take, slice_get, Some, sym, ap, ◌∙◌, arith}
 use Rattle.std.specs.Option.{option_map}
 use Rattle.std.specs.FinSet.{from_list}
 use Rattle.std.proofs.lemmas.List.{length-map, take_all, take_more_same}

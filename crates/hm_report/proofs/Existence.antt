@@ -1,5 +1,5 @@
 -- There is an outcome with its conflicts: at each topmost mark something shows why.
-use Rattle.std.proofs.Common.{◌≡◌, inl, inr, zero, suc, List, [], ◌∷◌, map, All, refl, sym, ap, subst, arith}
+use Rattle.std.proofs.Common.{◌≡◌, inl, inr, suc, List, [], ◌∷◌, map, All, refl, sym, ap, subst, arith}
 use Rattle.std.proofs.lemmas.List.Elements.{All-cons}
 use Rattle.std.specs.List.{Contains}
 use Rattle.hm_tree.specs.Nodes.{Tree}
@@ -11,7 +11,7 @@ use Rattle.hm_schema.specs.Values.{SchemaValue}
 use Rattle.hm_schema.specs.Membership.{HasNoTwins}
 use Rattle.hm_outcome.specs.Trios.{Trio, given, views, AreMembers}
 use Rattle.hm_outcome.specs.Contested.{IsContested, earlier, lost, refused}
-use Rattle.hm_outcome.specs.Outcomes.{IsOutcome, HasOneOutcome}
+use Rattle.hm_outcome.specs.Outcomes.{HasOneOutcome}
 use Rattle.hm_outcome.specs.TopmostList.{topmost_list}
 use Rattle.hm_outcome.specs.TopmostMarks.{AreTopmostMarks}
 use Rattle.hm_outcome.proofs.Existence.{one_outcome}
