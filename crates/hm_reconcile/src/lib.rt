@@ -32,6 +32,7 @@ pub use whole::side_for_all;
 /// Reconciles two members of a schema against the archive of what they last agreed on: name by name, what only one
 /// side changed is carried to the other, as far as each node permits the names that come to stand there; where both
 /// changed, or the names can't stand together, the archive is marked, and both sides stay. Each conflict says why.
+#[tactic(auto, using(hm_report::proofs::Existence::one_outcome_with))]
 pub fn reconcile(
     alloc: Global,
     schema: &Schema,
