@@ -1,212 +1,116 @@
--- When a line is bad, by what it says.
-use Rattle.std.proofs.Common.{◌≡◌, ◌≢◌, inl, inr, ℕ, suc, ◌+◌, ◌<◌, ◌≤◌, Bool, true, false, cond, List, [], ◌∷◌, ◌++◌, length, take, drop, Option, Some, None, refl, sym, ap, ◌∙◌, subst, count_by, arith}
-use Rattle.std.specs.Prelude.{codes, ◌==◌, nat_le, IsTrue, is_some, not}
-use mathlib.Core.Bool.{true≢false}
-use Rattle.std.specs.List.{Contains, cons_option}
-use Rattle.std.proofs.lemmas.List.Sums.{sum_by-cons}
-use Rattle.std.proofs.lemmas.List.{take-append-drop}
+-- When a line of a schema file is bad.
+use Rattle.std.proofs.Common.{◌≡◌, ◌⊎◌, inl, inr, ℕ, zero, suc, length, count_by, ◌+◌, ◌<◌, ◌≤◌, Bool, true, false, List, [], ◌∷◌, slice_get, Option, Some, None, Result, refl, sym, ap, ◌∙◌, subst, arith}
+use Rattle.std.specs.Prelude.{codes, MatchOption, IsTrue, IfOk, ◌↔◌}
+use Rattle.std.specs.Option.{IsSomeAnd}
+use Rattle.std.specs.Int.{from_bool}
+use Rattle.std.proofs.lemmas.Result.{IfOk-weaker}
+use Rattle.std.proofs.lemmas.Option.{slice_get_within, get_or_from_slice_get}
+use Rattle.std.proofs.lemmas.List.Sums.{count_by_more_yes, count_by_more_no}
+use Rattle.std.proofs.lemmas.Slice.Zip.{AllZip-right}
 use Rattle.hm_tree.specs.Names.{Name}
-use Rattle.hm_schema_text.specs.declared.firsts.Naming.TheVariants.{Nodes, Edges}
-use Rattle.hm_schema_text.specs.Items.{is_inside, ItemValue, header, root, node, edge, other, shape}
-use Rattle.hm_schema_text.specs.Entries.{EntryValue, unknown, says}
-use Rattle.hm_schema_text.specs.Firsts.{place_in, begun_name, listed_name, node_names, edge_names}
-use Rattle.hm_schema_text.specs.BadLines.{Says, named, is_placed, begins_node, is_shape, up_to_node, earlier, around, behind, lines_before, nodes_before, Declares, Lists, SpeaksOfOthers, HasShape, IsNode, names_of_shape, HasDouble, IsNoneCounted, IsBadLine, unreadable, misplaced, in_no_node, declared_twice, declares_empty, names_no_node, listed_twice, others_twice, unlisted_name, name_twice, least_above_most, no_others_to_count, no_shape, too_many_nodes, too_many_shapes}
-use Rattle.std.proofs.lemmas.Bool.Decides.{nat_tests}
-use Rattle.hm_schema_text.specs.Judging.{IsOutside}
-use Rattle.hm_schema_text.proofs.Sections.{drop_more, around_next, from_here}
-use Rattle.hm_schema_text.proofs.Places.{there, not_there, first_at, not_before, names_around}
-use Rattle.hm_schema_text.proofs.Made.{brought, brings}
+use Rattle.hm_node_lines.specs.declared.token.Token.{Token}
+use Rattle.hm_node_lines.specs.declared.token.Token.TheVariants.{Word}
+use Rattle.hm_node_lines.specs.Tokens.{Spaced}
+use Rattle.hm_node_lines.specs.NodeLines.{NodeLineValue}
+use Rattle.hm_node_lines.specs.Entries.{EntryValue, unknown, says, IsEntry, texts_of, AreEntries}
+use Rattle.hm_node_lines.specs.BadLines.{is_counted, lines_before, Says, IsNode, IsBadNodeLine}
+use Rattle.hm_node_lines.specs.FirstBad.{HasNoBad}
+use Rattle.hm_node_lines.proofs.NodeLines.{begins}
+use Rattle.hm_node_lines.proofs.Once.{first}
+use Rattle.hm_node_lines.proofs.Tokens.{spaced_one}
+use Rattle.hm_node_lines.proofs.Judging.{bad_says, is_node}
+use Rattle.hm_schema_text.specs.Head.{IsRoot, IsHeaderAt, IsRootAt, IsNth, IsReadRoot, NamesRoot}
+use Rattle.hm_schema_text.specs.BadLines.{IsBadLine, no_header, no_root, names_no_node, unreadable, of_node}
 
--- ---- what a good line of its kind holds
+some_line : (x y : List ℕ) → Some x ≡ Some y → x ≡ y
+some_line x y e = cc
 
-abbrev GoodRest : List EntryValue → ℕ → ItemValue → Type 0
-GoodRest es i header = Unit {0}
-GoodRest es i (root w) = Unit {0}
-GoodRest es i (node w) = ¬ (Declares (take i es) w) × (w ≢ codes "Empty") × ¬ (¬ (HasShape (behind es i))) × (nodes_before es i < 1000)
-GoodRest es i (edge k w) = ¬ (Lists (earlier es i) k)
-GoodRest es i (other c w) = ¬ (SpeaksOfOthers (earlier es i))
-GoodRest es i (shape s) =
-    ((k : Name) → Contains (names_of_shape s) k → ¬ (¬ (Lists (around es i) k)))
-    × ¬ (HasDouble (names_of_shape s))
-    × ((most : ℕ) → s.count.most ≡ Some most → ¬ (most < s.count.least))
-    × (¬ (IsNoneCounted s.count) → ¬ (¬ (SpeaksOfOthers (around es i))))
-    × (count_by is_shape (earlier es i) < 256)
+pub root_once : (bytes : List ℕ) (i : ℕ) (w v : Name) → IsRootAt bytes i w → IsRootAt bytes i v → w ≡ v
+root_once bytes i w v h k =
+    let tokens = spaced_one _ _ h.0 k.0 (some_line h.0 k.0 (sym h.1 ∙ k.1)) h.2 k.2 in
+    cc
 
-pub record IsGood (es : List EntryValue) (i : ℕ) (x : ItemValue) : Type 0 where
-  pub placed : is_placed (lines_before es i) x ≡ true
-  pub housed : is_inside x ≡ true → ¬ (nodes_before es i ≡ 0)
-  pub names : (w : Name) → named x ≡ Some w → IsNode es w
-  pub rest : GoodRest es i x
+-- tokens are the name of a root, as they are spelled
+pub root_is : (line : List ℕ) (ts : List Token) → Spaced ts line → (o : Option Name) → IsReadRoot (λ w. ts ≡ Word (codes "root") ∷ Word w ∷ []) o → IsReadRoot (IsRoot line) o
+root_is line ts s None none = λ w root. none w (spaced_one ts _ line line refl s root)
+root_is line ts s (Some w) is = subst (λ z. Spaced z line) is s
 
-module _ (es : List EntryValue) (i : ℕ) (x : ItemValue) (says_it : Says es i x) (good : IsGood es i x) where
-  same : (y : ItemValue) → Says es i y → y ≡ x
-  same y h = let both : Some (says y) ≡ Some (says x) = sym h ∙ says_it in cc
-
-  rest_of : (y : ItemValue) → Says es i y → GoodRest es i y
-  rest_of y h = subst (GoodRest es i) (sym (same y h)) good.rest
-
-  pub not_bad : IsBadLine es i → ⊥
-  not_bad (unreadable h) = let both : Some unknown ≡ Some (says x) = sym h ∙ says_it in let f : ⊥ = cc in f
-  not_bad (misplaced {x = y} h m) = let placed : is_placed (lines_before es i) y ≡ true = ap (is_placed (lines_before es i)) (same y h) ∙ good.placed in let f : ⊥ = cc in f
-  not_bad (in_no_node {x = y} h inside none) = good.housed (ap is_inside (sym (same y h)) ∙ inside) none
-  not_bad (declared_twice {w} h twice) = (rest_of (node w) h).0 twice
-  not_bad (declares_empty h) = (rest_of (node (codes "Empty")) h).1 refl
-  not_bad (names_no_node {x = y} {w} h name none) = none (good.names w (ap named (sym (same y h)) ∙ name))
-  not_bad (listed_twice {k} {w} h twice) = rest_of (edge k w) h twice
-  not_bad (others_twice {c} {w} h twice) = rest_of (other c w) h twice
-  not_bad (unlisted_name {s} {k} h there none) = (rest_of (shape s) h).0 k there none
-  not_bad (name_twice {s} h twice) = (rest_of (shape s) h).1 twice
-  not_bad (least_above_most {s} {most} h is above) = (rest_of (shape s) h).2 most is above
-  not_bad (no_others_to_count {s} h counted none) = (rest_of (shape s) h).3 counted none
-  not_bad (no_shape {w} h none) = (rest_of (node w) h).2 none
-  not_bad (too_many_nodes {w} h many) = let few = (rest_of (node w) h).3 in omega arith
-  not_bad (too_many_shapes {s} h many) = let few = (rest_of (shape s) h).4 in omega arith
-
--- ---- a name among those before a line
-
-says_node : (e : EntryValue) (w : Name) → begun_name e ≡ Some w → e ≡ says (node w)
-says_node (says (node v)) w h = let name : v ≡ w = cc in ap (λ z. says (node z)) name
-says_node e w h = let f : ⊥ = cc in absurd f
-
-says_edge : (e : EntryValue) (k : Name) → listed_name e ≡ Some k → (w : Name) × (e ≡ says (edge k w))
-says_edge (says (edge l v)) k h = let name : l ≡ k = cc in (v, ap (λ z. says (edge z v)) name)
-says_edge e k h = let f : ⊥ = cc in absurd f
-
-pub declares : (es : List EntryValue) (w : Name) → Contains (node_names es) w → Declares es w
-declares es w c = let f = brings begun_name es w c in subst (Contains es) (says_node f.0 w f.2) f.1
-
-pub is_declared : (es : List EntryValue) (w : Name) → Declares es w → Contains (node_names es) w
-is_declared es w = brought begun_name es (says (node w)) w refl
-
-pub lists : (es : List EntryValue) (k : Name) → Contains (edge_names es) k → Lists es k
-lists es k c = let f = brings listed_name es k c in let e = says_edge f.0 k f.2 in (e.0, subst (Contains es) e.1 f.1)
-
-pub is_listed : (es : List EntryValue) (k : Name) → Lists es k → Contains (edge_names es) k
-is_listed es k l = brought listed_name es (says (edge k l.0)) k refl l.1
-
-length_names : (es : List EntryValue) → length (node_names es) ≡ count_by begins_node es
-length_names [] = refl
-length_names (e ∷ es) = by e (length_names es)
+-- one line more
+pub lines_next : (es : List EntryValue) (i : ℕ) (e : EntryValue) → slice_get es i ≡ Some e → lines_before es i + from_bool (is_counted e) ≡ lines_before es (i + 1)
+lines_next es i e is = go (is_counted e) refl
   where
-    none_on : (n : ℕ) → n ≡ 0 + n
-    none_on n = omega arith
+    go : (b : Bool) → is_counted e ≡ b → lines_before es i + from_bool b ≡ lines_before es (i + 1)
+    go true told = sym (count_by_more_yes is_counted es i e (slice_get_within es i e is) (ap is_counted (get_or_from_slice_get es i e e is) ∙ told))
+    go false told = let more = count_by_more_no is_counted es i e (slice_get_within es i e is) (ap is_counted (get_or_from_slice_get es i e e is) ∙ told) in omega arith
 
-    behind_none : length (node_names es) ≡ count_by begins_node es → (e : EntryValue) → begun_name e ≡ None → begins_node e ≡ false → length (node_names (e ∷ es)) ≡ count_by begins_node (e ∷ es)
-    behind_none more e none not_begun = ap (λ o. length (cons_option o (node_names es))) none ∙ more ∙ none_on (count_by begins_node es) ∙ sym (sum_by-cons (λ x. cond (begins_node x) 1 0) e es ∙ ap (λ b. cond b 1 0 + count_by begins_node es) not_begun)
+module _ (bytes : List ℕ) (es : List EntryValue) (i : ℕ) where
+  module _ (read : AreEntries bytes es) where
+    -- tokens with no spaces in front that are a line of a node begin with the letter of `node`
+    node_letter : (x : NodeLineValue) → Says es i x → (line : List ℕ) → slice_get (texts_of bytes) i ≡ Some line → (ts : List Token) → Spaced ts line → first ts ≡ 110
+    node_letter x is line at ts s =
+        let entry = subst (λ o. MatchOption o (Unit {0}) (λ y. IsSomeAnd (slice_get (texts_of bytes) i) (λ t. IsEntry t y))) is (AllZip-right IsEntry (texts_of bytes) es read i) in
+        let its = subst (λ o. IsSomeAnd o (λ t. IsEntry t (says x))) at entry in
+        ap first (begins line ts s x its.1).1
 
-    by : (e : EntryValue) → length (node_names es) ≡ count_by begins_node es → length (node_names (e ∷ es)) ≡ count_by begins_node (e ∷ es)
-    by (says (node w)) more = one_on (length (node_names es)) ∙ ap (λ n. 1 + n) more ∙ sym (sum_by-cons (λ x. cond (begins_node x) 1 0) (says (node w)) es)
-      where
-        one_on : (n : ℕ) → suc n ≡ 1 + n
-        one_on n = omega arith
-    by e more = behind_none more e refl refl
+    not_header : IsBadNodeLine es i → IsHeaderAt bytes i → ⊥
+    not_header bad h = let x = bad_says es i bad in let e = node_letter x.0 x.1 h.0 h.1 _ h.2 in omega arith
 
--- ---- whether a node line is the first of its name
+    not_root : IsBadNodeLine es i → (w : Name) → IsRootAt bytes i w → ⊥
+    not_root bad w h = let x = bad_says es i bad in let e = node_letter x.0 x.1 h.0 h.1 _ h.2 in omega arith
 
-module _ (es : List EntryValue) (i : ℕ) (w : Name) (is : Says es i (node w)) where
-  all_names : node_names es ≡ node_names (take i es) ++ w ∷ node_names (drop (suc i) es)
-  all_names = ap node_names (sym (take-append-drop i es) ∙ ap (λ z. take i es ++ z) (drop_more es i (says (node w)) is)) ∙ names_around Nodes (take i es) (drop (suc i) es) (says (node w)) w refl
+    pub first_line : IsNth es 0 i → IsBadLine bytes es i → ¬ (IsHeaderAt bytes i)
+    first_line n (no_header m none) h = none h
+    first_line n (no_root m none) h = omega (arith, n.before, m.before)
+    first_line n (names_no_node m r none) h = omega (arith, n.before, m.before)
+    first_line n (unreadable is two) h = omega (arith, n.before, two)
+    first_line n (of_node bad) h = not_header bad h
 
-  pub declared_first : ¬ (Declares (take i es) w) → place_in w (node_names es) ≡ Some (nodes_before es i)
-  declared_first h = ap (place_in w) all_names ∙ first_at w (node_names (take i es)) (node_names (drop (suc i) es)) (λ c. h (declares (take i es) w c)) ∙ ap Some (length_names (take i es))
+    pub second_line : IsNth es 1 i → (w : Name) → IsRootAt bytes i w → IsBadLine bytes es i → ¬ (IsNode es w)
+    second_line n w h (no_header m none) some = omega (arith, n.before, m.before)
+    second_line n w h (no_root m none) some = none w h
+    second_line n w h (names_no_node {w = v} m r none) some = none (subst (IsNode es) (root_once bytes i w v h r) some)
+    second_line n w h (unreadable is two) some = omega (arith, n.before, two)
+    second_line n w h (of_node bad) some = not_root bad w h
 
-  pub declared_again : place_in w (node_names es) ≡ Some (nodes_before es i) → ¬ (Declares (take i es) w)
-  declared_again h d = not_before w (node_names (take i es)) (node_names (drop (suc i) es)) (ap (place_in w) (sym all_names) ∙ h ∙ ap Some (sym (length_names (take i es)))) (is_declared (take i es) w d)
+  pub later_line : 2 ≤ lines_before es i → IsBadLine bytes es i → (slice_get es i ≡ Some unknown) ⊎ IsBadNodeLine es i
+  later_line two (no_header m f) = absurd (omega (arith, m.before))
+  later_line two (no_root m f) = absurd (omega (arith, m.before))
+  later_line two (names_no_node m r f) = absurd (omega (arith, m.before))
+  later_line two (unreadable is more) = inl is
+  later_line two (of_node bad) = inr bad
 
-  -- else it was declared before
-  pub twice_declared : (place_in w (node_names es) ≡ Some (nodes_before es i) → ⊥) → Declares (take i es) w
-  twice_declared h = go (place_in w (node_names (take i es))) refl
-    where
-      go : (o : Option ℕ) → place_in w (node_names (take i es)) ≡ o → Declares (take i es) w
-      go (Some p) e = declares (take i es) w (there w (node_names (take i es)) p e)
-      go None e = absurd (h (declared_first (λ d. not_there w (node_names (take i es)) e (is_declared (take i es) w d))))
+  pub bad_later : 2 ≤ lines_before es i → (slice_get es i ≡ Some unknown) ⊎ IsBadNodeLine es i → IsBadLine bytes es i
+  bad_later two (inl is) = unreadable is two
+  bad_later two (inr bad) = of_node bad
 
--- ---- whether a listed name is the first of its kind in its node
+  -- a bad line is one of the file
+  pub bad_within : IsBadLine bytes es i → i < length es
+  bad_within (no_header m f) = slice_get_within es i m.entry m.is
+  bad_within (no_root m f) = slice_get_within es i m.entry m.is
+  bad_within (names_no_node m r f) = slice_get_within es i m.entry m.is
+  bad_within (unreadable is two) = slice_get_within es i unknown is
+  bad_within (of_node bad) = let x = bad_says es i bad in slice_get_within es i (says x.0) x.1
 
-module _ (es : List EntryValue) (i : ℕ) (k w : Name) (is : Says es i (edge k w)) where
-  names_of_node : edge_names (around es (suc i)) ≡ edge_names (earlier es i) ++ k ∷ edge_names (up_to_node (drop (suc i) es))
-  names_of_node =
-      ap edge_names (around_next es i (says (edge k w)) is refl ∙ ap (λ z. earlier es i ++ z) (from_here es i (says (edge k w)) is false refl))
-      ∙ names_around Edges (earlier es i) (up_to_node (drop (suc i) es)) (says (edge k w)) k refl
+  pub later_told : {E : Type 0} → 2 ≤ lines_before es i → (r : Result Bool E) → IfOk r (λ bad. IsTrue bad ↔ ((slice_get es i ≡ Some unknown) ⊎ IsBadNodeLine es i)) → IfOk r (λ bad. IsTrue bad ↔ IsBadLine bytes es i)
+  later_told two r h = IfOk-weaker r (λ bad. IsTrue bad ↔ ((slice_get es i ≡ Some unknown) ⊎ IsBadNodeLine es i)) (λ bad. IsTrue bad ↔ IsBadLine bytes es i) (λ bad k. (λ yes. bad_later two (k.0 yes), λ b. k.1 (later_line two b))) h
 
-  pub listed_first : ¬ (Lists (earlier es i) k) → place_in k (edge_names (around es (suc i))) ≡ Some (length (edge_names (earlier es i)))
-  listed_first h = ap (place_in k) names_of_node ∙ first_at k (edge_names (earlier es i)) (edge_names (up_to_node (drop (suc i) es))) (λ c. h (lists (earlier es i) k c))
+-- a line of a node is none that says nothing
+pub node_told : {E : Type 0} (es : List EntryValue) (i : ℕ) (x : NodeLineValue) → Says es i x → (r : Result Bool E) → IfOk r (λ bad. IsTrue bad ↔ IsBadNodeLine es i) → IfOk r (λ bad. IsTrue bad ↔ ((slice_get es i ≡ Some unknown) ⊎ IsBadNodeLine es i))
+node_told es i x is r h = IfOk-weaker r (λ bad. IsTrue bad ↔ IsBadNodeLine es i) (λ bad. IsTrue bad ↔ ((slice_get es i ≡ Some unknown) ⊎ IsBadNodeLine es i)) (λ bad k. (λ yes. inr (k.0 yes), λ either. k.1 (of either))) h
+  where
+    of : (slice_get es i ≡ Some unknown) ⊎ IsBadNodeLine es i → IsBadNodeLine es i
+    of (inl none) = let both : Some unknown ≡ Some (says x) = sym none ∙ is in absurd (let f : ⊥ = cc in f)
+    of (inr bad) = bad
 
-  pub listed_again : place_in k (edge_names (around es (suc i))) ≡ Some (length (edge_names (earlier es i))) → ¬ (Lists (earlier es i) k)
-  listed_again h l = not_before k (edge_names (earlier es i)) (edge_names (up_to_node (drop (suc i) es))) (ap (place_in k) (sym names_of_node) ∙ h) (is_listed (earlier es i) k l)
+-- the root of a file without a bad line
+pub root_told : {E : Type 0} (bytes : List ℕ) (es : List EntryValue) → HasNoBad (IsBadLine bytes es) → (i : ℕ) → IsNth es 1 i → (r : Result (Option Name) E) → IfOk r (IsReadRoot (IsRootAt bytes i)) → IfOk r (λ o. MatchOption o (count_by is_counted es < 2) (λ w. IsNode es w × NamesRoot bytes es w))
+root_told bytes es sound i n r h = IfOk-weaker r (IsReadRoot (IsRootAt bytes i)) (λ o. MatchOption o (count_by is_counted es < 2) (λ w. IsNode es w × NamesRoot bytes es w)) by h
+  where
+    by : (o : Option Name) → IsReadRoot (IsRootAt bytes i) o → MatchOption o (count_by is_counted es < 2) (λ w. IsNode es w × NamesRoot bytes es w)
+    by None none = absurd (sound i (no_root n none))
+    by (Some w) root = (is_node es w (λ no_node. sound i (names_no_node n root no_node)), record { place = i; second = n; root = root })
 
-  pub twice_listed : (place_in k (edge_names (around es (suc i))) ≡ Some (length (edge_names (earlier es i))) → ⊥) → Lists (earlier es i) k
-  twice_listed h = go (place_in k (edge_names (earlier es i))) refl
-    where
-      go : (o : Option ℕ) → place_in k (edge_names (earlier es i)) ≡ o → Lists (earlier es i) k
-      go (Some p) e = lists (earlier es i) k (there k (edge_names (earlier es i)) p e)
-      go None e = absurd (h (listed_first (λ l. not_there k (edge_names (earlier es i)) e (is_listed (earlier es i) k l))))
-
--- ---- tests and what they tell
-
-pub unequal : (n m : ℕ) → (n ≡ m → ⊥) → (n == m) ≡ false
-unequal n m h = grind (arith, nat_tests)
-
-pub equal : (n m : ℕ) → (n == m) ≡ true → n ≡ m
-equal n m h = grind (arith, nat_tests)
-
-pub equals : (n m : ℕ) → n ≡ m → (n == m) ≡ true
-equals n m h = grind (arith, nat_tests)
-
-pub reached : (n m : ℕ) → n ≤ m → nat_le n m ≡ true
-reached n m h = grind (arith, nat_tests)
-
-pub not_reached : (n m : ℕ) → m < n → nat_le n m ≡ false
-not_reached n m h = grind (arith, nat_tests)
-
--- a test that is turned
-pub turned : {P : Type 0} (b : Bool) → (IsTrue b → ¬ P) → (¬ (IsTrue b) → P) → (IsTrue (not b) → P) × (P → IsTrue (not b))
-turned true h k = (λ f. absurd (true≢false (sym f)), λ p. absurd (h refl p))
-turned false h k = (λ f. k (λ z. true≢false (sym z)), λ p. refl)
-
-pub always : {P : Type 0} → P → (IsTrue true → P) × (P → IsTrue true)
-always p = (λ t. p, λ q. refl)
-
-pub never : {P : Type 0} → ¬ P → (IsTrue false → P) × (P → IsTrue false)
-never no_p = (λ f. absurd (true≢false (sym f)), λ p. absurd (no_p p))
-
--- ---- where lines may stand
-
-module _ (es : List EntryValue) (i : ℕ) (x : ItemValue) (is : Says es i x) (inside : is_inside x ≡ true) (third : is_placed (lines_before es i) x ≡ nat_le 2 (lines_before es i)) where
-  pub bad_outside : IsOutside es i → IsBadLine es i
-  bad_outside (inl few) = misplaced is (third ∙ not_reached 2 (lines_before es i) few)
-  bad_outside (inr none) = in_no_node is inside none
-
-  pub good_inside : ¬ (IsOutside es i) → ((w : Name) → named x ≡ Some w → IsNode es w) → GoodRest es i x → IsGood es i x
-  good_inside not_out names rest = record {
-    placed = third ∙ reached 2 (lines_before es i) (two (λ few. not_out (inl few)));
-    housed = λ t none. not_out (inr none);
-    names = names;
-    rest = rest;
-  }
-    where
-      two : ¬ (lines_before es i < 2) → 2 ≤ lines_before es i
-      two many = omega arith
-
-pub one_name : (P : Name → Type 0) (v : Name) → P v → (w : Name) → Some v ≡ Some w → P w
-one_name P v p w e = let same : v ≡ w = cc in subst P same p
-
--- ---- tables
-
-module _ (table : Option ℕ) (q : Name) (names : List Name) (is : table ≡ place_in q names) where
-  pub found : IsTrue (is_some table) → Contains names q
-  found some = go table refl some
-    where
-      go : (o : Option ℕ) → table ≡ o → IsTrue (is_some o) → Contains names q
-      go None e some = let f : ⊥ = true≢false (sym some) in absurd f
-      go (Some p) e some = there q names p (sym is ∙ e)
-
-  pub findable : Contains names q → IsTrue (is_some table)
-  findable c = go table refl
-    where
-      go : (o : Option ℕ) → table ≡ o → IsTrue (is_some o)
-      go None e = absurd (not_there q names (sym is ∙ e) c)
-      go (Some p) e = refl
-
-pub refuted : IsTrue false → ⊥
-refuted f = true≢false (sym f)
+pub few_next : (n r : ℕ) (b : Bool) → r ≡ from_bool b → n ≤ 1 → (b ≡ true → n ≡ 1 → ⊥) → n + r ≤ 1
+few_next zero r true is few apart = omega arith
+few_next (suc n) r true is few apart = absurd (apart refl (omega arith))
+few_next n r false is few apart = omega arith

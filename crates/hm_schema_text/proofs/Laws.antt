@@ -1,43 +1,64 @@
--- The laws of schema files: of one schema, with one first bad line, and never both.
-use Rattle.std.proofs.Common.{◌≡◌, ℕ, ◌+◌, ◌<◌, List, length, ap, subst, ◌∙◌, arith, count_by}
+-- The laws of schema files: reading one comes to one thing alone.
+use Rattle.std.proofs.Common.{◌≡◌, ℕ, ◌<◌, List, [], ◌∷◌, length, count_by, Result, Ok, Err, ap, subst, ◌∙◌, arith}
+use Rattle.hm_tree.specs.Names.{Name}
 use Rattle.hm_schema.specs.Values.{SchemaValue}
 use Rattle.hm_schema.specs.Membership.{HasNoTwins}
-use Rattle.hm_schema_text.specs.Entries.{EntryValue}
-use Rattle.hm_schema_text.specs.BadLines.{is_counted, IsBadLine, IsFirstBad, IsFirstBadLine, at, missing}
-use Rattle.hm_schema_text.specs.SchemaFiles.{IsSchemaOf, IsSchemaFile}
-use Rattle.hm_schema_text.proofs.Declared.{same_nodes, same_root, no_twins}
-use Rattle.hm_schema_text.proofs.Once.{file_once}
+use Rattle.hm_node_lines.specs.Entries.{EntryValue}
+use Rattle.hm_node_lines.specs.BadLines.{is_counted}
+use Rattle.hm_node_lines.specs.FirstBad.{IsTold, at, behind_all}
+use Rattle.hm_node_lines.specs.Nodes.{IsPlaceOf, AreNodesOf}
+use Rattle.hm_node_lines.proofs.Once.{entries_once}
+use Rattle.hm_node_lines.proofs.Declared.{more_before, counted_below, nodes_once, place_once, no_twins}
+use Rattle.hm_node_lines.proofs.FirstBad.{told_once}
+use Rattle.hm_schema_text.specs.Head.{IsNth, NamesRoot, IsRootAt}
+use Rattle.hm_schema_text.specs.BadLines.{IsBadLine, of_node, IsFirstBadLine}
+use Rattle.hm_schema_text.specs.SchemaFiles.{IsSchemaFile, ReadsSchema}
+use Rattle.hm_schema_text.specs.declared.fault.SchemaFault.{SchemaFault}
+use Rattle.hm_schema_text.specs.declared.fault.SchemaFault.TheVariants.{BadSchema, Memory}
+use Rattle.hm_schema_text.proofs.Judging.{root_once}
 
--- ---- first bad lines
+-- ---- the second line
 
-first_once : (es : List EntryValue) (i j : ℕ) → IsFirstBad es i → IsFirstBad es j → i ≡ j
-first_once es i j h k = omega (arith, not_before es i j h k, not_before es j i k h)
-  where
-    not_before : (es : List EntryValue) (i j : ℕ) → IsFirstBad es i → IsFirstBad es j → ¬ (i < j)
-    not_before es i j h k below = k.first i below h.bad
+-- fewer lines are counted before an earlier one
+not_before : (es : List EntryValue) (n i j : ℕ) → IsNth es n i → IsNth es n j → ¬ (i < j)
+not_before es n i j h k below = let more = more_before is_counted es i j h.entry h.is h.counted below in omega (arith, h.before, k.before)
 
-line_of : (es fs : List EntryValue) (i j : ℕ) → es ≡ fs → IsFirstBad es i → IsFirstBad fs j → i + 1 ≡ j + 1
-line_of es fs i j same h k = ap (λ n. n + 1) (first_once fs i j (subst (λ z. IsFirstBad z i) same h) k)
+root_name_once : (bytes : List ℕ) (es : List EntryValue) (w v : Name) → NamesRoot bytes es w → NamesRoot bytes es v → w ≡ v
+root_name_once bytes es w v h k =
+    let place : k.place ≡ h.place = omega (arith, not_before es 1 h.place k.place h.second k.second, not_before es 1 k.place h.place k.second h.second) in
+    root_once bytes h.place w v h.root (subst (λ i. IsRootAt bytes i v) place k.root)
+
+-- ---- what is told, and the schema
 
 pub line_once : (bytes : List ℕ) (a b : ℕ) → IsFirstBadLine bytes a → IsFirstBadLine bytes b → a ≡ b
-line_once bytes a b (at {es = es} {i = i} f h) (at {es = fs} {i = j} g k) = line_of es fs i j (file_once bytes es fs f g) h k
-line_once bytes a b (at {es = es} {i = i} f h) (missing {es = fs} g none few) = absurd (none i (subst (λ z. IsBadLine z i) (file_once bytes es fs f g) h.bad))
-line_once bytes a b (missing {es = es} f none few) (at {es = fs} {i = j} g k) = absurd (none j (subst (λ z. IsBadLine z j) (file_once bytes fs es g f) k.bad))
-line_once bytes a b (missing {es = es} f none few) (missing {es = fs} g none2 few2) = ap (λ z. length z + 1) (file_once bytes es fs f g)
+line_once bytes a b h k =
+    told_once (IsBadLine bytes h.entries) (count_by is_counted h.entries < 2) (length h.entries) a b h.told
+    (subst (λ es. IsTold (IsBadLine bytes es) (count_by is_counted es < 2) (length es) b) (entries_once bytes k.entries h.entries k.read h.read) k.told)
 
 pub schema_no_line : (bytes : List ℕ) (s : SchemaValue) (line : ℕ) → IsSchemaFile bytes s → IsFirstBadLine bytes line → ⊥
-schema_no_line bytes s line h (at {es = es} {i = i} f k) = h.sound i (subst (λ z. IsBadLine z i) (file_once bytes es h.entries f h.file) k.bad)
-schema_no_line bytes s line h (missing {es = es} f none few) =
-    let same : count_by is_counted es ≡ count_by is_counted h.entries = ap (count_by is_counted) (file_once bytes es h.entries f h.file) in
-    omega (arith, same, few, h.head)
-
--- ---- the schema of a file
+schema_no_line bytes s line h k = go line (subst (λ es. IsTold (IsBadLine bytes es) (count_by is_counted es < 2) (length es) line) (entries_once bytes k.entries h.entries k.read h.read) k.told)
+  where
+    go : (n : ℕ) → IsTold (IsBadLine bytes h.entries) (count_by is_counted h.entries < 2) (length h.entries) n → ⊥
+    go _ (at {i} first) = h.sound i first.bad
+    go _ (behind_all none few) = let n = h.named.second in let more = counted_below is_counted h.entries h.named.place n.entry n.is n.counted in let one = n.before in omega arith
 
 pub schema_once : (bytes : List ℕ) (s t : SchemaValue) → IsSchemaFile bytes s → IsSchemaFile bytes t → s ≡ t
 schema_once bytes s t h k =
-    let schema = subst (λ z. IsSchemaOf z t) (file_once bytes k.entries h.entries k.file h.file) k.schema in
-    ap (λ z. record { nodes = z; root = s.root }) (same_nodes h.entries s t h.schema schema)
-    ∙ ap (λ z. record { nodes = t.nodes; root = z }) (same_root h.entries s t h.schema schema h.sound h.head)
+    let es = h.entries in
+    let same = entries_once bytes k.entries es k.read h.read in
+    let name = root_name_once bytes es k.name h.name (subst (λ z. NamesRoot bytes z k.name) same k.named) h.named in
+    let nodes = subst (λ w. AreNodesOf es (w ∷ []) t.nodes) name (subst (λ z. AreNodesOf z (k.name ∷ []) t.nodes) same k.nodes) in
+    let root = subst (λ (w : Name). IsPlaceOf es w t.root.place) name (subst (λ z. IsPlaceOf z k.name t.root.place) same k.root) in
+    ap (λ z. record { nodes = z; root = s.root }) (nodes_once es (h.name ∷ []) s.nodes t.nodes h.nodes nodes)
+    ∙ ap (λ p. record { nodes = t.nodes; root = record { place = p } }) (place_once es (λ i bad. h.sound i (of_node bad)) h.name s.root.place t.root.place h.root root)
 
 pub schema_no_twins : (bytes : List ℕ) (s : SchemaValue) → IsSchemaFile bytes s → HasNoTwins s
-schema_no_twins bytes s h = no_twins h.entries s h.schema
+schema_no_twins bytes s h i n is = no_twins h.entries (h.name ∷ []) s.nodes h.nodes i.place n is
+
+pub schema_reads_once : (bytes : List ℕ) (r s : Result SchemaValue SchemaFault) → ReadsSchema bytes r → ReadsSchema bytes s → r ≡ s
+schema_reads_once bytes (Ok s) (Ok t) h k = ap (λ (z : SchemaValue). Ok z) (schema_once bytes s t h k)
+schema_reads_once bytes (Ok s) (Err (BadSchema line)) h k = absurd (schema_no_line bytes s line h k)
+schema_reads_once bytes (Err (BadSchema line)) (Ok s) h k = absurd (schema_no_line bytes s line k h)
+schema_reads_once bytes (Err (BadSchema line)) (Err (BadSchema other)) h k = ap (λ (z : ℕ). Err (BadSchema z)) (line_once bytes line other h k)
+schema_reads_once bytes (Err Memory) s h k = absurd h
+schema_reads_once bytes r (Err Memory) h k = absurd k

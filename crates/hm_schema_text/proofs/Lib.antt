@@ -1,21 +1,3 @@
-pub mod Words
-pub mod Tokens
-pub mod Counts
-pub mod Items
-pub mod Shapes
-pub mod Entries
-pub mod Once
-pub mod Sections
-pub mod Made
-pub mod Places
-pub mod Counted
-pub mod Doubles
-pub mod Judging
-pub mod Declared
-pub mod Named
-pub mod Building
-pub mod NodesOf
-pub mod WellFormed
-pub mod Files
-pub mod FirstBad
 pub mod Laws
+mod Judging
+mod Files

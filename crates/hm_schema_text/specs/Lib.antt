@@ -1,12 +1,3 @@
-pub mod Tokens
-pub mod Reading
-pub mod Counts
-pub mod Items
-pub mod Entries
+pub mod Head
 pub mod BadLines
-pub mod Firsts
-pub mod Sections
-pub mod Counting
 pub mod SchemaFiles
-pub mod Building
-pub mod Judging

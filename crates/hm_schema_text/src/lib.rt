@@ -1,26 +1,22 @@
-//! The text of schema files.
+//! The text of schema files: reading.
+//!
+//! ```text
+//! file     = *skipped header *skipped root *( skipped / a line of a node )
+//! header   = "harmony" gap "schema" gap "1"
+//! root     = "root" gap word
+//! ```
+//!
+//! Each stands on a line of its own, as `hm_node_lines` says of the others. So the first two lines that aren't skipped
+//! are this file's own, and all behind them are of nodes. A file is read as entries, which are judged one after another,
+//! up to the first bad one; where none is bad and the head is there, the entries describe the schema.
 #![tactic(auto)]
 
-mod before;
-mod build;
-mod count;
-mod entry;
 mod fault;
-#[cfg(test)]
-mod file_tests;
-mod firsts;
-mod item;
+mod head;
 mod judge;
-mod names;
 mod read;
-mod section;
 #[cfg(test)]
 mod tests;
-mod token;
 
-pub use count::Count;
-pub use entry::{Entry, read_entries};
 pub use fault::SchemaFault;
-pub use item::{Item, ShapeLine, read_item};
 pub use read::read_schema;
-pub use token::{Token, read_tokens};

@@ -1,107 +1,253 @@
-//! Files, and what each of their lines is read as.
-use crate::{Count, Entry, Item, read_entries, read_item};
+use crate::fault::SchemaFault;
+use crate::read::read_schema;
 use std::alloc::Global;
-use std::mem::size_of;
 use std::process::Abort;
 use std::test::Fail;
 
-// One letter for each line: s where it is skipped, u where it says nothing, and else the first letter of its item.
-fn letter(entry: &Entry) -> u8 {
-    match entry.item() {
-        None if matches!(entry, Entry::Skipped) => b's',
-        None => b'u',
-        Some(Item::Header) => b'h',
-        Some(Item::Root(_)) => b'r',
-        Some(Item::Node(_)) => b'n',
-        Some(Item::Edge(_, _)) => b'e',
-        Some(Item::Other(_, _)) => b'o',
-        Some(Item::Shape(_)) => b'x',
-    }
-}
-
-fn expect_lines(rt: &impl Abort, alloc: Global, bytes: &[u8], want: &[u8]) -> Result<(), Fail> {
-    let mut letters = Vec::new(alloc);
-    for entry in &read_entries(alloc, bytes)? {
-        letters.push(letter(entry))?;
-    }
-    assert_eq!(rt; letters.as_slice(), want);
-    Ok(())
-}
-
 const BOOK: &str =
-    "harmony schema 1\nroot Book\nnode Book\n  other filled Cards\n  shape + 0..\nnode Cards\n  edge *h Card\n  edge \"a b\" More\n  shape *h \"a b\" ? c\nnode More\n  shape\n";
+    "harmony schema 1\nroot Book\nnode Book\n  other filled Cards\n  shape + 0..\nnode Cards\n  edge *h Card\n  edge *t More\n  shape *h *t\nnode More\n  edge *h Card\n  edge *t More\n  shape\n  shape *h *t\nnode Card\n  edge BDAY Day\n  shape ? BDAY\nnode Day\n  other filled Empty\n  shape + 1..1\n";
 
-#[test]
-fn lines_of_a_book(rt: HostRuntime) -> Result<(), Fail> {
-    expect_lines(&rt, rt.alloc(), BOOK.as_bytes(), b"hrnoxneexnx")
-}
-
-#[test]
-fn line_ends_and_skipped_lines(rt: HostRuntime) -> Result<(), Fail> {
-    let alloc = rt.alloc();
-    expect_lines(&rt, alloc, b"", b"")?;
-    expect_lines(&rt, alloc, b"\n\r\n   \n# one\n#\xff", b"sssss")?;
-    expect_lines(&rt, alloc, b"harmony schema 1\r\nroot A\r\n", b"hr")?;
-    expect_lines(&rt, alloc, b"node A\r", b"u")?;
-    expect_lines(&rt, alloc, b"\t\n #", b"uu")
-}
-
-#[test]
-fn lines_that_say_nothing(rt: HostRuntime) -> Result<(), Fail> {
-    let alloc = rt.alloc();
-    expect_lines(&rt, alloc, b"harmony schema 2\n", b"u")?;
-    expect_lines(&rt, alloc, b" root A\nroot A \nroot\nroot A B", b"uuuu")?;
-    expect_lines(
-        &rt,
-        alloc,
-        b"edge a A\n edge a A\n   edge a A\n  edge a",
-        b"uuuu",
-    )?;
-    expect_lines(&rt, alloc, b"  other all A\n  other any \"A\"", b"uu")?;
-    expect_lines(
-        &rt,
-        alloc,
-        b"  shape + 01..\n  shape + 1.2\n  shape ? ?",
-        b"uuu",
-    )?;
-    expect_lines(&rt, alloc, b"  edge \"\xff\" A\nnode \xff", b"uu")?;
-    expect_lines(&rt, alloc, b"  shape + 18446744073709551616..", b"u")
-}
-
-fn expect_count(rt: &impl Abort, alloc: Global, line: &[u8], want: Count) -> Result<(), Fail> {
-    match read_item(alloc, line)? {
-        Some(Item::Shape(shape)) => {
-            assert_eq!(rt; shape.count.least, want.least);
-            assert_eq!(rt; shape.count.most, want.most);
-            Ok(())
-        }
-        _ => Err("no shape is read")?,
+// The first bad line; 0 where there is none, and 1,000,000 for want of memory.
+fn first_bad_line(alloc: Global, bytes: &[u8]) -> usize {
+    match read_schema(alloc, bytes) {
+        Ok(_) => 0,
+        Err(SchemaFault::BadSchema { line }) => line,
+        Err(SchemaFault::Memory) => 1_000_000,
     }
 }
 
+fn expect_line(rt: &impl Abort, alloc: Global, text: &str, line: usize) {
+    assert_eq!(rt; first_bad_line(alloc, text.as_bytes()), line, "{text}");
+}
+
 #[test]
-fn an_entry_takes_two_words(rt: HostRuntime) -> Result<(), Fail> {
-    assert_eq!(&rt; size_of::<Entry>(), 16);
+fn reads_the_example(rt: HostRuntime) -> Result<(), Fail> {
+    let schema = match read_schema(rt.alloc(), BOOK.as_bytes()) {
+        Ok(schema) => schema,
+        Err(_) => return Err("the example isn't read".into()),
+    };
+    assert_eq!(rt; schema.root().place, 0);
     Ok(())
 }
 
 #[test]
-fn counts(rt: HostRuntime) -> Result<(), Fail> {
+fn heads(rt: HostRuntime) {
     let alloc = rt.alloc();
-    let none = Count {
-        least: 0,
-        most: Some(0),
-    };
-    expect_count(&rt, alloc, b"  shape", none)?;
-    expect_count(&rt, alloc, b"  shape a ?", none)?;
-    let some = Count {
-        least: 2,
-        most: None,
-    };
-    expect_count(&rt, alloc, b"  shape a ? b + 2..", some)?;
-    let most = Count {
-        least: 0,
-        most: Some(18_446_744_073_709_551_615),
-    };
-    expect_count(&rt, alloc, b"  shape + 0..18446744073709551615", most)
+    expect_line(&rt, alloc, BOOK, 0);
+    expect_line(&rt, alloc, "", 1);
+    expect_line(&rt, alloc, "harmony schema 2\n", 1);
+    expect_line(&rt, alloc, "harmony schema 1", 2);
+    expect_line(&rt, alloc, "harmony schema 1\nroot Empty", 0);
+    expect_line(&rt, alloc, "harmony schema 1\r\nroot Empty\r\n", 0);
+    expect_line(&rt, alloc, "harmony schema 1\nroot Empty\r", 2);
+    expect_line(
+        &rt,
+        alloc,
+        "# one\n\n   \nharmony schema 1\n#two\nroot Empty\n# three",
+        0,
+    );
+    expect_line(&rt, alloc, "# one\n", 2);
+    expect_line(&rt, alloc, "\t\nharmony schema 1\nroot Empty\n", 1);
+    expect_line(
+        &rt,
+        alloc,
+        "harmony schema 1\nharmony schema 1\nroot Empty\n",
+        2,
+    );
+    expect_line(&rt, alloc, "harmony schema 1\nroot Empty\nroot Empty\n", 3);
+    expect_line(&rt, alloc, "harmony schema 1\nroot Empty \n", 2);
+    expect_line(&rt, alloc, "harmony schema 1\nroot A\n", 2);
+    expect_line(&rt, alloc, "root A\nharmony schema 1\n", 1);
+    expect_line(&rt, alloc, "harmony schema 1\nroot Empty\n  shape\n", 3);
+}
+
+#[test]
+fn bytes_that_are_no_text(rt: HostRuntime) {
+    assert_eq!(rt;
+        first_bad_line(rt.alloc(), b"#\xff\nharmony schema 1\nroot Empty\n"),
+        0
+    );
+    assert_eq!(rt;
+        first_bad_line(rt.alloc(), b"harmony schema 1\nroot Empty\n\xff\n"),
+        3
+    );
+    assert_eq!(rt;
+        first_bad_line(
+            rt.alloc(),
+            b"harmony schema 1\nroot A\nnode A\n  shape \"\xff\"\n  shape\n"
+        ),
+        4
+    );
+}
+
+#[test]
+fn nodes(rt: HostRuntime) {
+    let alloc = rt.alloc();
+    expect_line(
+        &rt,
+        alloc,
+        "harmony schema 1\nroot A\nnode A\n  shape\nnode A\n  shape\n",
+        5,
+    );
+    expect_line(
+        &rt,
+        alloc,
+        "harmony schema 1\nroot A\nnode A\nnode B\n  shape\n",
+        3,
+    );
+    expect_line(
+        &rt,
+        alloc,
+        "harmony schema 1\nroot A\nnode A\n  shape\nnode Empty\n  shape\n",
+        5,
+    );
+    expect_line(
+        &rt,
+        alloc,
+        "harmony schema 1\nroot A\nnode A\n  edge x B\n  shape x\n",
+        4,
+    );
+    expect_line(
+        &rt,
+        alloc,
+        "harmony schema 1\nroot A\nnode A\n  other any B\n  shape + 0..\n",
+        4,
+    );
+    expect_line(
+        &rt,
+        alloc,
+        "harmony schema 1\nroot A\nnode A\n  edge x A\n  edge \"x\" A\n  shape x\n",
+        5,
+    );
+    expect_line(
+        &rt,
+        alloc,
+        "harmony schema 1\nroot A\nnode A\n  other any A\n  other clean A\n  shape + 0..\n",
+        5,
+    );
+    expect_line(
+        &rt,
+        alloc,
+        "harmony schema 1\nroot A\nnode A\n  other most A\n  shape + 0..\n",
+        4,
+    );
+    expect_line(
+        &rt,
+        alloc,
+        "harmony schema 1\nroot A\nnode A\n   shape\n",
+        3,
+    );
+    expect_line(
+        &rt,
+        alloc,
+        "harmony schema 1\nroot A\nnode A\n shape\n  shape\n",
+        4,
+    );
+    expect_line(
+        &rt,
+        alloc,
+        "harmony schema 1\nroot A\nnode A\n  shape \n  shape\n",
+        4,
+    );
+}
+
+#[test]
+fn shapes(rt: HostRuntime) {
+    let alloc = rt.alloc();
+    expect_line(
+        &rt,
+        alloc,
+        "harmony schema 1\nroot A\nnode A\n  shape x\n",
+        4,
+    );
+    expect_line(
+        &rt,
+        alloc,
+        "harmony schema 1\nroot A\nnode A\n  shape x ? \"y z\"\n  edge x Empty\n  edge \"y z\" Empty\n",
+        0,
+    );
+    expect_line(
+        &rt,
+        alloc,
+        "harmony schema 1\nroot A\nnode A\n  shape x ?\n  edge x Empty\n",
+        0,
+    );
+    expect_line(
+        &rt,
+        alloc,
+        "harmony schema 1\nroot A\nnode A\n  shape x x\n  edge x Empty\n",
+        4,
+    );
+    expect_line(
+        &rt,
+        alloc,
+        "harmony schema 1\nroot A\nnode A\n  shape x ? x\n  edge x Empty\n",
+        4,
+    );
+    expect_line(
+        &rt,
+        alloc,
+        "harmony schema 1\nroot A\nnode A\n  shape x\nnode B\n  edge x Empty\n  shape\n",
+        4,
+    );
+    expect_line(
+        &rt,
+        alloc,
+        "harmony schema 1\nroot A\nnode A\n  other any A\n  shape + 2..1\n",
+        5,
+    );
+    expect_line(
+        &rt,
+        alloc,
+        "harmony schema 1\nroot A\nnode A\n  other any A\n  shape + 1..\n",
+        0,
+    );
+    expect_line(
+        &rt,
+        alloc,
+        "harmony schema 1\nroot A\nnode A\n  other any A\n  shape + 01..2\n  shape\n",
+        5,
+    );
+    expect_line(
+        &rt,
+        alloc,
+        "harmony schema 1\nroot A\nnode A\n  other any A\n  shape + 0..18446744073709551615\n",
+        0,
+    );
+    expect_line(
+        &rt,
+        alloc,
+        "harmony schema 1\nroot A\nnode A\n  other any A\n  shape + 0..18446744073709551616\n  shape\n",
+        5,
+    );
+    expect_line(
+        &rt,
+        alloc,
+        "harmony schema 1\nroot A\nnode A\n  shape + 0..1\n",
+        4,
+    );
+    expect_line(
+        &rt,
+        alloc,
+        "harmony schema 1\nroot A\nnode A\n  shape + 0..0\n",
+        0,
+    );
+    expect_line(
+        &rt,
+        alloc,
+        "harmony schema 1\nroot A\nnode A\n  shape + 0...0\n  shape\n",
+        4,
+    );
+}
+
+#[test]
+fn faults_are_told(rt: HostRuntime) -> Result<(), Fail> {
+    let alloc = rt.alloc();
+    for (fault, want) in [
+        (SchemaFault::BadSchema { line: 3 }, "line 3 is bad"),
+        (SchemaFault::Memory, "there was no memory"),
+    ] {
+        assert_eq!(&rt; format!(in alloc; "{fault}")?.as_str(), want);
+    }
+    Ok(())
 }

@@ -1,0 +1,13 @@
+pub mod Tokens
+pub mod Reading
+pub mod Counts
+pub mod NodeLines
+pub mod Entries
+pub mod BadLines
+pub mod FirstBad
+pub mod Firsts
+pub mod Sections
+pub mod Counting
+pub mod Nodes
+pub mod Building
+pub mod Judging

@@ -1,0 +1,43 @@
+//! The lines of nodes, which schema files and lens files have alike.
+//!
+//! ```text
+//! skipped  = *" "  /  "#" and whatever follows
+//! node     = "node" gap word
+//! edge     = "  edge" gap edgename gap word
+//! other    = "  other" gap class gap word
+//! shape    = "  shape" *( gap edgename ) [ gap "?" *( gap edgename ) ] [ gap "+" gap number ".." [ number ] ]
+//! gap      = 1*" "
+//! word     = 1*( "A" to "Z" / "a" to "z" / "0" to "9" / "_" / "-" / "." / "*" )
+//! edgename = word / name                         name: as `hm_tree::append_spelled` spells it
+//! class    = "any" / "clean" / "filled" / "trimmed" / "folded"
+//! number   = decimal, without leading zeros, below 2 to the power of 64
+//! ```
+//!
+//! Each stands on a line of its own, and the lines up to the next `node` are of the node. Each line is read by itself,
+//! as an entry; one that is neither skipped nor of this grammar is unknown here, and the file has to know it. A file
+//! walks through its entries with the counts of what stands before (`Before`) and of what the node holds (`Section`),
+//! by which a line is judged in constant time for each of its tokens. Where none is bad, the entries describe nodes, in
+//! the order of their lines, and the node `Empty` behind them where a line of the file names it.
+#![tactic(auto)]
+
+mod before;
+mod build;
+mod count;
+mod entry;
+mod firsts;
+mod judge;
+mod names;
+mod node_line;
+mod section;
+#[cfg(test)]
+mod tests;
+mod token;
+
+pub use before::{Before, is_counted};
+pub use build::{build_nodes, node_of};
+pub use count::Count;
+pub use entry::{Entry, read_entries};
+pub use judge::{Line, declared_nodes, is_bad_line, is_node};
+pub use node_line::{NodeLine, ShapeLine, read_node_line};
+pub use section::{Section, read_section, section_at};
+pub use token::{Token, lone_word, read_tokens};

@@ -1,0 +1,11 @@
+use Rattle.std.proofs.Common.{Some, ap, ◌∙◌}
+use Rattle.hm_node_lines.specs.Entries.{entry_value}
+use Rattle.hm_node_lines.specs.Judging.{lines_of}
+use Rattle.hm_node_lines.proofs.Made.{entry_at}
+use Rattle.hm_schema_text.proofs.Judging.{node_told}
+use Rattle.hm_schema_text.proofs.judge.is_bad_later.Goals as goal
+
+pub returns-in-Says : goal.returns-in-Says
+returns-in-Says c =
+    let says = entry_at c.args.line.now.entries.now c.args.line.now.place c.index-line-line.result c.requires.place c.index-line-line.is in
+    node_told (lines_of c.args.line.now) c.args.line.now.place _ (says ∙ ap (λ e. Some (entry_value e)) (c.index-line-line.is ∙ c.in-Says.is)) c.is_bad_line.result c.is_bad_line.ensures
