@@ -1,5 +1,7 @@
 -- Names that stand twice.
-use Rattle.std.proofs.Common.{◌≡◌, ℕ, zero, suc, ◌+◌, ◌<◌, ◌≤◌, true, false, List, [], ◌∷◌, ◌++◌, length, take, Option, Some, None, is_some, refl, sym, ap, ◌∙◌, slice_get, arith, add-one}
+use Rattle.std.proofs.Common.{◌≡◌, ℕ, ◌+◌, ◌<◌, ◌≤◌, true, false, List, [], ◌∷◌, ◌++◌, length, take, Option, Some, None, is_some, refl, sym, ap, ◌∙◌, slice_get, arith, add-one}
+use Rattle.std.proofs.lemmas.Grind.{common_steps}
+use Rattle.std.proofs.lemmas.Option.{gets}
 use Rattle.std.specs.BTreeMap.{BTreeMap, get_by_text}
 use Rattle.std.specs.Prelude.{String}
 use Rattle.std.specs.declared.alloc.Global.{Global}
@@ -14,11 +16,7 @@ use Rattle.hm_node_lines.proofs.Places.{place_next, name_at, name_nowhere}
 -- ---- names that stand twice
 
 taken : (ns : List Name) (n i : ℕ) → i < n → slice_get (take n ns) i ≡ slice_get ns i
-taken [] zero i below = refl
-taken [] (suc n) i below = refl
-taken (m ∷ ns) zero i below = absurd (omega arith)
-taken (m ∷ ns) (suc n) zero below = refl
-taken (m ∷ ns) (suc n) (suc i) below = taken ns n i (omega arith)
+taken ns n i below = grind (arith, common_steps, gets)
 
 -- a table of the names at the front, of which none stands twice
 pub record AreSingle (names : List Name) (table : BTreeMap (String Global) ℕ) (n : ℕ) : Type 0 where

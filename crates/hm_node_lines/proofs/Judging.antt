@@ -165,9 +165,6 @@ module _ (es : List EntryValue) (i : ℕ) (k w : Name) (is : Says es i (edge k w
 
 -- ---- tests and what they tell
 
-pub equal : (n m : ℕ) → (n == m) ≡ true → n ≡ m
-equal n m h = grind (arith, nat_tests)
-
 pub equals : (n m : ℕ) → n ≡ m → (n == m) ≡ true
 equals n m h = grind (arith, nat_tests)
 

@@ -1,16 +1,17 @@
-pub mod Tokens
-pub mod NodeLines
-pub mod Once
-pub mod Judging
-pub mod Declared
-pub mod WellFormed
-pub mod FirstBad
+pub mod Laws
+mod Tokens
+mod NodeLines
+mod Once
+mod Judging
+mod Declared
+mod WellFormed
+mod FirstBad
 mod Words
 mod Counts
 mod Shapes
 mod Entries
 mod Sections
-pub mod Made
+mod Made
 mod Places
 mod Counted
 mod Doubles

@@ -1,5 +1,7 @@
 -- The place of a name among the node lines.
-use Rattle.std.proofs.Common.{◌≡◌, inl, inr, ℕ, suc, List, [], ◌∷◌, ◌++◌, length, drop, Option, Some, None, refl, sym, ap, subst, ◌∙◌, arith, slice_get, take, count_by}
+use Rattle.std.proofs.Common.{◌≡◌, inl, inr, ℕ, suc, List, ◌∷◌, ◌++◌, length, drop, Option, Some, None, refl, sym, ap, subst, ◌∙◌, arith, slice_get, take, count_by}
+use Rattle.std.proofs.lemmas.Grind.{common_steps}
+use Rattle.std.proofs.lemmas.Option.{gets}
 use Rattle.std.specs.Prelude.{unwrap_or, String}
 use Rattle.std.specs.BTreeMap.{BTreeMap}
 use Rattle.std.specs.declared.alloc.Global.{Global}
@@ -26,8 +28,7 @@ record IsFirstLine (es : List EntryValue) (w : Name) (p : ℕ) : Type 0 where
   before : nodes_before es line ≡ p
 
 middle : (q : Name) (xs ys : List Name) (n : ℕ) → n ≡ length xs → slice_get (xs ++ q ∷ ys) n ≡ Some q
-middle q [] ys n is = ap (slice_get (q ∷ ys)) is
-middle q (x ∷ xs) ys n is = ap (slice_get (x ∷ xs ++ q ∷ ys)) is ∙ middle q xs ys (length xs) refl
+middle q xs ys n is = grind (arith, common_steps, gets)
 
 first_line : (w : Name) (es : List EntryValue) (p : ℕ) → place_in w (node_names es) ≡ Some p → IsFirstLine es w p
 first_line w es p h =

@@ -1,5 +1,7 @@
 -- The nodes that are built are those of the file.
-use Rattle.std.proofs.Common.{◌≡◌, inl, inr, ℕ, zero, suc, ◌+◌, ◌<◌, Bool, true, false, List, [], ◌∷◌, ◌++◌, length, get_or, Option, Some, None, refl, sym, ap, subst, ◌∙◌, arith, ◌-◌, add-one, slice_get, take, drop, filter_map, count_by}
+use Rattle.std.proofs.Common.{◌≡◌, inl, inr, ℕ, suc, ◌+◌, ◌<◌, Bool, true, false, List, [], ◌∷◌, ◌++◌, length, get_or, Option, Some, None, refl, sym, ap, subst, ◌∙◌, arith, ◌-◌, add-one, slice_get, take, drop, filter_map, count_by}
+use Rattle.std.proofs.lemmas.Grind.{common_steps}
+use Rattle.std.proofs.lemmas.Option.{gets}
 use Rattle.std.specs.Prelude.{codes, MatchBool, ◌↔◌, IsTrue}
 use Rattle.std.specs.List.{Contains, IsDistinct, HoldsAt, AllWithin}
 use Rattle.std.specs.FinMap.{find}
@@ -113,13 +115,10 @@ module _ (es : List EntryValue) (none : HasNoBad (IsBadNodeLine es)) (i : ℕ) (
 
 module _ {X : Type 0} (y : X) where
   kept : (xs : List X) (p : ℕ) (x : X) → slice_get xs p ≡ Some x → slice_get (xs ++ y ∷ []) p ≡ Some x
-  kept [] p x is = let no : ⊥ = cc in absurd no
-  kept (z ∷ xs) zero x is = is
-  kept (z ∷ xs) (suc p) x is = kept xs p x is
+  kept xs p x is = grind (arith, common_steps, gets)
 
   last : (xs : List X) → slice_get (xs ++ y ∷ []) (length xs) ≡ Some y
-  last [] = refl
-  last (z ∷ xs) = last xs
+  last xs = grind (arith, common_steps, gets)
 
 module _ (id : Name → NodeId) (es : List EntryValue) (ns : List NodeValue) (place : ℕ) (e : EntryValue) (is : slice_get es place ≡ Some e) (b : AreBuilt id es place ns) where
   read : (p : Bool) → begins_node e ≡ p → begins_node (get_or es place e) ≡ p

@@ -73,12 +73,12 @@ class_once c d h = sym (told c) ∙ ap (λ (w : List ℕ). class_told (second w)
 -- ---- kinds of lines
 
 -- the first letter of the first word tells the kind of a line
-abbrev pub first : List Token → ℕ
-first [] = 0
-first (Word w ∷ ts) = get_or w 0 0
-first (Quoted k ∷ ts) = 0
-first (Question ∷ ts) = 0
-first (Plus ∷ ts) = 0
+abbrev pub first_letter : List Token → ℕ
+first_letter [] = 0
+first_letter (Word w ∷ ts) = get_or w 0 0
+first_letter (Quoted k ∷ ts) = 0
+first_letter (Question ∷ ts) = 0
+first_letter (Plus ∷ ts) = 0
 
 abbrev letter : NodeLineValue → ℕ
 letter (node w) = 110
@@ -86,11 +86,11 @@ letter (edge k w) = 101
 letter (other c w) = 111
 letter (shape s) = 115
 
-first_is : (ts : List Token) (i : NodeLineValue) → AreItsTokens ts i → first ts ≡ letter i
-first_is ts (node w) h = ap first h
-first_is ts (edge k w) h = ap first h.2
-first_is ts (other c w) h = ap first h
-first_is ts (shape s) h = ap first h.1
+first_is : (ts : List Token) (i : NodeLineValue) → AreItsTokens ts i → first_letter ts ≡ letter i
+first_is ts (node w) h = ap first_letter h
+first_is ts (edge k w) h = ap first_letter h.2
+first_is ts (other c w) h = ap first_letter h
+first_is ts (shape s) h = ap first_letter h.1
 
 edge_once : (ts : List Token) (x y w v : Name) → AreItsTokens ts (edge x w) → AreItsTokens ts (edge y v) → edge x w ≡ edge y v
 edge_once ts x y w v h k =

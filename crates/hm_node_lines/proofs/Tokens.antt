@@ -1,10 +1,11 @@
 -- A line is its tokens in one way alone.
-use Rattle.std.proofs.Common.{◌≡◌, ◌≢◌, ◌⊎◌, inl, inr, ⊎_elim, ℕ, ◌+◌, ◌<◌, ◌≤◌, Bool, true, false, ◌&&◌, T, List, [], ◌∷◌, ◌++◌, length, take, drop, slice_get, Option, Some, None, Result, Ok, Err, refl, sym, ap, ◌∙◌, subst, arith, append_assoc}
+use Rattle.std.proofs.Common.{◌≡◌, ◌≢◌, ◌⊎◌, inl, inr, ⊎_elim, ℕ, ◌+◌, ◌<◌, ◌≤◌, Bool, true, false, T, List, [], ◌∷◌, ◌++◌, length, take, drop, slice_get, Option, Some, None, Result, Ok, Err, refl, sym, ap, ◌∙◌, subst, arith, append_assoc}
 use Rattle.std.specs.Prelude.{◌==◌, IsUtf8, IfOk}
 use Rattle.std.specs.List.{prefix_len, list_all}
 use Rattle.std.proofs.lemmas.List.{take-append-drop, length-take, length-drop}
 use mathlib.Core.List.{append-nil}
 use mathlib.Core.Bool.{true≢false}
+use Rattle.std.proofs.lemmas.Bool.{and_parts}
 use Rattle.std.proofs.lemmas.Bool.Decides.{nat_tests}
 use Rattle.std.proofs.lemmas.List.Sums.{prefix_len-le-length}
 use Rattle.hm_tree.specs.Names.{Name}
@@ -23,12 +24,9 @@ ends_stop (Quoted name) x h = tt
 ends_stop Question x h = tt
 ends_stop Plus x h = tt
 
-itself : (a : ℕ) → (a == a) ≡ true
-itself a = grind (arith, nat_tests)
-
 -- two different bytes
 apart : (a b : ℕ) → (a == b) ≡ false → a ≡ b → ⊥
-apart a b fails e = true≢false (sym (itself b) ∙ ap (λ z. z == b) (sym e) ∙ fails)
+apart a b fails e = grind (arith, nat_tests)
 
 -- a truth of T as an equation
 is_true : (b : Bool) → T b → b ≡ true
@@ -40,15 +38,8 @@ not_word : (w : Name) (x : List ℕ) (b : ℕ) (y : List ℕ) → (0 < length w)
 not_word [] x b y h fails e = absurd (omega (arith, h.0))
 not_word (c ∷ w) x b y h fails e =
     let byte : c ≡ b = cc in
-    let passes : is_word_byte c ≡ true = head c w (is_true _ h.1) in
+    let passes : is_word_byte c ≡ true = (and_parts (is_word_byte c) _ (is_true _ h.1)).0 in
     true≢false (sym passes ∙ ap is_word_byte byte ∙ fails)
-  where
-    head : (c : ℕ) (w : Name) → is_word (c ∷ w) ≡ true → is_word_byte c ≡ true
-    head c w h = pick (is_word_byte c) _ h
-      where
-        pick : (p q : Bool) → (p && q) ≡ true → p ≡ true
-        pick true q h = refl
-        pick false q h = absurd (true≢false (sym h))
 
 quoted_front : (name : Name) (x : List ℕ) → spelled name ++ x ≡ 34 ∷ (escaped name ++ 34 ∷ x)
 quoted_front name x = spelled-append name x

@@ -5,6 +5,7 @@ use Rattle.std.specs.List.{prefix_len, list_all}
 use Rattle.std.specs.Str.{IsAscii, IsUtf8}
 use Rattle.std.proofs.lemmas.Str.{IsUtf8-from_ascii}
 use mathlib.Core.Bool.{true≢false}
+use Rattle.std.proofs.lemmas.Bool.{and_parts}
 use Rattle.std.proofs.lemmas.Bool.Decides.{nat_tests}
 use Rattle.hm_node_lines.specs.Tokens.{is_word_byte, is_word, begins_word, AreSpaces, one, more}
 
@@ -51,14 +52,6 @@ begins_at (b ∷ bs) h = h b bs refl
 pub begins_back : (bs : List ℕ) → begins_word bs ≡ false → (c : ℕ) (rest : List ℕ) → bs ≡ c ∷ rest → is_word_byte c ≡ false
 begins_back bs h c rest e = sym (ap begins_word e) ∙ h
 
-and_first : (x y : Bool) → (x && y) ≡ true → x ≡ true
-and_first true y h = refl
-and_first false y h = absurd (true≢false (sym h))
-
-and_second : (x y : Bool) → (x && y) ≡ true → y ≡ true
-and_second true y h = h
-and_second false y h = absurd (true≢false (sym h))
-
 -- ---- words are text
 
 word_small : (b : ℕ) → is_word_byte b ≡ true → b < 128
@@ -67,8 +60,8 @@ word_small b e = grind (arith, nat_tests)
 word_ascii : (n : List ℕ) → is_word n ≡ true → IsAscii n
 word_ascii [] p zero = omega arith
 word_ascii [] p (suc i) = omega arith
-word_ascii (b ∷ n) p zero = word_small b (and_first (is_word_byte b) _ p)
-word_ascii (b ∷ n) p (suc i) = word_ascii n (and_second (is_word_byte b) _ p) i
+word_ascii (b ∷ n) p zero = word_small b ((and_parts (is_word_byte b) _ p).0)
+word_ascii (b ∷ n) p (suc i) = word_ascii n ((and_parts (is_word_byte b) _ p).1) i
 
 pub word_utf8 : (n : List ℕ) → is_word n ≡ true → IsUtf8 n
 word_utf8 n h = IsUtf8-from_ascii n (word_ascii n h)
@@ -80,9 +73,9 @@ space_is b e = grind (arith, nat_tests)
 
 pub spaces_are : (gap : List ℕ) → 0 < length gap → list_all (λ b. b == 32) gap ≡ true → AreSpaces gap
 spaces_are [] l h = absurd (omega arith)
-spaces_are (b ∷ []) l h = subst (λ (c : ℕ). AreSpaces (c ∷ [])) (sym (space_is b (and_first (b == 32) _ h))) one
+spaces_are (b ∷ []) l h = subst (λ (c : ℕ). AreSpaces (c ∷ [])) (sym (space_is b ((and_parts (b == 32) _ h).0))) one
 spaces_are (b ∷ c ∷ gap) l h =
-    subst (λ (d : ℕ). AreSpaces (d ∷ c ∷ gap)) (sym (space_is b (and_first (b == 32) _ h))) (more (spaces_are (c ∷ gap) (omega arith) (and_second (b == 32) _ h)))
+    subst (λ (d : ℕ). AreSpaces (d ∷ c ∷ gap)) (sym (space_is b ((and_parts (b == 32) _ h).0))) (more (spaces_are (c ∷ gap) (omega arith) ((and_parts (b == 32) _ h).1)))
 
 -- all bytes of a gap are spaces
 pub spaces_all : (gap : List ℕ) → AreSpaces gap → list_all (λ b. b == 32) gap ≡ true

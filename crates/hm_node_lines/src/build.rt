@@ -1,5 +1,5 @@
 //! The nodes that the lines of a file describe.
-ghost use Rattle.std.specs.Prelude.{◌≡◌, ◌≢◌, ◌↔◌, IsTrue, IfOk, MatchOption, map, length, [], codes, count_by, filter_map, option_copied};
+ghost use Rattle.std.specs.Prelude.{◌≡◌, ◌≢◌, ◌↔◌, IsTrue, IfOk, MatchOption, map, length, codes, count_by, filter_map, option_copied};
 ghost use Rattle.std.specs.List.{Contains};
 ghost use Rattle.hm_tree.specs.Names.{Name};
 ghost use Rattle.hm_tree.specs.declared.class.Class.{Class};

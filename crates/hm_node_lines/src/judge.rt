@@ -1,5 +1,5 @@
 //! Which lines of nodes are bad.
-ghost use Rattle.std.specs.Prelude.{◌≡◌, ◌↔◌, ◌<◌, suc, IsTrue, IfOk, MatchOption, codes, length};
+ghost use Rattle.std.specs.Prelude.{◌≡◌, ◌↔◌, ◌<◌, suc, IsTrue, IfOk, codes};
 ghost use Rattle.hm_tree.specs.Names.{Name};
 ghost use Rattle.hm_node_lines.specs.NodeLines.{node, edge, other, shape, shape_value, node_line_value};
 ghost use Rattle.hm_node_lines.specs.Entries.{entry_values};

@@ -1,5 +1,5 @@
 //! What the lines of nodes say.
-ghost use Rattle.std.specs.Prelude.{◌≡◌, ◌≢◌, ◌↔◌, ◌∷◌, ◌<◌, List, ℕ, length, MatchOption, IsTrue, [], IfOk, IfSome, is_some, codes};
+ghost use Rattle.std.specs.Prelude.{◌≡◌, ◌↔◌, ◌∷◌, ◌<◌, length, MatchOption, IsTrue, [], IfOk, IfSome, is_some, codes};
 ghost use Rattle.hm_node_lines.specs.declared.token.Token.TheVariants.{Word, Plus};
 ghost use Rattle.hm_node_lines.specs.NodeLines.{edge_name, IsReadTail, IsReadShape, IsReadClass, IsReadLine, IsFlushLine, IsIndentedLine, IsNodeLine};
 ghost use Rattle.hm_node_lines.specs.Reading.{and_name, names_at, optional_at};

@@ -1,5 +1,5 @@
 //! The tokens of a line.
-ghost use Rattle.std.specs.Prelude.{MatchOption, ◌≢◌, ◌∷◌, [], ◌≡◌, ◌==◌, ◌≤◌, ◌<◌, false, List, take, drop, length, IfOk, T, ℕ};
+ghost use Rattle.std.specs.Prelude.{MatchOption, ◌≢◌, ◌∷◌, [], ◌≡◌, ◌==◌, ◌≤◌, ◌<◌, List, drop, length, IfOk, ℕ};
 ghost use Rattle.std.specs.List.{prefix_len};
 ghost use Rattle.hm_node_lines.specs.declared.token.Token.TheVariants.{Word};
 ghost use Rattle.hm_node_lines.specs.Tokens.{is_word_byte, IsFirstToken, AreTokens};

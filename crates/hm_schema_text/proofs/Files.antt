@@ -11,7 +11,7 @@ use Rattle.hm_node_lines.specs.Entries.{entry_value, entry_values, AreEntries}
 use Rattle.hm_node_lines.specs.BadLines.{is_counted}
 use Rattle.hm_node_lines.specs.FirstBad.{HasNoBad, IsTold, behind_all}
 use Rattle.hm_node_lines.specs.Nodes.{IsPlaceOf, AreNodesOf}
-use Rattle.hm_node_lines.proofs.WellFormed.{nodes_formed, own_in_range}
+use Rattle.hm_node_lines.proofs.Laws.{nodes_formed, own_in_range}
 use Rattle.hm_schema_text.specs.Head.{NamesRoot}
 use Rattle.hm_schema_text.specs.BadLines.{IsBadLine, of_node, IsFirstBadLine}
 use Rattle.hm_schema_text.specs.SchemaFiles.{IsSchemaFile}

@@ -1,5 +1,5 @@
 -- When a line of a schema file is bad.
-use Rattle.std.proofs.Common.{◌≡◌, ◌⊎◌, inl, inr, ℕ, zero, suc, length, count_by, ◌+◌, ◌<◌, ◌≤◌, Bool, true, false, List, [], ◌∷◌, slice_get, Option, Some, None, Result, refl, sym, ap, ◌∙◌, subst, arith}
+use Rattle.std.proofs.Common.{◌≡◌, ℕ, zero, suc, length, count_by, ◌+◌, ◌<◌, ◌≤◌, Bool, true, false, List, [], ◌∷◌, slice_get, Option, Some, None, Result, refl, sym, ap, ◌∙◌, subst, arith}
 use Rattle.std.specs.Prelude.{codes, MatchOption, IsTrue, IfOk, ◌↔◌}
 use Rattle.std.specs.Option.{IsSomeAnd}
 use Rattle.std.specs.Int.{from_bool}
@@ -15,10 +15,7 @@ use Rattle.hm_node_lines.specs.NodeLines.{NodeLineValue}
 use Rattle.hm_node_lines.specs.Entries.{EntryValue, unknown, says, IsEntry, texts_of, AreEntries}
 use Rattle.hm_node_lines.specs.BadLines.{is_counted, lines_before, Says, IsNode, IsBadNodeLine}
 use Rattle.hm_node_lines.specs.FirstBad.{HasNoBad}
-use Rattle.hm_node_lines.proofs.NodeLines.{begins}
-use Rattle.hm_node_lines.proofs.Once.{first}
-use Rattle.hm_node_lines.proofs.Tokens.{spaced_one}
-use Rattle.hm_node_lines.proofs.Judging.{bad_says, is_node}
+use Rattle.hm_node_lines.proofs.Laws.{begins, first_letter, spaced_one, bad_says, is_node}
 use Rattle.hm_schema_text.specs.Head.{IsRoot, IsHeaderAt, IsRootAt, IsNth, IsReadRoot, NamesRoot}
 use Rattle.hm_schema_text.specs.BadLines.{IsBadLine, no_header, no_root, names_no_node, unreadable, of_node}
 
@@ -45,43 +42,38 @@ lines_next es i e is = go (is_counted e) refl
 
 module _ (bytes : List ℕ) (es : List EntryValue) (i : ℕ) where
   module _ (read : AreEntries bytes es) where
-    -- tokens with no spaces in front that are a line of a node begin with the letter of `node`
-    node_letter : (x : NodeLineValue) → Says es i x → (line : List ℕ) → slice_get (texts_of bytes) i ≡ Some line → (ts : List Token) → Spaced ts line → first ts ≡ 110
-    node_letter x is line at ts s =
-        let entry = subst (λ o. MatchOption o (Unit {0}) (λ y. IsSomeAnd (slice_get (texts_of bytes) i) (λ t. IsEntry t y))) is (AllZip-right IsEntry (texts_of bytes) es read i) in
-        let its = subst (λ o. IsSomeAnd o (λ t. IsEntry t (says x))) at entry in
-        ap first (begins line ts s x its.1).1
-
-    not_header : IsBadNodeLine es i → IsHeaderAt bytes i → ⊥
-    not_header bad h = let x = bad_says es i bad in let e = node_letter x.0 x.1 h.0 h.1 _ h.2 in omega arith
-
-    not_root : IsBadNodeLine es i → (w : Name) → IsRootAt bytes i w → ⊥
-    not_root bad w h = let x = bad_says es i bad in let e = node_letter x.0 x.1 h.0 h.1 _ h.2 in omega arith
+    -- the tokens of a bad line of a node begin with the letter of `node`, where no spaces stand in front
+    node_letter : IsBadNodeLine es i → (line : List ℕ) → slice_get (texts_of bytes) i ≡ Some line → (ts : List Token) → Spaced ts line → first_letter ts ≡ 110
+    node_letter bad line at ts s =
+        let x = bad_says es i bad in
+        let entry = subst (λ o. MatchOption o (Unit {0}) (λ y. IsSomeAnd (slice_get (texts_of bytes) i) (λ t. IsEntry t y))) x.1 (AllZip-right IsEntry (texts_of bytes) es read i) in
+        let its = subst (λ o. IsSomeAnd o (λ t. IsEntry t (says x.0))) at entry in
+        ap first_letter (begins line ts s x.0 its.1).1
 
     pub first_line : IsNth es 0 i → IsBadLine bytes es i → ¬ (IsHeaderAt bytes i)
     first_line n (no_header m none) h = none h
     first_line n (no_root m none) h = omega (arith, n.before, m.before)
     first_line n (names_no_node m r none) h = omega (arith, n.before, m.before)
     first_line n (unreadable is two) h = omega (arith, n.before, two)
-    first_line n (of_node bad) h = not_header bad h
+    first_line n (of_node bad) h = let e = node_letter bad h.0 h.1 _ h.2 in omega arith
 
     pub second_line : IsNth es 1 i → (w : Name) → IsRootAt bytes i w → IsBadLine bytes es i → ¬ (IsNode es w)
     second_line n w h (no_header m none) some = omega (arith, n.before, m.before)
     second_line n w h (no_root m none) some = none w h
     second_line n w h (names_no_node {w = v} m r none) some = none (subst (IsNode es) (root_once bytes i w v h r) some)
     second_line n w h (unreadable is two) some = omega (arith, n.before, two)
-    second_line n w h (of_node bad) some = not_root bad w h
+    second_line n w h (of_node bad) some = let e = node_letter bad h.0 h.1 _ h.2 in omega arith
 
-  pub later_line : 2 ≤ lines_before es i → IsBadLine bytes es i → (slice_get es i ≡ Some unknown) ⊎ IsBadNodeLine es i
-  later_line two (no_header m f) = absurd (omega (arith, m.before))
-  later_line two (no_root m f) = absurd (omega (arith, m.before))
-  later_line two (names_no_node m r f) = absurd (omega (arith, m.before))
-  later_line two (unreadable is more) = inl is
-  later_line two (of_node bad) = inr bad
-
-  pub bad_later : 2 ≤ lines_before es i → (slice_get es i ≡ Some unknown) ⊎ IsBadNodeLine es i → IsBadLine bytes es i
-  bad_later two (inl is) = unreadable is two
-  bad_later two (inr bad) = of_node bad
+  -- a line of a node behind the head
+  pub node_told : {E : Type 0} (x : NodeLineValue) → Says es i x → 2 ≤ lines_before es i → (r : Result Bool E) → IfOk r (λ bad. IsTrue bad ↔ IsBadNodeLine es i) → IfOk r (λ bad. IsTrue bad ↔ IsBadLine bytes es i)
+  node_told x is two r h = IfOk-weaker r (λ bad. IsTrue bad ↔ IsBadNodeLine es i) (λ bad. IsTrue bad ↔ IsBadLine bytes es i) (λ bad k. (λ yes. of_node (k.0 yes), λ b. k.1 (its b))) h
+    where
+      its : IsBadLine bytes es i → IsBadNodeLine es i
+      its (no_header m f) = absurd (omega (arith, m.before))
+      its (no_root m f) = absurd (omega (arith, m.before))
+      its (names_no_node m r f) = absurd (omega (arith, m.before))
+      its (unreadable none more) = let both : Some unknown ≡ Some (says x) = sym none ∙ is in absurd (let f : ⊥ = cc in f)
+      its (of_node bad) = bad
 
   -- a bad line is one of the file
   pub bad_within : IsBadLine bytes es i → i < length es
@@ -90,17 +82,6 @@ module _ (bytes : List ℕ) (es : List EntryValue) (i : ℕ) where
   bad_within (names_no_node m r f) = slice_get_within es i m.entry m.is
   bad_within (unreadable is two) = slice_get_within es i unknown is
   bad_within (of_node bad) = let x = bad_says es i bad in slice_get_within es i (says x.0) x.1
-
-  pub later_told : {E : Type 0} → 2 ≤ lines_before es i → (r : Result Bool E) → IfOk r (λ bad. IsTrue bad ↔ ((slice_get es i ≡ Some unknown) ⊎ IsBadNodeLine es i)) → IfOk r (λ bad. IsTrue bad ↔ IsBadLine bytes es i)
-  later_told two r h = IfOk-weaker r (λ bad. IsTrue bad ↔ ((slice_get es i ≡ Some unknown) ⊎ IsBadNodeLine es i)) (λ bad. IsTrue bad ↔ IsBadLine bytes es i) (λ bad k. (λ yes. bad_later two (k.0 yes), λ b. k.1 (later_line two b))) h
-
--- a line of a node is none that says nothing
-pub node_told : {E : Type 0} (es : List EntryValue) (i : ℕ) (x : NodeLineValue) → Says es i x → (r : Result Bool E) → IfOk r (λ bad. IsTrue bad ↔ IsBadNodeLine es i) → IfOk r (λ bad. IsTrue bad ↔ ((slice_get es i ≡ Some unknown) ⊎ IsBadNodeLine es i))
-node_told es i x is r h = IfOk-weaker r (λ bad. IsTrue bad ↔ IsBadNodeLine es i) (λ bad. IsTrue bad ↔ ((slice_get es i ≡ Some unknown) ⊎ IsBadNodeLine es i)) (λ bad k. (λ yes. inr (k.0 yes), λ either. k.1 (of either))) h
-  where
-    of : (slice_get es i ≡ Some unknown) ⊎ IsBadNodeLine es i → IsBadNodeLine es i
-    of (inl none) = let both : Some unknown ≡ Some (says x) = sym none ∙ is in absurd (let f : ⊥ = cc in f)
-    of (inr bad) = bad
 
 -- the root of a file without a bad line
 pub root_told : {E : Type 0} (bytes : List ℕ) (es : List EntryValue) → HasNoBad (IsBadLine bytes es) → (i : ℕ) → IsNth es 1 i → (r : Result (Option Name) E) → IfOk r (IsReadRoot (IsRootAt bytes i)) → IfOk r (λ o. MatchOption o (count_by is_counted es < 2) (λ w. IsNode es w × NamesRoot bytes es w))

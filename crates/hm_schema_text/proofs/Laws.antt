@@ -7,9 +7,7 @@ use Rattle.hm_node_lines.specs.Entries.{EntryValue}
 use Rattle.hm_node_lines.specs.BadLines.{is_counted}
 use Rattle.hm_node_lines.specs.FirstBad.{IsTold, at, behind_all}
 use Rattle.hm_node_lines.specs.Nodes.{IsPlaceOf, AreNodesOf}
-use Rattle.hm_node_lines.proofs.Once.{entries_once}
-use Rattle.hm_node_lines.proofs.Declared.{more_before, counted_below, nodes_once, place_once, no_twins}
-use Rattle.hm_node_lines.proofs.FirstBad.{told_once}
+use Rattle.hm_node_lines.proofs.Laws.{entries_once, more_before, counted_below, nodes_once, place_once, no_twins, told_once}
 use Rattle.hm_schema_text.specs.Head.{IsNth, NamesRoot, IsRootAt}
 use Rattle.hm_schema_text.specs.BadLines.{IsBadLine, of_node, IsFirstBadLine}
 use Rattle.hm_schema_text.specs.SchemaFiles.{IsSchemaFile, ReadsSchema}

@@ -1,5 +1,5 @@
 //! The head of a schema file: the first two of its lines that aren't skipped.
-ghost use Rattle.std.specs.Prelude.{◌≡◌, ◌↔◌, ◌∷◌, ◌<◌, [], ℕ, IsTrue, IfOk, MatchOption, codes, count_by, option_copied, slice_get};
+ghost use Rattle.std.specs.Prelude.{◌≡◌, ◌↔◌, ◌∷◌, ◌<◌, [], IsTrue, IfOk, MatchOption, codes, count_by, option_copied, slice_get};
 ghost use Rattle.hm_tree.specs.Names.{Name};
 ghost use Rattle.hm_node_lines.specs.declared.token.Token.TheVariants.{Word};
 ghost use Rattle.hm_node_lines.specs.Entries.{texts_of, entry_values};

@@ -1,7 +1,7 @@
 //! The first bad line of a schema file, and the root of one that has none.
-ghost use Rattle.std.specs.Prelude.{◌≡◌, ◌⊎◌, ◌↔◌, ◌<◌, IsTrue, IfOk, MatchOption, count_by, length, slice_get, Some};
-ghost use Rattle.hm_node_lines.specs.Entries.{entry_values, unknown, AreEntries};
-ghost use Rattle.hm_node_lines.specs.BadLines.{is_counted, IsNode, IsBadNodeLine};
+ghost use Rattle.std.specs.Prelude.{◌↔◌, ◌<◌, IsTrue, IfOk, MatchOption, count_by, length, Some};
+ghost use Rattle.hm_node_lines.specs.Entries.{entry_values, AreEntries};
+ghost use Rattle.hm_node_lines.specs.BadLines.{is_counted, IsNode};
 ghost use Rattle.hm_node_lines.specs.FirstBad.{HasNoBad, IsFirstBad};
 ghost use Rattle.hm_node_lines.specs.Firsts.{AreFirsts, node_names};
 ghost use Rattle.hm_node_lines.specs.Judging.{IsKnown, lines_of};
@@ -39,19 +39,6 @@ fn is_bad_second(alloc: Global, bytes: &[u8], line: &Line<'_>) -> Result<bool, M
     }
 }
 
-// Whether a line behind these is bad.
-fn is_bad_later(alloc: Global, line: &Line<'_>) -> Result<bool, Memory>
-    requires known { IsKnown line.now }
-    requires place { line.now.place < length line.now.entries.now }
-    ensures { IfOk result (λ bad. IsTrue bad ↔ ((slice_get (lines_of line.now) line.now.place ≡ Some unknown) ⊎ IsBadNodeLine (lines_of line.now) line.now.place)) }
-{
-    match &line.entries[line.place] {
-        Entry::Skipped => Ok(false),
-        Entry::Unknown => Ok(true),
-        Entry::Says(says) => is_bad_line(alloc, line, says),
-    }
-}
-
 // Whether a line is bad.
 fn is_bad(alloc: Global, bytes: &[u8], line: &Line<'_>) -> Result<bool, Memory>
     requires known { IsKnown line.now }
@@ -69,7 +56,11 @@ fn is_bad(alloc: Global, bytes: &[u8], line: &Line<'_>) -> Result<bool, Memory>
     if line.before.lines == 1 {
         return is_bad_second(alloc, bytes, line);
     }
-    is_bad_later(alloc, line)
+    match entry {
+        Entry::Skipped => Ok(false),
+        Entry::Unknown => Ok(true),
+        Entry::Says(says) => is_bad_line(alloc, line, says),
+    }
 }
 
 /// The place of the first bad line, if there is one.

@@ -1,4 +1,4 @@
-use Rattle.std.proofs.Common.{ℕ, List, sym, ◌∙◌, refl}
+use Rattle.std.proofs.Common.{eqb-true, ℕ, List, sym, ◌∙◌, refl}
 use Rattle.std.specs.Prelude.{◌==◌}
 use Rattle.hm_tree.specs.Names.{Name}
 use Rattle.hm_tree.specs.declared.class.Class.{Class}
@@ -8,7 +8,7 @@ use Rattle.hm_node_lines.specs.Entries.{EntryValue}
 use Rattle.hm_node_lines.specs.Judging.{lines_of}
 use Rattle.hm_node_lines.specs.BadLines.{in_no_node, IsNode, earlier, names_no_node, others_twice}
 use Rattle.hm_node_lines.proofs.Counted.{has_others}
-use Rattle.hm_node_lines.proofs.Judging.{always, turned, equal, equals, refuted, not_bad, one_name}
+use Rattle.hm_node_lines.proofs.Judging.{always, turned, equals, refuted, not_bad, one_name}
 use Rattle.hm_node_lines.proofs.judge.is_bad_other.Goals as goal
 
 pub returns-then-line-eq0 : goal.returns-then-line-eq0
@@ -22,7 +22,7 @@ returns c = turned (before.others == 0)
     (λ zero. not_bad es i (other class child) c.requires.says (record {
       housed = λ inside none. c.if-line-eq0.false (c.requires.known.before.nodes ∙ none);
       names = one_name (IsNode es) child (c.if-not-is_node.ensures.0 refl);
-      rest = λ spoken. (has_others (earlier es i)).0 spoken (sym c.requires.known.before.others ∙ equal before.others 0 zero);
+      rest = λ spoken. (has_others (earlier es i)).0 spoken (sym c.requires.known.before.others ∙ eqb-true before.others 0 zero);
     }))
     (λ some. others_twice c.requires.says ((has_others (earlier es i)).1 (λ none. some (equals before.others 0 (c.requires.known.before.others ∙ none)))))
   where
