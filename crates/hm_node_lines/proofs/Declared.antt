@@ -1,5 +1,5 @@
 -- The places of lines, and the one list of nodes of a file.
-use Rattle.std.proofs.Common.{◌≡◌, ◌⊎◌, inl, inr, ℕ, zero, suc, ◌+◌, ◌<◌, ◌≤◌, Bool, true, false, cond, List, [], ◌∷◌, length, Option, Some, None, refl, sym, ap, subst, ◌∙◌, arith, slice_get, take, count_by, get_or}
+use Rattle.std.proofs.Common.{◌≡◌, ◌⊎◌, inl, inr, ℕ, zero, suc, ◌+◌, ◌<◌, ◌≤◌, Bool, true, false, cond, List, [], ◌∷◌, length, Option, Some, None, refl, sym, ap, subst, ◌∙◌, arith, slice_get, take, count_by, filter_map}
 use Rattle.std.specs.Prelude.{codes}
 use Rattle.std.specs.List.{Contains}
 use Rattle.std.specs.FinMap.{find}
@@ -16,9 +16,10 @@ use Rattle.hm_schema.specs.Values.{NodeValue}
 use Rattle.hm_node_lines.specs.NodeLines.{node}
 use Rattle.hm_node_lines.specs.Entries.{EntryValue, says}
 use Rattle.hm_node_lines.specs.BadLines.{IsBadNodeLine, Says, named, begins_node, nodes_before, behind, declared_twice, declares_empty}
-use Rattle.hm_node_lines.specs.Nodes.{IsPlaceOf, declared, empty, IsNodeOf, AreNodesOf, NamesEmpty, empty_node}
-use Rattle.hm_node_lines.specs.Building.{NamesIt}
+use Rattle.hm_node_lines.specs.Nodes.{IsPlaceOf, declared, empty, IsNodeOf, AreNodesOf, named_by, NamesEmpty, empty_node}
+use Rattle.hm_node_lines.specs.Firsts.{place_in}
 use Rattle.hm_node_lines.specs.FirstBad.{HasNoBad}
+use Rattle.hm_node_lines.proofs.Places.{there, not_there}
 
 -- ---- lines that are counted
 
@@ -123,18 +124,6 @@ empty_or w = go (pointwise eqb w (codes "Empty")) refl
     go true e = inl ((bytes_decides w (codes "Empty")).0 e)
     go false e = inr (λ same. true≢false (sym ((bytes_decides w (codes "Empty")).1 same) ∙ e))
 
-names_it_or : (e : EntryValue) → NamesIt e ⊎ (NamesIt e → ⊥)
-names_it_or (says x) = go (named x) refl
-  where
-    go : (o : Option Name) → named x ≡ o → NamesIt (says x) ⊎ (NamesIt (says x) → ⊥)
-    go None is = inr (λ h. let e = h.1 in let same : x ≡ h.0 = cc in let no : None ≡ Some (codes "Empty") = sym is ∙ ap named same ∙ h.2 in let f : ⊥ = cc in f)
-    go (Some w) is = by (empty_or w)
-      where
-        by : (w ≡ codes "Empty") ⊎ ((w ≡ codes "Empty") → ⊥) → NamesIt (says x) ⊎ (NamesIt (says x) → ⊥)
-        by (inl it) = inl (x, refl, is ∙ ap Some it)
-        by (inr not_it) = inr (λ h. let e = h.1 in let same : x ≡ h.0 = cc in let both : Some w ≡ Some (codes "Empty") = sym is ∙ ap named same ∙ h.2 in not_it cc)
-names_it_or e = inr (λ h. let e = h.1 in let f : ⊥ = cc in f)
-
 pub nat_cases : (p n : ℕ) → (p < n) ⊎ (n ≤ p)
 nat_cases p zero = inr (omega arith)
 nat_cases zero (suc n) = inl (omega arith)
@@ -144,31 +133,18 @@ nat_cases (suc p) (suc n) = go (nat_cases p n)
     go (inl h) = inl (omega arith)
     go (inr h) = inr (omega arith)
 
--- whether P holds of an element
-some_or : {X : Type 0} (P : X → Type 0) → ((x : X) → P x ⊎ (P x → ⊥)) → (xs : List X) → ((x : X) × Contains xs x × P x) ⊎ (((x : X) × Contains xs x × P x) → ⊥)
-some_or P each [] = inr (λ h. let l = h.1.1 in omega arith)
-some_or P each (y ∷ ys) = go (each y) (some_or P each ys)
-  where
-    go : P y ⊎ (P y → ⊥) → ((x : _) × Contains ys x × P x) ⊎ (((x : _) × Contains ys x × P x) → ⊥) → ((x : _) × Contains (y ∷ ys) x × P x) ⊎ (((x : _) × Contains (y ∷ ys) x × P x) → ⊥)
-    go (inl p) rest = inl (y, (0, omega arith, refl), p)
-    go (inr not_it) (inl h) = inl (h.0, (suc h.1.0, (let l = h.1.1 in omega arith), h.1.2), h.2)
-    go (inr not_it) (inr nowhere) = inr (λ h. split h.0 h.1.0 h.1.1 h.1.2 h.2)
-      where
-        split : (x : _) (k : ℕ) → k < length (y ∷ ys) → get_or (y ∷ ys) k x ≡ x → P x → ⊥
-        split x zero l is p = not_it (subst P (sym is) p)
-        split x (suc k) l is p = nowhere (x, (k, omega arith, is), p)
-
 pub names_empty_or : (es : List EntryValue) (own : List Name) → NamesEmpty es own ⊎ (NamesEmpty es own → ⊥)
-names_empty_or es own = go (some_or NamesIt names_it_or es) (some_or (λ w. w ≡ codes "Empty") empty_or own)
+names_empty_or es own = go (place_in (codes "Empty") (filter_map named_by es)) refl (place_in (codes "Empty") own) refl
   where
-    none : (((e : EntryValue) × Contains es e × NamesIt e) → ⊥) → (((w : Name) × Contains own w × (w ≡ codes "Empty")) → ⊥) → NamesEmpty es own → ⊥
-    none no_line no_own (inl h) = no_line (says h.0, h.1, (h.0, refl, h.2))
-    none no_line no_own (inr h) = no_own (codes "Empty", h, refl)
+    none : place_in (codes "Empty") (filter_map named_by es) ≡ None → place_in (codes "Empty") own ≡ None → NamesEmpty es own → ⊥
+    none no_line no_own (inl c) = not_there (codes "Empty") (filter_map named_by es) no_line c
+    none no_line no_own (inr c) = not_there (codes "Empty") own no_own c
 
-    go : ((e : EntryValue) × Contains es e × NamesIt e) ⊎ (((e : EntryValue) × Contains es e × NamesIt e) → ⊥) → ((w : Name) × Contains own w × (w ≡ codes "Empty")) ⊎ (((w : Name) × Contains own w × (w ≡ codes "Empty")) → ⊥) → NamesEmpty es own ⊎ (NamesEmpty es own → ⊥)
-    go (inl h) rest = inl (inl (h.2.0, subst (Contains es) h.2.1 h.1, h.2.2))
-    go (inr no_line) (inl h) = inl (inr (subst (Contains own) h.2 h.1))
-    go (inr no_line) (inr no_own) = inr (none no_line no_own)
+    go : (o : Option ℕ) → place_in (codes "Empty") (filter_map named_by es) ≡ o → (q : Option ℕ) → place_in (codes "Empty") own ≡ q
+        → NamesEmpty es own ⊎ (NamesEmpty es own → ⊥)
+    go (Some p) is q at = inl (inl (there (codes "Empty") (filter_map named_by es) p is))
+    go None is (Some q) at = inl (inr (there (codes "Empty") own q at))
+    go None is None at = inr (none is at)
 
 -- ---- all nodes
 

@@ -1,9 +1,8 @@
 -- When a line is bad, by what it says.
-use Rattle.std.proofs.Common.{◌≡◌, ◌≢◌, ◌⊎◌, inl, inr, ℕ, suc, ◌+◌, ◌<◌, Bool, true, false, cond, List, [], ◌∷◌, ◌++◌, length, take, drop, Option, Some, None, refl, sym, ap, ◌∙◌, subst, count_by, arith}
+use Rattle.std.proofs.Common.{◌≡◌, ◌≢◌, ◌⊎◌, inl, inr, ℕ, suc, ◌+◌, ◌<◌, Bool, true, false, List, [], ◌∷◌, ◌++◌, length, take, drop, Option, Some, None, refl, sym, ap, ◌∙◌, subst, count_by, arith}
 use Rattle.std.specs.Prelude.{codes}
 use mathlib.Core.Bool.{true≢false}
-use Rattle.std.specs.List.{Contains, cons_option}
-use Rattle.std.proofs.lemmas.List.Sums.{sum_by-cons}
+use Rattle.std.specs.List.{Contains}
 use Rattle.std.proofs.lemmas.List.{take-append-drop}
 use Rattle.hm_tree.specs.Names.{Name}
 use Rattle.hm_node_lines.specs.declared.firsts.Naming.TheVariants.{Nodes, Edges}
@@ -15,7 +14,7 @@ use Rattle.std.specs.Prelude.{◌==◌, IsTrue, is_some, not}
 use Rattle.std.proofs.lemmas.Bool.Decides.{nat_tests}
 use Rattle.hm_node_lines.proofs.Sections.{drop_more, around_next, from_here}
 use Rattle.hm_node_lines.proofs.Places.{there, not_there, first_at, not_before, names_around}
-use Rattle.hm_node_lines.proofs.Declared.{empty_or}
+use Rattle.hm_node_lines.proofs.Declared.{count_cons, empty_or}
 use Rattle.hm_node_lines.proofs.Made.{brought, brings}
 
 -- ---- what a good line of its kind holds
@@ -100,18 +99,9 @@ pub length_names : (es : List EntryValue) → length (node_names es) ≡ count_b
 length_names [] = refl
 length_names (e ∷ es) = by e (length_names es)
   where
-    none_on : (n : ℕ) → n ≡ 0 + n
-    none_on n = omega arith
-
-    behind_none : length (node_names es) ≡ count_by begins_node es → (e : EntryValue) → begun_name e ≡ None → begins_node e ≡ false → length (node_names (e ∷ es)) ≡ count_by begins_node (e ∷ es)
-    behind_none more e none not_begun = ap (λ o. length (cons_option o (node_names es))) none ∙ more ∙ none_on (count_by begins_node es) ∙ sym (sum_by-cons (λ x. cond (begins_node x) 1 0) e es ∙ ap (λ b. cond b 1 0 + count_by begins_node es) not_begun)
-
     by : (e : EntryValue) → length (node_names es) ≡ count_by begins_node es → length (node_names (e ∷ es)) ≡ count_by begins_node (e ∷ es)
-    by (says (node w)) more = one_on (length (node_names es)) ∙ ap (λ n. 1 + n) more ∙ sym (sum_by-cons (λ x. cond (begins_node x) 1 0) (says (node w)) es)
-      where
-        one_on : (n : ℕ) → suc n ≡ 1 + n
-        one_on n = omega arith
-    by e more = behind_none more e refl refl
+    by (says (node w)) more = let c = count_cons begins_node (says (node w)) es true refl in omega arith
+    by e more = let c = count_cons begins_node e es false refl in omega arith
 
 -- a node may be named where it isn't so that it may not
 pub is_node : (es : List EntryValue) (w : Name) → ¬ (¬ (IsNode es w)) → IsNode es w

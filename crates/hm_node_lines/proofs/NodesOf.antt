@@ -23,11 +23,11 @@ use Rattle.hm_node_lines.specs.declared.entry.Entry.TheVariants.{Skipped}
 use Rattle.hm_node_lines.specs.NodeLines.{NodeLineValue, node, edge, other}
 use Rattle.hm_node_lines.specs.Entries.{EntryValue, says, entry_value, entry_values}
 use Rattle.hm_node_lines.specs.BadLines.{IsBadNodeLine, Says, named, behind, up_to_node, begins_node, nodes_before, listed_twice, others_twice}
-use Rattle.hm_node_lines.specs.Nodes.{IsPlaceOf, IsNodeOf, AreNodesOf, IsNamedByLine, NamesEmpty, empty_node}
-use Rattle.hm_node_lines.specs.Building.{child_of, IsOtherOf, NamesIt, IsBuilt, AreBuilt}
+use Rattle.hm_node_lines.specs.Nodes.{IsPlaceOf, IsNodeOf, AreNodesOf, named_by, NamesEmpty, empty_node}
+use Rattle.hm_node_lines.specs.Building.{child_of, IsOtherOf, IsBuilt, AreBuilt}
 use Rattle.hm_node_lines.proofs.Declared.{before_it, place_once}
 use Rattle.hm_node_lines.proofs.Sections.{in_file}
-use Rattle.hm_node_lines.proofs.Made.{at_place, from_place, made_from, made_at}
+use Rattle.hm_node_lines.proofs.Made.{brought, brings, at_place, from_place, made_from, made_at}
 use Rattle.hm_node_lines.proofs.Building.{is_child, shapes_are, keys, rising, found, found_from, distinct}
 use Rattle.hm_node_lines.specs.FirstBad.{HasNoBad}
 
@@ -186,9 +186,18 @@ module _ (es : List EntryValue) (none : HasNoBad (IsBadNodeLine es)) (id : Name 
 
 -- ---- whether `Empty` is named
 
-pub named_by_line : (xs : List Entry) (r : Bool) → MatchBool r ((k : ℕ) × (k < length xs) × HoldsAt (λ e. NamesIt (entry_value e)) xs k) (AllWithin (λ e. ¬ (NamesIt (entry_value e))) xs 0 (length xs)) → IsTrue r ↔ IsNamedByLine (entry_values xs) (codes "Empty")
+pub named_by_line : (xs : List Entry) (r : Bool)
+    → MatchBool r ((k : ℕ) × (k < length xs) × HoldsAt (λ e. named_by (entry_value e) ≡ Some (codes "Empty")) xs k)
+    (AllWithin (λ e. ¬ (named_by (entry_value e) ≡ Some (codes "Empty"))) xs 0 (length xs))
+    → IsTrue r ↔ Contains (filter_map named_by (entry_values xs)) (codes "Empty")
 named_by_line xs true h =
-    let s = h.2 Skipped in
-    (λ _. (s.0, (h.0, omega (arith, h.1, length-map xs entry_value), get_or-map entry_value xs h.0 Skipped (says s.0) h.1 ∙ s.1), s.2), λ _. refl)
-named_by_line xs false h =
-    (λ r. absurd (true≢false (sym r)), λ k. let within : k.1.0 < length xs = omega (arith, k.1.1, length-map xs entry_value) in absurd (h k.1.0 Skipped (omega arith) within (k.0, sym (get_or-map entry_value xs k.1.0 Skipped (says k.0) within) ∙ k.1.2, k.2)))
+    let e = entry_value (get_or xs h.0 Skipped) in
+    let there : Contains (entry_values xs) e = (h.0, omega (arith, h.1, length-map xs entry_value), get_or-map entry_value xs h.0 Skipped e h.1) in
+    (λ _. brought named_by (entry_values xs) e (codes "Empty") (h.2 Skipped) there, λ _. refl)
+named_by_line xs false h = (λ r. absurd (true≢false (sym r)), λ c. absurd (none c))
+  where
+    none : Contains (filter_map named_by (entry_values xs)) (codes "Empty") → ⊥
+    none c =
+        let f = brings named_by (entry_values xs) (codes "Empty") c in
+        let within : f.1.0 < length xs = omega (arith, f.1.1, length-map xs entry_value) in
+        h f.1.0 Skipped (omega arith) within (ap named_by (sym (get_or-map entry_value xs f.1.0 Skipped f.0 within) ∙ f.1.2) ∙ f.2)

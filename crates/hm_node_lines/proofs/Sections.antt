@@ -123,6 +123,9 @@ pub inside_lines : (es : List Entry) → entry_values (take (prefix_len (λ e. n
 inside_lines [] = refl
 inside_lines (e ∷ es) = go (begins_node (entry_value e)) refl (inside_lines es)
   where
+    one_on : (n : ℕ) → 1 + n ≡ suc n
+    one_on n = omega arith
+
     inside : Entry → Bool
     inside e = not (begins_node (entry_value e))
 
@@ -130,9 +133,6 @@ inside_lines (e ∷ es) = go (begins_node (entry_value e)) refl (inside_lines es
     go true is more = ap (λ b. entry_values (take (cond (not b) (1 + prefix_len inside es) 0) (e ∷ es))) is ∙ sym (ap (λ b. cond b [] (entry_value e ∷ up_to_node (entry_values es))) is)
     go false is more =
         ap (λ b. entry_values (take (cond (not b) (1 + prefix_len inside es) 0) (e ∷ es))) is
-        ∙ ap (λ n. entry_values (take n (e ∷ es))) (suc_is (prefix_len inside es))
+        ∙ ap (λ n. entry_values (take n (e ∷ es))) (one_on (prefix_len inside es))
         ∙ ap (λ z. entry_value e ∷ z) more
         ∙ sym (ap (λ b. cond b [] (entry_value e ∷ up_to_node (entry_values es))) is)
-      where
-        suc_is : (n : ℕ) → 1 + n ≡ suc n
-        suc_is n = omega arith

@@ -21,9 +21,9 @@ use Rattle.hm_node_lines.specs.declared.count.Count.{Count}
 use Rattle.hm_node_lines.specs.NodeLines.{NodeLineValue, ShapeValue, node, edge, other, shape}
 use Rattle.hm_node_lines.specs.Entries.{EntryValue, says}
 use Rattle.hm_node_lines.specs.BadLines.{IsBadNodeLine, Says, named, begins_node, nodes_before, behind, around, IsNode, Lists, SpeaksOfOthers, names_of_shape, HasDouble, IsNoneCounted, names_no_node, unlisted_name, name_twice, least_above_most, no_others_to_count, no_shape}
-use Rattle.hm_node_lines.specs.Nodes.{IsPlaceOf, declared, empty, shapes_in, as_shape, IsNodeOf, AreNodesOf, NamesEmpty, empty_node}
+use Rattle.hm_node_lines.specs.Nodes.{IsPlaceOf, declared, empty, shapes_in, as_shape, IsNodeOf, AreNodesOf, named_by, NamesEmpty, empty_node}
 use Rattle.hm_node_lines.proofs.Declared.{counted_below, nat_cases, names_empty_or, IsOneOf, of_line, last, one_of}
-use Rattle.hm_node_lines.proofs.Made.{at_place, from_place}
+use Rattle.hm_node_lines.proofs.Made.{at_place, from_place, brought}
 use Rattle.hm_node_lines.proofs.Sections.{in_file}
 use Rattle.hm_node_lines.specs.FirstBad.{HasNoBad}
 
@@ -111,7 +111,7 @@ module _ (es : List EntryValue) (own : List Name) (nodes : List NodeValue) (are 
   in_range _ _ named empty = let long = are.long (named refl) in omega arith
 
   line_in_range : (j : ℕ) (x : NodeLineValue) (w : Name) (p : ℕ) → Says es j x → named x ≡ Some w → IsPlaceOf es w p → p < length nodes
-  line_in_range j x w p is name = in_range w p (λ same. inl (x, from_place es (says x) (j, is), name ∙ ap Some same))
+  line_in_range j x w p is name = in_range w p (λ same. inl (brought named_by es (says x) (codes "Empty") (name ∙ ap Some same) (from_place es (says x) (j, is))))
 
   pub own_in_range : (w : Name) (p : ℕ) → Contains own w → IsPlaceOf es w p → p < length nodes
   own_in_range w p there = in_range w p (λ same. inr (subst (Contains own) same there))

@@ -1,5 +1,5 @@
 -- The nodes that are built from the lines of a file.
-use Rattle.std.specs.Prelude.{◌≡◌, ℕ, ◌<◌, List, [], length, slice_get, filter_map, IsPermutation, IsSortedByKey, String, Option, Some, None, unwrap_or, codes}
+use Rattle.std.specs.Prelude.{◌≡◌, ℕ, ◌<◌, List, [], length, slice_get, filter_map, IsPermutation, IsSortedByKey, String, Option, Some, None, unwrap_or}
 use Rattle.std.specs.List.{Contains}
 use Rattle.std.specs.BTreeMap.{BTreeMap, get_by_text}
 use Rattle.std.specs.declared.alloc.Global.{Global}
@@ -8,9 +8,9 @@ use Rattle.hm_tree.specs.declared.class.Class.{Class}
 use Rattle.hm_schema.specs.declared.node.NodeId.{NodeId}
 use Rattle.hm_schema.specs.declared.node.Shape.{Shape}
 use Rattle.hm_schema.specs.Values.{NodeValue}
-use Rattle.hm_node_lines.specs.NodeLines.{NodeLineValue, node, edge, other, shape}
+use Rattle.hm_node_lines.specs.NodeLines.{node, edge, other, shape}
 use Rattle.hm_node_lines.specs.Entries.{EntryValue, says}
-use Rattle.hm_node_lines.specs.BadLines.{Says, SpeaksOfOthers, named, nodes_before, behind}
+use Rattle.hm_node_lines.specs.BadLines.{Says, SpeaksOfOthers, nodes_before, behind}
 use Rattle.hm_node_lines.specs.Nodes.{as_shape}
 
 -- the node of a name: at its place in a table, else behind all of them
@@ -31,10 +31,6 @@ child_of id e = None
 abbrev pub IsOtherOf : (Name → NodeId) → List EntryValue → Option (Class × NodeId) → Type 0
 IsOtherOf id lines None = ¬ (SpeaksOfOthers lines)
 IsOtherOf id lines (Some o) = (w : Name) × Contains lines (says (other o.0 w)) × (o.1 ≡ id w)
-
--- a line of a node names `Empty`
-abbrev pub NamesIt : EntryValue → Type 0
-NamesIt e = (x : NodeLineValue) × (e ≡ says x) × (named x ≡ Some (codes "Empty"))
 
 -- ---- nodes
 

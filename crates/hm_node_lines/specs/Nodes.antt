@@ -1,5 +1,5 @@
 -- The nodes that the lines of a file describe.
-use Rattle.std.specs.Prelude.{◌≡◌, ◌⊎◌, ◌↔◌, ℕ, ◌+◌, T, List, [], ◌∷◌, length, map, slice_get, codes, count_by, Some, None}
+use Rattle.std.specs.Prelude.{◌≡◌, ◌⊎◌, ◌↔◌, ℕ, ◌+◌, T, List, [], ◌∷◌, length, map, slice_get, codes, count_by, filter_map, Option, Some, None}
 use Rattle.std.specs.List.{Contains}
 use Rattle.std.specs.FinMap.{is_sorted, find}
 use Rattle.std.specs.FinSet.{from_list}
@@ -8,7 +8,7 @@ use Rattle.hm_tree.specs.declared.class.Class.{Class}
 use Rattle.hm_schema.specs.declared.node.NodeId.{NodeId}
 use Rattle.hm_schema.specs.declared.node.Shape.{Shape}
 use Rattle.hm_schema.specs.Values.{NodeValue}
-use Rattle.hm_node_lines.specs.NodeLines.{NodeLineValue, ShapeValue, node, edge, other, shape}
+use Rattle.hm_node_lines.specs.NodeLines.{ShapeValue, node, edge, other, shape}
 use Rattle.hm_node_lines.specs.Entries.{EntryValue, says}
 use Rattle.hm_node_lines.specs.BadLines.{Says, named, begins_node, nodes_before, behind}
 
@@ -42,12 +42,14 @@ empty_node = record {
   twins = [];
 }
 
-abbrev pub IsNamedByLine : List EntryValue → Name → Type 0
-IsNamedByLine es w = (x : NodeLineValue) × Contains es (says x) × (named x ≡ Some w)
+-- the names of nodes that lines have
+abbrev pub named_by : EntryValue → Option Name
+named_by (says x) = named x
+named_by e = None
 
 -- a line of a node names `Empty`, or it is among the names that the file's other lines have
 abbrev pub NamesEmpty : List EntryValue → List Name → Type 0
-NamesEmpty es own = IsNamedByLine es (codes "Empty") ⊎ Contains own (codes "Empty")
+NamesEmpty es own = Contains (filter_map named_by es) (codes "Empty") ⊎ Contains own (codes "Empty")
 
 -- a node for each node line, in their order, and behind them `Empty` where it is named
 pub record AreNodesOf (es : List EntryValue) (own : List Name) (nodes : List NodeValue) : Type 0 where

@@ -1,5 +1,5 @@
 //! The nodes that the lines of a file describe.
-ghost use Rattle.std.specs.Prelude.{◌≡◌, ◌≢◌, ◌↔◌, IsTrue, IfOk, MatchOption, map, length, codes, count_by, filter_map, option_copied};
+ghost use Rattle.std.specs.Prelude.{Some, ◌≡◌, ◌≢◌, ◌↔◌, IsTrue, IfOk, MatchOption, map, length, codes, count_by, filter_map, option_copied};
 ghost use Rattle.std.specs.List.{Contains};
 ghost use Rattle.hm_tree.specs.Names.{Name};
 ghost use Rattle.hm_tree.specs.declared.class.Class.{Class};
@@ -8,9 +8,9 @@ ghost use Rattle.hm_node_lines.specs.NodeLines.{other, shape_value, node_line_va
 ghost use Rattle.hm_node_lines.specs.Entries.{entry_value, entry_values, says};
 ghost use Rattle.hm_node_lines.specs.Firsts.{AreFirsts, node_names};
 ghost use Rattle.hm_node_lines.specs.BadLines.{IsBadNodeLine, IsNode, begins_node, named};
-ghost use Rattle.hm_node_lines.specs.Nodes.{IsPlaceOf, AreNodesOf, IsNamedByLine, NamesEmpty, as_shape, empty_node};
+ghost use Rattle.hm_node_lines.specs.Nodes.{IsPlaceOf, AreNodesOf, named_by, NamesEmpty, as_shape, empty_node};
 ghost use Rattle.hm_node_lines.specs.FirstBad.{HasNoBad};
-ghost use Rattle.hm_node_lines.specs.Building.{id_in, shape_of, child_of, IsOtherOf, NamesIt, IsBuilt, AreBuilt};
+ghost use Rattle.hm_node_lines.specs.Building.{id_in, shape_of, child_of, IsOtherOf, IsBuilt, AreBuilt};
 
 use crate::entry::Entry;
 use crate::firsts::first_place;
@@ -200,7 +200,7 @@ fn named(line: &NodeLine) -> Option<&Name>
 }
 
 fn names_empty_node(entry: &Entry) -> bool
-    ensures { IsTrue result ↔ NamesIt (entry_value entry.now) }
+    ensures { IsTrue result ↔ (named_by (entry_value entry.now) ≡ Some (codes "Empty")) }
 {
     let Some(line) = entry.node_line() else {
         return false;
@@ -212,7 +212,7 @@ fn names_empty_node(entry: &Entry) -> bool
 }
 
 fn is_named_by_lines(entries: &[Entry]) -> bool
-    ensures { IsTrue result ↔ IsNamedByLine (entry_values entries.now) (codes "Empty") }
+    ensures { IsTrue result ↔ Contains (filter_map named_by (entry_values entries.now)) (codes "Empty") }
 {
     entries.iter().any(|entry| names_empty_node(entry))
 }

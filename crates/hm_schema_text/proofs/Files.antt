@@ -26,8 +26,10 @@ module _ (bytes : List ℕ) (entries : List Entry) (read : AreEntries bytes (ent
         (behind_all sound few);
   }
 
-  pub schema_file : (nodes : List Node) (id : NodeId) (w : Name) → NamesRoot bytes (entry_values entries) w → IsPlaceOf (entry_values entries) w id.place → AreNodesOf (entry_values entries) (w ∷ []) (map node_value nodes) → IsSchemaFile bytes (schema_value nodes id)
-  schema_file nodes id w named place are = record { entries = entry_values entries; read = read; sound = sound; name = w; named = named; nodes = are; root = place }
+  pub schema_file : (nodes : List Node) (id : NodeId) (w : Name) → NamesRoot bytes (entry_values entries) w
+      → IsPlaceOf (entry_values entries) w id.place → AreNodesOf (entry_values entries) (w ∷ []) (map node_value nodes) → IsSchemaFile bytes (schema_value nodes id)
+  schema_file nodes id w named place are =
+      record { entries = entry_values entries; read = read; sound = sound; name = w; named = named; nodes = are; root = place }
 
 pub file_formed : (bytes : List ℕ) (s : SchemaValue) → IsSchemaFile bytes s → IsWellFormed s
 file_formed bytes s f = record {

@@ -28,7 +28,8 @@ root_once bytes i w v h k =
     cc
 
 -- tokens are the name of a root, as they are spelled
-pub root_is : (line : List ℕ) (ts : List Token) → Spaced ts line → (o : Option Name) → IsReadRoot (λ w. ts ≡ Word (codes "root") ∷ Word w ∷ []) o → IsReadRoot (IsRoot line) o
+pub root_is : (line : List ℕ) (ts : List Token) → Spaced ts line → (o : Option Name)
+    → IsReadRoot (λ w. ts ≡ Word (codes "root") ∷ Word w ∷ []) o → IsReadRoot (IsRoot line) o
 root_is line ts s None none = λ w root. none w (spaced_one ts _ line line refl s root)
 root_is line ts s (Some w) is = subst (λ z. Spaced z line) is s
 
@@ -65,8 +66,10 @@ module _ (bytes : List ℕ) (es : List EntryValue) (i : ℕ) where
     second_line n w h (of_node bad) some = let e = node_letter bad h.0 h.1 _ h.2 in omega arith
 
   -- a line of a node behind the head
-  pub node_told : {E : Type 0} (x : NodeLineValue) → Says es i x → 2 ≤ lines_before es i → (r : Result Bool E) → IfOk r (λ bad. IsTrue bad ↔ IsBadNodeLine es i) → IfOk r (λ bad. IsTrue bad ↔ IsBadLine bytes es i)
-  node_told x is two r h = IfOk-weaker r (λ bad. IsTrue bad ↔ IsBadNodeLine es i) (λ bad. IsTrue bad ↔ IsBadLine bytes es i) (λ bad k. (λ yes. of_node (k.0 yes), λ b. k.1 (its b))) h
+  pub node_told : {E : Type 0} (x : NodeLineValue) → Says es i x → 2 ≤ lines_before es i → (r : Result Bool E)
+      → IfOk r (λ bad. IsTrue bad ↔ IsBadNodeLine es i) → IfOk r (λ bad. IsTrue bad ↔ IsBadLine bytes es i)
+  node_told x is two r h =
+      IfOk-weaker r (λ bad. IsTrue bad ↔ IsBadNodeLine es i) (λ bad. IsTrue bad ↔ IsBadLine bytes es i) (λ bad k. (λ yes. of_node (k.0 yes), λ b. k.1 (its b))) h
     where
       its : IsBadLine bytes es i → IsBadNodeLine es i
       its (no_header m f) = absurd (omega (arith, m.before))
@@ -84,10 +87,14 @@ module _ (bytes : List ℕ) (es : List EntryValue) (i : ℕ) where
   bad_within (of_node bad) = let x = bad_says es i bad in slice_get_within es i (says x.0) x.1
 
 -- the root of a file without a bad line
-pub root_told : {E : Type 0} (bytes : List ℕ) (es : List EntryValue) → HasNoBad (IsBadLine bytes es) → (i : ℕ) → IsNth es 1 i → (r : Result (Option Name) E) → IfOk r (IsReadRoot (IsRootAt bytes i)) → IfOk r (λ o. MatchOption o (count_by is_counted es < 2) (λ w. IsNode es w × NamesRoot bytes es w))
-root_told bytes es sound i n r h = IfOk-weaker r (IsReadRoot (IsRootAt bytes i)) (λ o. MatchOption o (count_by is_counted es < 2) (λ w. IsNode es w × NamesRoot bytes es w)) by h
+abbrev pub IsRootTold : List ℕ → List EntryValue → Option Name → Type 0
+IsRootTold bytes es o = MatchOption o (count_by is_counted es < 2) (λ w. IsNode es w × NamesRoot bytes es w)
+
+pub root_told : {E : Type 0} (bytes : List ℕ) (es : List EntryValue) → HasNoBad (IsBadLine bytes es) → (i : ℕ) → IsNth es 1 i
+    → (r : Result (Option Name) E) → IfOk r (IsReadRoot (IsRootAt bytes i)) → IfOk r (IsRootTold bytes es)
+root_told bytes es sound i n r h = IfOk-weaker r (IsReadRoot (IsRootAt bytes i)) (IsRootTold bytes es) by h
   where
-    by : (o : Option Name) → IsReadRoot (IsRootAt bytes i) o → MatchOption o (count_by is_counted es < 2) (λ w. IsNode es w × NamesRoot bytes es w)
+    by : (o : Option Name) → IsReadRoot (IsRootAt bytes i) o → IsRootTold bytes es o
     by None none = absurd (sound i (no_root n none))
     by (Some w) root = (is_node es w (λ no_node. sound i (names_no_node n root no_node)), record { place = i; second = n; root = root })
 

@@ -34,11 +34,15 @@ line_once bytes a b h k =
     (subst (λ es. IsTold (IsBadLine bytes es) (count_by is_counted es < 2) (length es) b) (entries_once bytes k.entries h.entries k.read h.read) k.told)
 
 pub schema_no_line : (bytes : List ℕ) (s : SchemaValue) (line : ℕ) → IsSchemaFile bytes s → IsFirstBadLine bytes line → ⊥
-schema_no_line bytes s line h k = go line (subst (λ es. IsTold (IsBadLine bytes es) (count_by is_counted es < 2) (length es) line) (entries_once bytes k.entries h.entries k.read h.read) k.told)
+schema_no_line bytes s line h k =
+    go line (subst (λ es. IsTold (IsBadLine bytes es) (count_by is_counted es < 2) (length es) line) (entries_once bytes k.entries h.entries k.read h.read) k.told)
   where
     go : (n : ℕ) → IsTold (IsBadLine bytes h.entries) (count_by is_counted h.entries < 2) (length h.entries) n → ⊥
     go _ (at {i} first) = h.sound i first.bad
-    go _ (behind_all none few) = let n = h.named.second in let more = counted_below is_counted h.entries h.named.place n.entry n.is n.counted in let one = n.before in omega arith
+    go _ (behind_all none few) =
+        let n = h.named.second in
+        let more = counted_below is_counted h.entries h.named.place n.entry n.is n.counted in
+        omega (arith, n.before)
 
 pub schema_once : (bytes : List ℕ) (s t : SchemaValue) → IsSchemaFile bytes s → IsSchemaFile bytes t → s ≡ t
 schema_once bytes s t h k =
@@ -53,6 +57,7 @@ schema_once bytes s t h k =
 pub schema_no_twins : (bytes : List ℕ) (s : SchemaValue) → IsSchemaFile bytes s → HasNoTwins s
 schema_no_twins bytes s h i n is = no_twins h.entries (h.name ∷ []) s.nodes h.nodes i.place n is
 
+-- reading comes to one thing alone
 pub schema_reads_once : (bytes : List ℕ) (r s : Result SchemaValue SchemaFault) → ReadsSchema bytes r → ReadsSchema bytes s → r ≡ s
 schema_reads_once bytes (Ok s) (Ok t) h k = ap (λ (z : SchemaValue). Ok z) (schema_once bytes s t h k)
 schema_reads_once bytes (Ok s) (Err (BadSchema line)) h k = absurd (schema_no_line bytes s line h k)

@@ -15,7 +15,7 @@ loop-place-preserved c =
           ap (λ n. n + c.from-lines.result) c.loop-place.invariant.lines
           ∙ ap (λ n. lines_before (entry_values c.args.entries.now) c.loop-place.place + n) (c.from-lines.ensures ∙ ap from_bool c.is_counted-counted.ensures)
           ∙ lines_next (entry_values c.args.entries.now) c.loop-place.place (entry_value c.index-entries-place.result) at;
-      few = few_next c.loop-place.lines c.from-lines.result c.is_counted-counted.result c.from-lines.ensures c.loop-place.invariant.few (λ yes one. elim c.else-counted.branch [
+      few = few_next _ _ c.is_counted-counted.result c.from-lines.ensures c.loop-place.invariant.few (λ yes one. elim c.else-counted.branch [
         | else-counted-via-then-counted+else-lines-eq1 w ↦ w.if-lines-eq1.false one
         | else-counted-via-else-counted w ↦ (let both = sym yes ∙ w.if-counted.false in let f : ⊥ = cc in f)
       ]);

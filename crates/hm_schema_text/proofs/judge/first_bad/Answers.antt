@@ -18,8 +18,11 @@ pub loop-place-preserved : goal.loop-place-preserved
 loop-place-preserved c = record {
   before = c.next-before.ensures;
   section = subst (λ n. IsSection (around (entry_values c.args.entries.now) n) c.in_ok-section-2.section) (sym (add-one c.loop-place.place)) c.in_ok-section-2.ensures;
-  good = below_more (λ j. ¬ (IsBadLine c.args.bytes.now (entry_values c.args.entries.now) j)) c.loop-place.place c.loop-place.invariant.good (λ bad. true≢false (sym (c.in_ok-is_bad.ensures.1 bad) ∙ c.if-branch.false));
+  good = below_more (λ j. ¬ (IsBadLine c.args.bytes.now (entry_values c.args.entries.now) j)) c.loop-place.place c.loop-place.invariant.good
+      (λ bad. true≢false (sym (c.in_ok-is_bad.ensures.1 bad) ∙ c.if-branch.false));
 }
 
 pub returns : goal.returns
-returns c = λ i bad. c.loop-place.invariant.good i (omega (arith, bad_within c.args.bytes.now (entry_values c.args.entries.now) i bad, length-map c.args.entries.now entry_value, c.loop-place-test.false)) bad
+returns c = λ i bad.
+    let within = bad_within c.args.bytes.now (entry_values c.args.entries.now) i bad in
+    c.loop-place.invariant.good i (omega (arith, length-map c.args.entries.now entry_value, c.loop-place-test.false)) bad

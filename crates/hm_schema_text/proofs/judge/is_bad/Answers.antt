@@ -8,4 +8,6 @@ use Rattle.hm_schema_text.proofs.judge.is_bad.Goals as goal
 pub returns-in-Says : goal.returns-in-Says
 returns-in-Says c =
     let at = entry_at c.args.line.now.entries.now c.args.line.now.place c.index-line-line.result c.requires.place c.index-line-line.is in
-    node_told c.args.bytes.now (lines_of c.args.line.now) c.args.line.now.place _ (at ∙ ap (λ e. Some (entry_value e)) (c.index-line-line.is ∙ c.in-Says.is)) (omega arith) c.is_bad_line.result c.is_bad_line.ensures
+    node_told c.args.bytes.now (lines_of c.args.line.now) c.args.line.now.place _
+    (at ∙ ap (λ e. Some (entry_value e)) (c.index-line-line.is ∙ c.in-Says.is))
+    (omega arith) c.is_bad_line.result c.is_bad_line.ensures
