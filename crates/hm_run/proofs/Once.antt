@@ -9,9 +9,8 @@ use Rattle.hm_tree_text.specs.Faults.{TreeFaults, ArchiveFaults}
 use Rattle.hm_tree_text.proofs.Laws.{tree_once, archive_once, tree_text_reads, archive_text_reads, tree_fault_once, archive_fault_once}
 use Rattle.hm_schema.specs.Values.{SchemaValue}
 use Rattle.hm_schema.specs.Membership.{IsOutside}
-use Rattle.hm_schema_text.specs.declared.fault.SchemaFault.{SchemaFault}
-use Rattle.hm_schema_text.specs.declared.fault.SchemaFault.TheVariants as schema
-use Rattle.hm_schema_text.proofs.Laws.{schema_once, schema_no_line, line_once}
+use Rattle.hm_schema_text.specs.SchemaFiles.{ReadsSchema}
+use Rattle.hm_schema_text.proofs.Laws.{schema_reads_once}
 use Rattle.hm_outcome.specs.Trios.{Trio, given}
 use Rattle.hm_outcome.proofs.Best.{outcome_once}
 use Rattle.hm_outside.specs.Contents.{Contents}
@@ -26,7 +25,7 @@ use Rattle.hm_files.specs.declared.stop.Stop.TheVariants.{Refused}
 use Rattle.hm_files.specs.Steps.{FindsOne}
 use Rattle.hm_files.proofs.Steps.{sides_once, equals_once, then_once}
 use Rattle.hm_command.specs.Words.{FileNames}
-use Rattle.hm_run.specs.Reads.{ReadsTree, ReadsArchive, ReadsSchema, Told, ChecksText, ChecksMember, ReadsReplica, ReadsFour, ReadsAll, Trees, schema_stop, archive_stop, replica_stop}
+use Rattle.hm_run.specs.Reads.{ReadsTree, ReadsArchive, Told, ChecksText, ChecksMember, ReadsReplica, ReadsFour, ReadsAll, Trees, schema_stop, archive_stop, replica_stop}
 use Rattle.hm_run.specs.Verdict.{Synced, Plans, PlansFrom, VerdictOf, Becomes, Reconciles}
 
 -- ---- the readers' laws
@@ -51,18 +50,6 @@ pub archive_reads_once : (bytes : List ℕ) → FindsOne (ReadsArchive bytes)
 archive_reads_once bytes = sides_once (ReadsArchive bytes) (λ o a. archive_once o a bytes)
     (λ o f h k. (archive_fault bytes f k).0 (archive_text_reads o bytes h f (archive_fault bytes f k).1))
     (λ f g h k. archive_fault_once bytes f g (archive_fault bytes f h).1 (archive_fault bytes g k).1 (archive_fault bytes f h).0 (archive_fault bytes g k).0)
-
-schema_apart : (bytes : List ℕ) (s : SchemaValue) (f : SchemaFault) → ReadsSchema bytes (Ok s) → ReadsSchema bytes (Err f) → ⊥
-schema_apart bytes s (schema.BadSchema line) h k = schema_no_line bytes s line h k
-schema_apart bytes s schema.Memory h k = k
-
-schema_faults : (bytes : List ℕ) (f g : SchemaFault) → ReadsSchema bytes (Err f) → ReadsSchema bytes (Err g) → f ≡ g
-schema_faults bytes (schema.BadSchema a) (schema.BadSchema b) h k = ap schema.BadSchema (line_once bytes a b h k)
-schema_faults bytes (schema.BadSchema a) schema.Memory h k = absurd k
-schema_faults bytes schema.Memory g h k = absurd h
-
-pub schema_reads_once : (bytes : List ℕ) → FindsOne (ReadsSchema bytes)
-schema_reads_once bytes = sides_once (ReadsSchema bytes) (λ s t. schema_once bytes s t) (schema_apart bytes) (schema_faults bytes)
 
 -- ---- what a reader finds, told as a refusal
 

@@ -10,7 +10,7 @@ use Rattle.hm_tree_text.specs.declared.fault.TextFault.{TextFault}
 use Rattle.hm_tree_text.specs.declared.fault.TextFault.TheVariants as text
 use Rattle.hm_schema.specs.Values.{SchemaValue}
 use Rattle.hm_schema.specs.Membership.{IsMember, IsFirstOutside}
-use Rattle.hm_schema_text.specs.SchemaFiles.{IsSchemaFile, FaultsAt}
+use Rattle.hm_schema_text.specs.SchemaFiles.{ReadsSchema}
 use Rattle.hm_schema_text.specs.declared.fault.SchemaFault.{SchemaFault}
 use Rattle.hm_schema_text.specs.declared.fault.SchemaFault.TheVariants as schema
 use Rattle.hm_files.specs.declared.slot.Slot.{Slot}
@@ -37,11 +37,6 @@ ReadsArchive bytes (Ok o) = IsArchiveText o bytes
 ReadsArchive bytes (Err (text.BadTree at)) = ArchiveFaults bytes (text.BadTree at)
 ReadsArchive bytes (Err text.TooDeep) = ArchiveFaults bytes text.TooDeep
 ReadsArchive bytes (Err text.Memory) = ⊥
-
-abbrev pub ReadsSchema : List ℕ → Result SchemaValue SchemaFault → Type 0
-ReadsSchema bytes (Ok s) = IsSchemaFile bytes s
-ReadsSchema bytes (Err (schema.BadSchema line)) = FaultsAt bytes (schema.BadSchema line)
-ReadsSchema bytes (Err schema.Memory) = ⊥
 
 -- ---- their faults, as what stops a run
 
