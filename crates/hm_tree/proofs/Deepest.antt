@@ -2,10 +2,9 @@
 use Rattle.std.proofs.Common.{◌≡◌, ℕ, suc, ◌+◌, ◌<◌, ◌≤◌, max, Bool, List, [], ◌∷◌, ◌++◌, length, take, drop, get_or, drop-cons, sym, ap, ◌∙◌, arith, T}
 use denote.Param.Weighed.{most}
 use Rattle.std.specs.List.{insert, remove}
-use Rattle.std.specs.FinMap.{is_sorted}
 use Rattle.std.proofs.lemmas.List.{take-append-drop, take_more}
-use Rattle.hm_tree.specs.Names.{Name, name_cmp}
-use Rattle.hm_tree.specs.Nodes.{Node, depth, node, edges, deepest}
+use Rattle.hm_tree.specs.Names.{Name}
+use Rattle.hm_tree.specs.Nodes.{Node, depth, node, are_edges, edges, deepest}
 use Rattle.hm_tree.specs.NodeLaws.{depth-node}
 use Rattle.hm_tree.specs.Edges.{IsKeptTree}
 use Rattle.hm_tree.proofs.Sorted.{edges_seen}
@@ -42,16 +41,16 @@ module _ {X : Type 0} (f : X → ℕ) where
       let d = ap (λ l. most f (take i xs ++ l)) (drop-cons xs i x lt) in
       omega arith
 
-pub depth_kept : {m : Bool} (es : List (Name × Node m)) (t : Node m) → T (is_sorted name_cmp es) → node es ≡ t → depth t ≡ deepest es
+pub depth_kept : {m : Bool} (es : List (Name × Node m)) (t : Node m) → T (are_edges es) → node es ≡ t → depth t ≡ deepest es
 depth_kept es t h e = ap depth (sym e) ∙ depth-node es h
 
 -- the depth that is kept is that of the edge taken out, whose child keeps b, or of the edges left
 pub depth_left : {m : Bool} (es left bs : List (Name × Node m)) (t : Node m) (i d b : ℕ) (e : Name × Node m) → IsKeptTree es d → node es ≡ t → i < length (edges t) → e ≡ get_or es i e → left ≡ remove es i → IsKeptTree bs b → node bs ≡ e.1 → d ≡ max (deepest left) (b + 1)
 depth_left {m = m} es left bs t i d b e kept seen within read is child child_seen =
     let f = λ (x : Name × Node m). depth x.1 + 1 in
-    let same = ap length (edges_seen es t kept.sorted seen) in
+    let same = ap length (edges_seen es t kept.edges seen) in
     let a = most_remove f es i e (omega arith) in
     let r = ap f read in
     let l = ap (most f) is in
-    let n = depth_kept bs e.1 child.sorted child_seen in
+    let n = depth_kept bs e.1 child.edges child_seen in
     omega (arith, kept.deep, child.deep)

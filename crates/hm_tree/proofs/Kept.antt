@@ -3,6 +3,7 @@ use Rattle.std.proofs.Common.{◌≡◌, ℕ, zero, suc, ◌+◌, ◌<◌, ◌�
 use Rattle.std.specs.Ordering.{is_lt, eq_by_cmp}
 use Rattle.std.specs.FinMap.{is_sorted, find, put}
 use Rattle.std.specs.List.{insert}
+use Rattle.std.specs.Str.{IsUtf8}
 use mathlib.Core.Bool.{true≢false}
 use Rattle.std.specs.declared.cmp.Ordering.{Ordering}
 use Rattle.std.specs.declared.cmp.Ordering.TheVariants.{Less, Equal, Greater}
@@ -11,12 +12,12 @@ use Rattle.std.proofs.lemmas.Option.{slice_get_read}
 use Rattle.hm_tree.specs.declared.archive.State.{State}
 use Rattle.hm_tree.specs.declared.archive.State.TheVariants.{Missing, Present, Marked}
 use Rattle.hm_tree.specs.Names.{Name, name_cmp}
-use Rattle.hm_tree.specs.Nodes.{Node, Tree, edges, below_all, marked}
-use Rattle.hm_tree.specs.NodeLaws.{edges-node, edges_sorted, node-edges, marked_is, is_marked-node, edges-marked}
+use Rattle.hm_tree.specs.Nodes.{Node, Tree, edges, below_all, edges_rise, marked}
+use Rattle.hm_tree.specs.NodeLaws.{edges-node, edges_are, node-edges, marked_is, is_marked-node, edges-marked}
 use Rattle.hm_tree.specs.Archives.{Archive, under, with_archive, edges_here, recorded, edges-recorded, recorded_unmarked, there, is_there, archive_of, IsKeptArchive}
 use Rattle.hm_tree.specs.States.{state}
 use Rattle.hm_tree.specs.Edges.{IsPlaceOf, IsGapFor}
-use Rattle.hm_tree.proofs.Sorted.{put_rank, sorted_put}
+use Rattle.hm_tree.proofs.Sorted.{put_rank, edges_put}
 
 module _ {X : Type 0} where
   below_there : (x : Name) (es : List (Name × Option X)) → T (is_there es) → below_all x (there es) ≡ below_all x es
@@ -37,14 +38,14 @@ module _ {X : Type 0} where
 
 module _ (root : State) (es : List (Name × Archive)) (kept : IsKeptArchive root es) where
   pub root_sorted : T (is_sorted name_cmp es)
-  root_sorted = subst T (sorted_there es kept.all_there) kept.sorted
+  root_sorted = subst T (sorted_there es kept.all_there) (edges_rise _ kept.edges)
 
 -- the edges of an archive are those that it keeps
 pub edges_kept : (root : State) (es : List (Name × Archive)) (o : Archive) → IsKeptArchive root es → archive_of root es ≡ o → edges_here o ≡ es
 edges_kept root es o kept is = ap edges_here (sym is) ∙ by root kept
   where
     by : (root : State) → IsKeptArchive root es → edges_here (archive_of root es) ≡ es
-    by Present k = ap (map (λ (e : Name × Node true). (e.0, Some e.1))) (edges-node (there es) k.sorted) ∙ some_back es k.all_there
+    by Present k = ap (map (λ (e : Name × Node true). (e.0, Some e.1))) (edges-node (there es) k.edges) ∙ some_back es k.all_there
     by Missing k = sym (k.bare (λ e. let no : ⊥ = cc in no))
     by Marked k = ap (map (λ (e : Name × Node true). (e.0, Some e.1))) (edges-marked marked marked_is) ∙ sym (k.bare (λ e. let no : ⊥ = cc in no))
 
@@ -73,7 +74,7 @@ under_kept root es o kept is k = ap (under k) (sym is) ∙ by root kept
     nothing e = sym (ap (λ (l : List (Name × Archive)). flat (find name_cmp k l)) e)
 
     by : (root : State) → IsKeptArchive root es → under k (archive_of root es) ≡ flat (find name_cmp k es)
-    by Present h = ap (find name_cmp k) (edges-node (there es) h.sorted) ∙ find_there k es h.all_there
+    by Present h = ap (find name_cmp k) (edges-node (there es) h.edges) ∙ find_there k es h.all_there
     by Missing h = nothing (h.bare (λ e. let no : ⊥ = cc in no))
     by Marked h = ap (find name_cmp k) (edges-marked marked marked_is) ∙ nothing (h.bare (λ e. let no : ⊥ = cc in no))
 
@@ -126,7 +127,7 @@ is_there_put k c ((x, Some y) ∷ es) h = go (name_cmp k x) refl (is_there_put k
     go Equal p rest = rw p h
     go Greater p rest = rw p rest
 
-module _ (root : State) (es : List (Name × Archive)) (o : Archive) (kept : IsKeptArchive root es) (is : archive_of root es ≡ o) (present : state o [] ≡ Present) (k : Name) (d : Archive) (some : IsTrue (is_some d)) (i : ℕ) (gap : IsGapFor k es i) where
+module _ (root : State) (es : List (Name × Archive)) (o : Archive) (kept : IsKeptArchive root es) (is : archive_of root es ≡ o) (present : state o [] ≡ Present) (k : Name) (text : IsUtf8 k) (d : Archive) (some : IsTrue (is_some d)) (i : ℕ) (gap : IsGapFor k es i) where
   root_is : root ≡ Present
   root_is = state_kept root es o is ∙ present
 
@@ -139,7 +140,7 @@ module _ (root : State) (es : List (Name × Archive)) (o : Archive) (kept : IsKe
       by : (d : Archive) → IsTrue (is_some d) → IsKeptArchive root (put name_cmp k d es)
       by None s = let f : ⊥ = true≢false (sym s) in absurd f
       by (Some c) s = record {
-        sorted = rw (there_put k c es kept.all_there) (sorted_put k c (there es) kept.sorted);
+        edges = rw (there_put k c es kept.all_there) (edges_put k c (there es) text kept.edges);
         all_there = is_there_put k c es kept.all_there;
         bare = λ no. absurd (no root_is);
       }
@@ -151,7 +152,7 @@ module _ (root : State) (es : List (Name × Archive)) (o : Archive) (kept : IsKe
       by None s = let f : ⊥ = true≢false (sym s) in absurd f
       by (Some c) s =
           let P : State → Type 0 = λ r. archive_of r (put name_cmp k (Some c) es) ≡ with_archive k (Some c) (archive_of r es) in
-          subst P (sym root_is) (rw (there_put k c es kept.all_there, edges-node (there es) kept.sorted) refl)
+          subst P (sym root_is) (rw (there_put k c es kept.all_there, edges-node (there es) kept.edges) refl)
 
 -- ---- what a tree is in an archive
 
@@ -172,7 +173,7 @@ record_edges t = there_recorded (edges t) ∙ sym (edges-recorded t)
 
 pub recorded_kept : (t : Tree) (es : List (Name × Archive)) → es ≡ map record_edge (edges t) → IsKeptArchive Present es
 recorded_kept t es e = record {
-  sorted = rw (e, record_edges t) (edges_sorted (recorded t));
+  edges = rw (e, record_edges t) (edges_are (recorded t));
   all_there = rw e (all_recorded (edges t));
   bare = λ no. absurd (no refl);
 }

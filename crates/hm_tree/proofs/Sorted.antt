@@ -12,10 +12,12 @@ use Rattle.std.specs.List.Sorted.{IsSearchInRange, IsBinarySearchResult, IsNonDe
 use Rattle.std.proofs.lemmas.Option.{slice_get_read, get_or_from_slice_get, slice_get_cases}
 use Rattle.std.proofs.lemmas.List.Sorted.{searchable_from_sorted}
 use Rattle.std.proofs.lemmas.List.{get_or_default}
-use Rattle.std.proofs.lemmas.Bool.{cases_lt}
+use Rattle.std.specs.Str.{is_utf8, IsUtf8}
+use Rattle.std.proofs.lemmas.Str.{IsUtf8-from_is_utf8, is_utf8-from_IsUtf8}
+use Rattle.std.proofs.lemmas.Bool.{cases_lt, cond_both}
 use Rattle.hm_tree.specs.Names.{Name, name_cmp}
-use Rattle.hm_tree.specs.Nodes.{Node, node, edges, below, Tree, with_edge, without_edge, both, first, second, below_all}
-use Rattle.hm_tree.specs.NodeLaws.{edges-node, edges_sorted, node-edges, tree_unmarked}
+use Rattle.hm_tree.specs.Nodes.{Node, node, edges, below, Tree, with_edge, without_edge, both, first, second, below_all, are_texts, are_edges, edges_rise, edges_texts, edges_from}
+use Rattle.hm_tree.specs.NodeLaws.{edges-node, edges_sorted, edges_are, node-edges, tree_unmarked}
 use Rattle.hm_tree.specs.Edges.{rank, IsPlaceOf, IsGapFor}
 
 pub name_total : IsTotalOrder name_cmp
@@ -28,7 +30,7 @@ unfolding name_cmp
 name_one = slice_cmp-IsAntisymmetric nat_cmp-IsAntisymmetric
 
 -- what a value of the type with these edges is seen as
-pub edges_seen : {m : Bool} (es : List (Name × Node m)) (t : Node m) → T (is_sorted name_cmp es) → node es ≡ t → edges t ≡ es
+pub edges_seen : {m : Bool} (es : List (Name × Node m)) (t : Node m) → T (are_edges es) → node es ≡ t → edges t ≡ es
 edges_seen es t h e = ap edges (sym e) ∙ edges-node es h
 
 -- the laws of a value and its edges
@@ -50,6 +52,17 @@ back_less a b e = name_total.antisymm a b ∙ ap ordering_reverse e
 
 pub back_greater : (a b : Name) → name_cmp b a ≡ Greater → name_cmp a b ≡ Less
 back_greater a b e = name_total.antisymm a b ∙ ap ordering_reverse e
+
+-- the test of what a name's bytes are
+pub text_test : (k : Name) → IsUtf8 k → T (is_utf8 k)
+text_test k u = subst T (sym (is_utf8-from_IsUtf8 k u)) tt
+
+pub text_tested : (k : Name) → T (is_utf8 k) → IsUtf8 k
+text_tested k h = IsUtf8-from_is_utf8 k (from_test (is_utf8 k) h)
+  where
+    from_test : (b : Bool) → T b → b ≡ true
+    from_test true h = refl
+    from_test false h = absurd h
 
 module _ {X : Type 0} where
   each_above : (x : Name) (es : List (Name × X)) (j : ℕ) (d : Name × X) → T (below_all x es) → j < length es → name_cmp x (get_or es j d).0 ≡ Less
@@ -158,8 +171,30 @@ module _ {X : Type 0} where
   pub sorted_put : (k : Name) (v : X) (es : List (Name × X)) → T (is_sorted name_cmp es) → T (is_sorted name_cmp (put name_cmp k v es))
   sorted_put k v es h = is_sorted-put name_cmp name_total k v es h
 
-  pub sorted_filter : (k : Name) (es : List (Name × X)) → T (is_sorted name_cmp es) → T (is_sorted name_cmp (filter (λ e. not (eq_by_cmp name_cmp k e.0)) es))
+  sorted_filter : (k : Name) (es : List (Name × X)) → T (is_sorted name_cmp es) → T (is_sorted name_cmp (filter (λ e. not (eq_by_cmp name_cmp k e.0)) es))
   sorted_filter k es h = is_sorted-where_key name_cmp (λ x. not (eq_by_cmp name_cmp k x)) es h
+
+  texts_filter : (p : Name × X → Bool) (es : List (Name × X)) → T (are_texts es) → T (are_texts (filter p es))
+  texts_filter p [] h = tt
+  texts_filter p (e ∷ es) h =
+      let rest = texts_filter p es (second (is_utf8 e.0) _ h) in
+      cond_both (p e) (e ∷ filter p es) (filter p es) (λ l. T (are_texts l)) (λ _. both _ _ (first _ _ h) rest) (λ _. rest)
+
+  texts_put : (k : Name) (v : X) (es : List (Name × X)) → T (is_utf8 k) → T (are_texts es) → T (are_texts (put name_cmp k v es))
+  texts_put k v [] u h = both _ _ u tt
+  texts_put k v (e ∷ es) u h = go (name_cmp k e.0) refl (texts_put k v es u (second (is_utf8 e.0) _ h))
+    where
+      go : (r : Ordering) → name_cmp k e.0 ≡ r → T (are_texts (put name_cmp k v es)) → T (are_texts (put name_cmp k v (e ∷ es)))
+      go Less p rest = rw p (both _ _ u h)
+      go Equal p rest = rw p h
+      go Greater p rest = rw p (both _ _ (first _ _ h) rest)
+
+  -- with an edge put in, and with one taken out, they are edges
+  pub edges_put : (k : Name) (v : X) (es : List (Name × X)) → IsUtf8 k → T (are_edges es) → T (are_edges (put name_cmp k v es))
+  edges_put k v es u h = edges_from _ (sorted_put k v es (edges_rise es h)) (texts_put k v es (text_test k u) (edges_texts es h))
+
+  pub edges_filter : (k : Name) (es : List (Name × X)) → T (are_edges es) → T (are_edges (filter (λ e. not (eq_by_cmp name_cmp k e.0)) es))
+  edges_filter k es h = edges_from _ (sorted_filter k es (edges_rise es h)) (texts_filter (λ e. not (eq_by_cmp name_cmp k e.0)) es (edges_texts es h))
 
   keeps_missing : (k : Name) (es : List (Name × X)) → find name_cmp k es ≡ None → filter (λ e. not (eq_by_cmp name_cmp k e.0)) es ≡ es
   keeps_missing k [] h = refl
@@ -170,7 +205,7 @@ module _ {X : Type 0} where
       go false p rest = let gone : find name_cmp k es ≡ None = rw p at h in rw p (ap (λ l. e ∷ l) (rest gone))
 
 -- the same, by what a value of the type is seen as
-module _ {m : Bool} (es : List (Name × Node m)) (t : Node m) (h : T (is_sorted name_cmp es)) (seen_as : node es ≡ t) where
+module _ {m : Bool} (es : List (Name × Node m)) (t : Node m) (h : T (are_edges es)) (seen_as : node es ≡ t) where
   pub insert_is : (k : Name) (c : Node m) (i : ℕ) → IsGapFor k (edges t) i → insert es i (k, c) ≡ put name_cmp k c (edges t)
   insert_is k c i gap =
       let e = edges_seen es t h seen_as in
@@ -185,8 +220,8 @@ pub without_missing : (k : Name) (t : Tree) → below k t ≡ None → t ≡ wit
 without_missing k t none = sym (ap node (keeps_missing k (edges t) none) ∙ node-edges t (tree_unmarked t))
 
 -- what stands under a name once an edge was put in
-pub below_with : {m : Bool} (q k : Name) (c t : Node m) → below q (with_edge k c t) ≡ cond (eq_by_cmp name_cmp q k) (Some c) (below q t)
-below_with q k c t = ap (find name_cmp q) (edges-node (put name_cmp k c (edges t)) (sorted_put k c (edges t) (edges_sorted t))) ∙ find-put name_cmp name_total q k c (edges t)
+pub below_with : {m : Bool} (q k : Name) (c t : Node m) → IsUtf8 k → below q (with_edge k c t) ≡ cond (eq_by_cmp name_cmp q k) (Some c) (below q t)
+below_with q k c t u = ap (find name_cmp q) (edges-node (put name_cmp k c (edges t)) (edges_put k c (edges t) u (edges_are t))) ∙ find-put name_cmp name_total q k c (edges t)
 
 slice_get_within : {X : Type 0} (xs : List X) (i : ℕ) (x : X) → slice_get xs i ≡ Some x → i < length xs
 slice_get_within xs i x e = elim ((slice_get_cases xs i).1) [ inl w ↦ w.1 | inr w ↦ absurd (not_None x (sym e ∙ w.1)) ]

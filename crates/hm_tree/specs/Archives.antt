@@ -1,13 +1,12 @@
 -- The value of an archive: none where the root is missing, else a node in which marks may stand.
 use Rattle.std.specs.Prelude.{◌≡◌, ◌≢◌, ℕ, ◌+◌, ◌≤◌, max, Bool, true, false, T, List, [], ◌∷◌, map, refl, Option, Some, None}
 use Rattle.std.proofs.Common.{ap, arith}
-use Rattle.std.specs.FinMap.{is_sorted}
 use denote.Param.Weighed.{most}
 use Rattle.std.specs.Coded.{Coded, coded_option}
 use Rattle.hm_tree.specs.declared.archive.State.{State}
 use Rattle.hm_tree.specs.declared.archive.State.TheVariants.{Missing, Present, Marked}
 use Rattle.hm_tree.specs.Names.{Name, name_cmp}
-use Rattle.hm_tree.specs.Nodes.{Shape, bare, mark, edge, above, is_node, Node, Tree, both, first, second, depth, edges_of, edges, is_marked, node, below, marked, with_edge, deepest}
+use Rattle.hm_tree.specs.Nodes.{Shape, bare, mark, edge, leads, is_node, are_edges, Node, Tree, both, first, second, depth, edges_of, edges, is_marked, node, below, marked, with_edge, deepest}
 use Rattle.hm_tree.specs.NodeLaws.{same_node, node_code, depth-node, tree_unmarked}
 
 abbrev pub Archive : Type 0
@@ -40,7 +39,7 @@ pub recorded_sound : (w : Bool) (s : Shape) → T (is_node false w s) → T (is_
 recorded_sound w bare h = tt
 recorded_sound w mark h = absurd h
 recorded_sound w (edge n c r) h =
-    both (above n r) _ (first _ _ h) (both _ _ (recorded_sound true c (first _ _ (second (above n r) _ h))) (recorded_sound false r (second (is_node false true c) _ (second (above n r) _ h))))
+    both (leads n r) _ (first _ _ h) (both _ _ (recorded_sound true c (first _ _ (second (leads n r) _ h))) (recorded_sound false r (second (is_node false true c) _ (second (leads n r) _ h))))
 
 -- present at the tree's paths, without a mark
 unfoldable pub recorded : Tree → Node true
@@ -51,8 +50,8 @@ unfolding edges_of recorded
 recorded_edges_of w bare h g = refl
 recorded_edges_of w mark h g = refl
 recorded_edges_of w (edge n c r) h g = λ i.
-    (n, same_node (record { shape = c; sound = first _ _ (second (above n r) _ g) }) (recorded (record { shape = c; sound = first _ _ (second (above n r) _ h) })) refl i)
-    ∷ recorded_edges_of false r (second (is_node false true c) _ (second (above n r) _ h)) (second (is_node true true c) _ (second (above n r) _ g)) i
+    (n, same_node (record { shape = c; sound = first _ _ (second (leads n r) _ g) }) (recorded (record { shape = c; sound = first _ _ (second (leads n r) _ h) })) refl i)
+    ∷ recorded_edges_of false r (second (is_node false true c) _ (second (leads n r) _ h)) (second (is_node true true c) _ (second (leads n r) _ g)) i
 
 -- what is recorded of a tree has the tree's edges
 pub edges-recorded : (t : Tree) → edges (recorded t) ≡ map (λ (e : Name × Tree). (e.0, recorded e.1)) (edges t)
@@ -90,9 +89,9 @@ archive_of Missing es = None
 archive_of Marked es = Some marked
 archive_of Present es = Some (node (there es))
 
--- names rise, nothing in the list is missing, and only a present root has edges
+-- names rise and are UTF-8, nothing in the list is missing, and only a present root has edges
 pub record IsKeptArchive (root : State) (es : List (Name × Archive)) : Type 0 where
-  pub sorted : T (is_sorted name_cmp (there es))
+  pub edges : T (are_edges (there es))
   pub all_there : T (is_there es)
   pub bare : root ≢ Present → es ≡ []
 
@@ -103,7 +102,7 @@ most_there f h ((k, Some x) ∷ es) t = omega (arith, h (k, Some x), most_there 
 
 -- each child of an archive is less deep
 pub archive_falls : (f : Name × Archive → ℕ) → ((e : Name × Archive) → f e ≤ depth_here e.1 + 1) → (root : State) (es : List (Name × Archive)) → IsKeptArchive root es → max (most f es) 0 ≤ depth_here (archive_of root es)
-archive_falls f h Present es k = let e = depth-node (there es) k.sorted in let l = most_there f h es k.all_there in omega arith
+archive_falls f h Present es k = let e = depth-node (there es) k.edges in let l = most_there f h es k.all_there in omega arith
 archive_falls f h Missing es k = let none : es ≡ [] = k.bare (λ e. let no : ⊥ = cc in no) in let l = ap (most f) none in omega arith
 archive_falls f h Marked es k = let none : es ≡ [] = k.bare (λ e. let no : ⊥ = cc in no) in let l = ap (most f) none in omega arith
 

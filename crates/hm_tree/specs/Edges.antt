@@ -1,10 +1,10 @@
 -- How edges are kept, and where a name stands among them.
 use Rattle.std.specs.Prelude.{◌≡◌, ℕ, suc, ◌<◌, ◌≤◌, Bool, T, cond, List, [], ◌∷◌, length, Some, None}
 use Rattle.std.specs.Ordering.{is_lt}
-use Rattle.std.specs.FinMap.{is_sorted, find}
+use Rattle.std.specs.FinMap.{find}
 use Rattle.std.specs.List.{HoldsAt}
 use Rattle.hm_tree.specs.Names.{Name, name_cmp}
-use Rattle.hm_tree.specs.Nodes.{Node, deepest}
+use Rattle.hm_tree.specs.Nodes.{Node, are_edges, deepest}
 
 -- how many names stand before k
 abbrev pub rank : {X : Type 0} → Name → List (Name × X) → ℕ
@@ -23,7 +23,7 @@ pub record IsGapFor {X : Type 0} (k : Name) (es : List (Name × X)) (i : ℕ) : 
   pub in_range : i ≤ length es
   pub absent : find name_cmp k es ≡ None
 
--- names rise, and the depth is the one kept
+-- names rise and are UTF-8, and the depth is the one kept
 pub record IsKeptTree {m : Bool} (es : List (Name × Node m)) (d : ℕ) : Type 0 where
-  pub sorted : T (is_sorted name_cmp es)
+  pub edges : T (are_edges es)
   pub deep : d ≡ deepest es

@@ -9,8 +9,9 @@ use mathlib.Core.Bool.{true≢false}
 use lib.Dec.{T_prop}
 use Rattle.std.specs.Coded.{Coded, coded_ℕ, coded_list}
 use base.Stored.{coded_via}
+use Rattle.std.specs.Str.{is_utf8}
 use Rattle.hm_tree.specs.Names.{Name, name_cmp}
-use Rattle.hm_tree.specs.Nodes.{Shape, bare, mark, edge, above, is_node, Node, Tree, depth_of, is_mark, both, first, second, below_all, depth, is_marked, edges_of, edges, joined, empty, checked, node, below, marked, deepest}
+use Rattle.hm_tree.specs.Nodes.{Shape, bare, mark, edge, above, leads, is_node, are_texts, are_edges, edges_from, Node, Tree, depth_of, is_mark, both, first, second, below_all, depth, is_marked, edges_of, edges, joined, empty, checked, node, below, marked, deepest}
 
 nowhere : (m : Bool) → T (m && false) → ⊥
 nowhere true h = h
@@ -25,32 +26,39 @@ module _ {m : Bool} where
   edges_joined : (w : Bool) (es : List (Name × Node m)) (h : T (is_node m w (joined es))) → edges_of w (joined es) h ≡ es
   unfolding joined edges_of
   edges_joined w [] h = refl
-  edges_joined w (e ∷ es) h = λ i. (e.0, same_node (record { shape = e.1.shape; sound = first _ _ (second (above e.0 (joined es)) _ h) }) e.1 refl i) ∷ edges_joined false es (second (is_node m true e.1.shape) _ (second (above e.0 (joined es)) _ h)) i
+  edges_joined w (e ∷ es) h = λ i. (e.0, same_node (record { shape = e.1.shape; sound = first _ _ (second (leads e.0 (joined es)) _ h) }) e.1 refl i) ∷ edges_joined false es (second (is_node m true e.1.shape) _ (second (leads e.0 (joined es)) _ h)) i
 
-  edges_checked : (es : List (Name × Node m)) (b : Bool) (e : is_sorted name_cmp es ≡ b) → T b → edges (checked es b e) ≡ es
+  edges_checked : (es : List (Name × Node m)) (b : Bool) (e : are_edges es ≡ b) → T b → edges (checked es b e) ≡ es
   unfolding checked edges
   edges_checked es true e h = edges_joined true es _
   edges_checked es false e h = absurd h
 
   -- the edges of the node that has these edges are these
-  pub edges-node : (es : List (Name × Node m)) → T (is_sorted name_cmp es) → edges (node es) ≡ es
+  pub edges-node : (es : List (Name × Node m)) → T (are_edges es) → edges (node es) ≡ es
   unfolding node
   edges-node es h = edges_checked es _ refl h
 
 module _ (m : Bool) where
-  edges_rise : (x : Name) (w : Bool) (s : Shape) (h : T (is_node m w s)) → above x s ≡ below_all x (edges_of {m = m} w s h)
+  above_edges : (x : Name) (w : Bool) (s : Shape) (h : T (is_node m w s)) → above x s ≡ below_all x (edges_of {m = m} w s h)
   unfolding edges_of
-  edges_rise x w bare h = refl
-  edges_rise x w mark h = refl
-  edges_rise x w (edge n c r) h = λ i. is_lt (name_cmp x n) && edges_rise x false r (second (is_node m true c) _ (second (above n r) _ h)) i
+  above_edges x w bare h = refl
+  above_edges x w mark h = refl
+  above_edges x w (edge n c r) h = λ i. is_lt (name_cmp x n) && above_edges x false r (second (is_node m true c) _ (second (leads n r) _ h)) i
 
   edges_of_sorted : (w : Bool) (s : Shape) (h : T (is_node m w s)) → T (is_sorted name_cmp (edges_of {m = m} w s h))
   unfolding edges_of
   edges_of_sorted w bare h = tt
   edges_of_sorted w mark h = tt
   edges_of_sorted w (edge n c r) h =
-      let rest = second (is_node m true c) _ (second (above n r) _ h) in
-      both _ _ (subst T (edges_rise n false r rest) (first _ _ h)) (edges_of_sorted false r rest)
+      let rest = second (is_node m true c) _ (second (leads n r) _ h) in
+      both _ _ (subst T (above_edges n false r rest) (second (is_utf8 n) _ (first _ _ h))) (edges_of_sorted false r rest)
+
+  edges_of_texts : (w : Bool) (s : Shape) (h : T (is_node m w s)) → T (are_texts (edges_of {m = m} w s h))
+  unfolding edges_of
+  edges_of_texts w bare h = tt
+  edges_of_texts w mark h = tt
+  edges_of_texts w (edge n c r) h =
+      both _ _ (first _ _ (first (leads n r) _ h)) (edges_of_texts false r (second (is_node m true c) _ (second (leads n r) _ h)))
 
   inside : (s : Shape) → T (is_node m false s) → is_mark s ≡ false
   inside bare h = refl
@@ -62,7 +70,7 @@ module _ (m : Bool) where
   joined_edges w bare h u = refl
   joined_edges w mark h u = absurd (true≢false u)
   joined_edges w (edge n c r) h u =
-      let rest = second (is_node m true c) _ (second (above n r) _ h) in
+      let rest = second (is_node m true c) _ (second (leads n r) _ h) in
       ap (edge n c) (joined_edges false r rest (inside r rest))
 
 module _ {m : Bool} where
@@ -71,7 +79,12 @@ module _ {m : Bool} where
   unfolding edges
   edges_sorted t = edges_of_sorted m true t.shape t.sound
 
-  pub shape_checked : (es : List (Name × Node m)) (b : Bool) (e : is_sorted name_cmp es ≡ b) → T b → (checked es b e).shape ≡ joined es
+  -- names rise and are UTF-8
+  pub edges_are : (t : Node m) → T (are_edges (edges t))
+  unfolding edges
+  edges_are t = edges_from (edges t) (edges_of_sorted m true t.shape t.sound) (edges_of_texts m true t.shape t.sound)
+
+  pub shape_checked : (es : List (Name × Node m)) (b : Bool) (e : are_edges es ≡ b) → T b → (checked es b e).shape ≡ joined es
   unfolding checked
   shape_checked es true e h = refl
   shape_checked es false e h = absurd h
@@ -79,7 +92,7 @@ module _ {m : Bool} where
   -- the node that has the edges of a node is that node
   pub node-edges : (t : Node m) → is_marked t ≡ false → node (edges t) ≡ t
   unfolding node is_marked edges
-  node-edges t u = same_node (node (edges t)) t (shape_checked (edges t) _ refl (edges_sorted t) ∙ joined_edges m true t.shape t.sound u)
+  node-edges t u = same_node (node (edges t)) t (shape_checked (edges t) _ refl (edges_are t) ∙ joined_edges m true t.shape t.sound u)
 
   -- two nodes that aren't marked are equal where their edges are
   pub same_edges : (t u : Node m) → is_marked t ≡ false → is_marked u ≡ false → edges t ≡ edges u → t ≡ u
@@ -90,7 +103,7 @@ module _ {m : Bool} where
   depth_joined [] = refl
   depth_joined (e ∷ es) = ap (max (depth_of e.1.shape + 1)) (depth_joined es)
 
-  pub depth-node : (es : List (Name × Node m)) → T (is_sorted name_cmp es) → depth (node es) ≡ deepest es
+  pub depth-node : (es : List (Name × Node m)) → T (are_edges es) → depth (node es) ≡ deepest es
   unfolding node depth
   depth-node es h = ap depth_of (shape_checked es _ refl h) ∙ sym (depth_joined es)
 
@@ -99,10 +112,10 @@ module _ {m : Bool} where
   most_le f h (e ∷ es) = omega (arith, h e, most_le f h es)
 
   -- each child is less deep than the node
-  pub falls : (f : Name × Node m → ℕ) → ((e : Name × Node m) → f e ≤ depth e.1 + 1) → (es : List (Name × Node m)) → T (is_sorted name_cmp es) → max (most f es) 0 ≤ depth (node es)
+  pub falls : (f : Name × Node m → ℕ) → ((e : Name × Node m) → f e ≤ depth e.1 + 1) → (es : List (Name × Node m)) → T (are_edges es) → max (most f es) 0 ≤ depth (node es)
   falls f h es s = let e = depth-node es s in let l = most_le f h es in omega arith
 
-  marked_checked : (es : List (Name × Node m)) (b : Bool) (e : is_sorted name_cmp es ≡ b) → is_marked (checked es b e) ≡ false
+  marked_checked : (es : List (Name × Node m)) (b : Bool) (e : are_edges es ≡ b) → is_marked (checked es b e) ≡ false
   unfolding checked joined is_marked empty
   marked_checked [] true e = refl
   marked_checked (x ∷ es) true e = refl
@@ -124,7 +137,7 @@ deepest_edges : (m w : Bool) (s : Shape) (h : T (is_node m w s)) → deepest (ed
 unfolding edges_of depth
 deepest_edges m w bare h = refl
 deepest_edges m w mark h = refl
-deepest_edges m w (edge n c r) h = ap (max (depth_of c + 1)) (deepest_edges m false r (second (is_node m true c) _ (second (above n r) _ h)))
+deepest_edges m w (edge n c r) h = ap (max (depth_of c + 1)) (deepest_edges m false r (second (is_node m true c) _ (second (leads n r) _ h)))
 
 pub depth-edges : {m : Bool} (t : Node m) → depth t ≡ deepest (edges t)
 unfolding edges depth

@@ -8,7 +8,8 @@ use Rattle.std.specs.Prelude.{◌≡◌, ℕ, ◌+◌, max, Bool, true, false, �
 use Rattle.std.proofs.Common.{sym, subst}
 use Rattle.std.specs.Ordering.{is_lt, eq_by_cmp}
 use Rattle.std.specs.FinMap.{is_sorted, find, put}
-use Rattle.std.specs.List.{filter}
+use Rattle.std.specs.List.{filter, list_all}
+use Rattle.std.specs.Str.{is_utf8}
 use denote.Param.Weighed.{most}
 use Rattle.hm_tree.specs.Names.{Name, name_cmp}
 
@@ -24,11 +25,15 @@ above x bare = true
 above x mark = true
 above x (edge n c r) = is_lt (name_cmp x n) && above x r
 
--- names rise; a mark stands in place of a whole node alone, and only where m allows it
+-- a name that is UTF-8, with greater ones behind it
+abbrev pub leads : Name → Shape → Bool
+leads n r = is_utf8 n && above n r
+
+-- names are UTF-8 and rise; a mark stands in place of a whole node alone, and only where m allows it
 abbrev pub is_node : Bool → Bool → Shape → Bool
 is_node m whole bare = true
 is_node m whole mark = m && whole
-is_node m whole (edge n c r) = above n r && (is_node m true c && is_node m false r)
+is_node m whole (edge n c r) = leads n r && (is_node m true c && is_node m false r)
 
 pub record Node (m : Bool) : Type 0 where
   pub shape : Shape
@@ -66,6 +71,37 @@ abbrev pub below_all : {X : Type 0} → Name → List (Name × X) → Bool
 below_all x [] = true
 below_all x (e ∷ es) = is_lt (name_cmp x e.0) && below_all x es
 
+-- whether each name in a list is UTF-8
+abbrev pub are_texts : {X : Type 0} → List (Name × X) → Bool
+are_texts = list_all (λ e. is_utf8 e.0)
+
+-- whether a list is that of a node's edges: names rise, and each is UTF-8
+abbrev pub are_edges : {X : Type 0} → List (Name × X) → Bool
+are_edges es = is_sorted name_cmp es && are_texts es
+
+module _ {X : Type 0} where
+  pub edges_rise : (es : List (Name × X)) → T (are_edges es) → T (is_sorted name_cmp es)
+  edges_rise es h = first _ _ h
+
+  pub edges_texts : (es : List (Name × X)) → T (are_edges es) → T (are_texts es)
+  edges_texts es h = second (is_sorted name_cmp es) _ h
+
+  pub edges_from : (es : List (Name × X)) → T (is_sorted name_cmp es) → T (are_texts es) → T (are_edges es)
+  edges_from es rise texts = both _ _ rise texts
+
+  -- an edge before others: its name is UTF-8 and less than theirs, and they are edges too
+  pub edges_head : (e : Name × X) (es : List (Name × X)) → T (are_edges (e ∷ es)) → T (is_utf8 e.0)
+  edges_head e es h = first _ _ (edges_texts (e ∷ es) h)
+
+  pub edges_below : (e : Name × X) (es : List (Name × X)) → T (are_edges (e ∷ es)) → T (below_all e.0 es)
+  edges_below e es h = first _ _ (edges_rise (e ∷ es) h)
+
+  pub edges_tail : (e : Name × X) (es : List (Name × X)) → T (are_edges (e ∷ es)) → T (are_edges es)
+  edges_tail e es h = edges_from es (second (below_all e.0 es) _ (edges_rise (e ∷ es) h)) (second (is_utf8 e.0) _ (edges_texts (e ∷ es) h))
+
+  pub edges_cons : (e : Name × X) (es : List (Name × X)) → T (is_utf8 e.0) → T (below_all e.0 es) → T (are_edges es) → T (are_edges (e ∷ es))
+  edges_cons e es text below h = edges_from (e ∷ es) (both _ _ below (edges_rise es h)) (both _ _ text (edges_texts es h))
+
 module _ {m : Bool} where
   unfoldable pub depth : Node m → ℕ
   depth t = depth_of t.shape
@@ -77,7 +113,7 @@ module _ {m : Bool} where
   edges_of w bare h = []
   edges_of w mark h = []
   edges_of w (edge n c r) h =
-      (n, record { shape = c; sound = first _ _ (second (above n r) _ h) }) ∷ edges_of false r (second (is_node m true c) _ (second (above n r) _ h))
+      (n, record { shape = c; sound = first _ _ (second (leads n r) _ h) }) ∷ edges_of false r (second (is_node m true c) _ (second (leads n r) _ h))
 
   unfoldable pub edges : Node m → List (Name × Node m)
   edges t = edges_of true t.shape t.sound
@@ -91,20 +127,21 @@ module _ {m : Bool} where
   above_joined x [] = refl
   above_joined x (e ∷ es) = λ i. is_lt (name_cmp x e.0) && above_joined x es i
 
-  pub joined_sound : (w : Bool) (es : List (Name × Node m)) → T (is_sorted name_cmp es) → T (is_node m w (joined es))
+  pub joined_sound : (w : Bool) (es : List (Name × Node m)) → T (are_edges es) → T (is_node m w (joined es))
   unfolding joined
   joined_sound w [] h = tt
   joined_sound w (e ∷ es) h =
-      both _ _ (subst T (sym (above_joined e.0 es)) (first _ _ h)) (both _ _ e.1.sound (joined_sound false es (second _ _ h)))
+      let leading = both _ _ (edges_head e es h) (subst T (sym (above_joined e.0 es)) (edges_below e es h)) in
+      both _ _ leading (both _ _ e.1.sound (joined_sound false es (edges_tail e es h)))
 
   unfoldable pub empty : Node m
   empty = record { shape = bare; sound = tt }
 
-  unfoldable pub checked : (es : List (Name × Node m)) (b : Bool) → is_sorted name_cmp es ≡ b → Node m
+  unfoldable pub checked : (es : List (Name × Node m)) (b : Bool) → are_edges es ≡ b → Node m
   checked es true e = record { shape = joined es; sound = joined_sound true es (subst T (sym e) tt) }
   checked es false e = empty
 
-  -- the node with these edges, whose names rise
+  -- the node with these edges, whose names rise and are UTF-8
   unfoldable pub node : List (Name × Node m) → Node m
   node es = checked es _ refl
 

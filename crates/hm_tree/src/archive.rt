@@ -2,9 +2,7 @@
 #![tactic(auto, using(crate::proofs::Kept::seen))]
 
 ghost use Rattle.std.specs.Prelude.{◌≡◌, ◌↔◌, IsTrue, T, ◌<◌, ◌+◌, length, OnOk, OnErr, IfOk, [], Some, None, is_some, slice_get, MatchOption};
-ghost use Rattle.std.specs.FinMap.{is_sorted};
-ghost use Rattle.hm_tree.specs.Names.{name_cmp};
-ghost use Rattle.hm_tree.specs.Nodes.{node, marked, empty};
+ghost use Rattle.hm_tree.specs.Nodes.{node, are_edges, marked, empty};
 ghost use Rattle.hm_tree.specs.Archives.{recorded, under, with_archive, edges_here, there, is_there};
 ghost use Rattle.hm_tree.specs.Edges.{rank};
 ghost use Rattle.hm_tree.specs.States.{state, at_path};
@@ -95,7 +93,7 @@ impl Archive {
 
     /// Present at the root, with these names, which rise, and what stands there, of which nothing is missing.
     pub fn of_edges(edges: Vec<(Name, Archive)>) -> Archive
-        requires rise { T (is_sorted name_cmp (there edges.items)) }
+        requires edges { T (are_edges (there edges.items)) }
         requires there { T (is_there edges.items) }
         ensures { result ≡ Some (node (there edges.items)) }
     {
@@ -198,6 +196,7 @@ impl Archive {
         match place_of(&self.edges, &name) {
             Ok(_) => Ok(()),
             Err(at) => {
+                name.utf8();
                 insert_edge(&mut self.edges, at, name, child)?;
                 Ok(())
             }

@@ -1,5 +1,5 @@
 //! Names, which are texts in the order of their UTF-8 bytes.
-ghost use Rattle.std.specs.Prelude.{◌≡◌, ◌↔◌, IsTrue, IfOk, string_bytes};
+ghost use Rattle.std.specs.Prelude.{◌≡◌, ◌↔◌, IsTrue, IfOk, IsUtf8, string_bytes};
 ghost use Rattle.hm_tree.specs.Names.{name_cmp};
 ghost use Rattle.hm_tree.specs.Cleaned.{cleaned};
 ghost use Rattle.hm_tree.specs.Classes.{IsInClass};
@@ -20,18 +20,21 @@ pub struct Name {
 }
 
 impl Model for Name {
-    ghost use Rattle.std.specs.Prelude.{List, ℕ};
+    ghost use Rattle.std.specs.Prelude.{List, ℕ, IsUtf8};
     ghost use Rattle.hm_tree.specs.Texts.{text_bytes};
 
     ghost Value = { List ℕ };
 
     ghost view = { λ n. text_bytes n.text };
+
+    ghost invariant = { λ n. IsUtf8 (text_bytes n.text) };
 }
 
 impl Name {
     /// The name with the bytes of a text.
     pub fn from_text(alloc: Global, text: &str) -> Result<Name, Memory>
-        ensures { IfOk result (λ name. name ≡ text.now) }
+        ensures value { IfOk result (λ name. name ≡ text.now) }
+        ensures utf8 { IfOk result (λ name. IsUtf8 name) }
     {
         Ok(Name {
             text: Text::of_str(alloc, text)?,
@@ -40,7 +43,8 @@ impl Name {
 
     /// The name with the bytes of a text, which it takes over.
     pub fn from_string(alloc: Global, text: String) -> Result<Name, Memory>
-        ensures { IfOk result (λ name. name ≡ string_bytes text) }
+        ensures value { IfOk result (λ name. name ≡ string_bytes text) }
+        ensures utf8 { IfOk result (λ name. IsUtf8 name) }
     {
         Ok(Name {
             text: Text::of_string(text),
@@ -50,7 +54,8 @@ impl Name {
     /// The name of what is left of a text where each CRLF and each other CR is made LF, and the control characters of
     /// ASCII other than tab and LF are dropped.
     pub fn cleaned(alloc: Global, text: &str) -> Result<Name, Memory>
-        ensures { IfOk result (λ name. name ≡ cleaned text.now) }
+        ensures value { IfOk result (λ name. name ≡ cleaned text.now) }
+        ensures utf8 { IfOk result (λ name. IsUtf8 name) }
     {
         if is_clean(text.as_bytes()) {
             return Name::from_text(alloc, text);
@@ -75,23 +80,33 @@ impl Name {
         }
     }
 
+    /// A name's bytes are UTF-8, which a proof knows once this was called. It does nothing.
+    pub fn utf8(&self)
+        ensures { IsUtf8 self.now }
+    {
+        let _ = &self.text;
+    }
+
     /// Its text.
     pub fn text(&self) -> &str
-        ensures { result.now ≡ self.now }
+        ensures value { result.now ≡ self.now }
+        ensures utf8 { IsUtf8 self.now }
     {
         self.text.as_str()
     }
 
     /// Its UTF-8 bytes.
     pub fn bytes(&self) -> &[u8]
-        ensures { result.now ≡ self.now }
+        ensures value { result.now ≡ self.now }
+        ensures utf8 { IsUtf8 self.now }
     {
         self.text.as_str().as_bytes()
     }
 
     /// An equal name.
     pub fn copy(&self) -> Result<Name, Memory>
-        ensures { IfOk result (λ name. name ≡ self.now) }
+        ensures value { IfOk result (λ name. name ≡ self.now) }
+        ensures utf8 { IfOk result (λ name. IsUtf8 name) }
     {
         Ok(Name {
             text: self.text.copy()?,

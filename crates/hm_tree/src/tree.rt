@@ -2,9 +2,7 @@
 #![tactic(auto, using(crate::proofs::Sorted::seen))]
 
 ghost use Rattle.std.specs.Prelude.{◌≡◌, ◌↔◌, IsTrue, T, ◌<◌, ◌≤◌, length, IfOk, OnOk, OnErr, IfErr, IfSome, slice_get, Some, None, option_copied};
-ghost use Rattle.std.specs.FinMap.{is_sorted};
-ghost use Rattle.hm_tree.specs.Names.{name_cmp};
-ghost use Rattle.hm_tree.specs.Nodes.{node, edges, below, with_edge, without_edge, depth, deepest, empty};
+ghost use Rattle.hm_tree.specs.Nodes.{node, are_edges, edges, below, with_edge, without_edge, depth, deepest, empty};
 ghost use Rattle.hm_tree.specs.Edges.{IsPlaceOf, IsGapFor};
 ghost use Rattle.hm_tree.specs.States.{state, at_path};
 ghost use Rattle.hm_tree.specs.declared.archive.State.TheVariants.{Present};
@@ -40,7 +38,7 @@ impl Model for Tree {
 
     ghost size = { depth };
 
-    ghost size_decreases = { λ t h. falls _ (λ e. Prim.omega arith) t.edges.items h.sorted };
+    ghost size_decreases = { λ t h. falls _ (λ e. Prim.omega arith) t.edges.items h.edges };
 }
 
 impl Tree {
@@ -66,7 +64,7 @@ impl Tree {
 
     /// The tree with these edges, whose names rise.
     pub fn of_edges(edges: Vec<(Name, Tree)>) -> Result<Tree, Memory>
-        requires { T (is_sorted name_cmp edges.items) }
+        requires { T (are_edges edges.items) }
         ensures { IfOk result (λ tree. tree ≡ node edges.items) }
     {
         let Some(deep) = depth_above(&edges) else {
@@ -154,6 +152,7 @@ impl Tree {
                     Some(below) => below,
                     None => return Err(Memory),
                 };
+                name.utf8();
                 insert_edge(&mut self.edges, at, name, child)?;
                 self.deep = self.deep.max(below);
                 Ok(())

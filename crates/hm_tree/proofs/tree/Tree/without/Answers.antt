@@ -1,8 +1,8 @@
 use Rattle.std.proofs.Common.{ap, ◌∙◌, arith, rules}
 use Rattle.hm_tree.specs.Nodes.{node, deepest}
-use Rattle.hm_tree.specs.NodeLaws.{edges_sorted}
+use Rattle.hm_tree.specs.NodeLaws.{edges_are}
 use Rattle.hm_tree.proofs.Deepest.{depth_left}
-use Rattle.hm_tree.proofs.Sorted.{remove_is, sorted_filter, without_missing}
+use Rattle.hm_tree.proofs.Sorted.{remove_is, edges_filter, without_missing}
 use Rattle.hm_tree.proofs.tree.Tree.without.Goals as goal
 use Rattle.hm_tree.proofs.tree.Tree.without.Goals.{then-child-self, else-child-self}
 
@@ -18,13 +18,13 @@ deepest-self-inside-requires c =
 
 pub invariant_of-self : goal.invariant_of-self
 invariant_of-self c = record {
-  sorted = rw (c.remove-child.ensures.items, remove_is _ _ c.self.invariant.sorted c.self.view_is c.args.name.now c.in-Ok.at c.in-Ok.ensures.found) (sorted_filter _ _ (edges_sorted _));
+  edges = rw (c.remove-child.ensures.items, remove_is _ _ c.self.invariant.edges c.self.view_is c.args.name.now c.in-Ok.at c.in-Ok.ensures.found) (edges_filter _ _ (edges_are _));
   deep = c.deepest-self-inside.ensures ∙ ap deepest c.deref.ensures.value;
 }
 
 pub invariant_of-self-else-child-self : goal.invariant_of-self-else-child-self
 invariant_of-self-else-child-self c = record {
-  sorted = rw (c.remove-child.ensures.items, remove_is _ _ c.self.invariant.sorted c.self.view_is c.args.name.now c.in-Ok.at c.in-Ok.ensures.found) (sorted_filter _ _ (edges_sorted _));
+  edges = rw (c.remove-child.ensures.items, remove_is _ _ c.self.invariant.edges c.self.view_is c.args.name.now c.in-Ok.at c.in-Ok.ensures.found) (edges_filter _ _ (edges_are _));
   deep =
       let d = depth_left _ c.remove-child.new.self.items _ _ c.in-Ok.at _ _ c.remove-child.result c.self.invariant c.self.view_is c.in-Ok.ensures.found.in_range c.remove-child.ensures.value c.remove-child.ensures.items c.child.invariant c.child.view_is in
       omega (arith, c.if-child-self.false);
@@ -32,7 +32,7 @@ invariant_of-self-else-child-self c = record {
 
 pub returns-after-child-self-clause-left : goal.returns-after-child-self-clause-left
 returns-after-child-self-clause-left c =
-    let left = ap node (c.remove-child.ensures.items ∙ remove_is _ _ c.self.invariant.sorted c.self.view_is c.args.name.now c.in-Ok.at c.in-Ok.ensures.found) in
+    let left = ap node (c.remove-child.ensures.items ∙ remove_is _ _ c.self.invariant.edges c.self.view_is c.args.name.now c.in-Ok.at c.in-Ok.ensures.found) in
     elim c.if-child-self.branch [
       | then-child-self w ↦ w.self-is ∙ left
       | else-child-self w ↦ w.self-is ∙ left
