@@ -132,6 +132,9 @@ node_nothing m = refl
 pub node-nil : {m : Bool} (es : List (Name × Node m)) → es ≡ [] → node es ≡ empty
 node-nil {m = m} es e = ap node e ∙ same_node (node []) empty (node_nothing m)
 
+pub edges_empty : {m : Bool} → edges (empty {m = m}) ≡ []
+edges_empty {m = m} = ap edges (sym (node-nil {m = m} [] refl)) ∙ edges-node [] tt
+
 -- the depth of a node by its edges
 deepest_edges : (m w : Bool) (s : Shape) (h : T (is_node m w s)) → deepest (edges_of {m = m} w s h) ≡ depth_of s
 unfolding edges_of depth

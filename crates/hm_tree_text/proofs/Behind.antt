@@ -7,16 +7,11 @@ use Rattle.std.specs.declared.cmp.Ordering.{Ordering}
 use Rattle.std.specs.declared.cmp.Ordering.TheVariants.{Less, Equal, Greater}
 use Rattle.std.specs.FinMap.{is_sorted}
 use Rattle.hm_tree.specs.Names.{Name, name_cmp}
-use Rattle.hm_tree.specs.Nodes.{both, first, second, below_all}
-use Rattle.hm_tree.proofs.Sorted.{name_total}
-use Rattle.std.specs.Str.{IsUtf8}
+use Rattle.hm_tree.specs.Nodes.{both, first, second, below_all, are_texts, are_edges, edges_rise, edges_texts, edges_from}
+use Rattle.hm_tree.proofs.Sorted.{name_total, is_less, text_test, text_tested}
+use Rattle.std.specs.Str.{IsUtf8, is_utf8}
 use Rattle.std.proofs.lemmas.Str.{IsUtf8-from_ascii, IsUtf8-append}
 use Rattle.hm_tree_text.specs.Reading.{is_behind, IsAfter}
-
-is_less : (o : Ordering) → T (is_lt o) → o ≡ Less
-is_less Less p = refl
-is_less Equal p = absurd p
-is_less Greater p = absurd p
 
 less_is : (o : Ordering) → o ≡ Less → T (is_lt o)
 less_is o e = subst (λ r. T (is_lt r)) (sym e) tt
@@ -39,7 +34,7 @@ module _ {X : Type 0} where
   all_below_more k n x [] h less = both _ _ (less_is _ less) tt
   all_below_more k n x (e ∷ es) h less = both _ _ (first _ _ h) (all_below_more k n x es (second _ _ h) less)
 
-  pub sorted_behind : (n : Name) (x : X) (es : List (Name × X)) → T (is_sorted name_cmp es) → T (is_behind n es) → T (is_sorted name_cmp (es ++ (n, x) ∷ []))
+  sorted_behind : (n : Name) (x : X) (es : List (Name × X)) → T (is_sorted name_cmp es) → T (is_behind n es) → T (is_sorted name_cmp (es ++ (n, x) ∷ []))
   sorted_behind n x [] h b = tt
   sorted_behind n x (e ∷ es) h b = both _ _ (all_below_more e.0 n x es (first _ _ h) (is_less _ (first _ _ b))) (sorted_behind n x es (second _ _ h) (second _ _ b))
 
@@ -53,6 +48,22 @@ module _ {X : Type 0} where
   behind_sorted n x (e ∷ es) more h = both _ _ (below_among e.0 n x es more (first _ _ h)) (behind_sorted n x es more (second _ _ h))
 
 module _ {X : Type 0} where
+  texts_behind : (n : Name) (x : X) (es : List (Name × X)) → T (are_texts es) → T (is_utf8 n) → T (are_texts (es ++ (n, x) ∷ []))
+  texts_behind n x [] h u = both _ _ u tt
+  texts_behind n x (e ∷ es) h u = both _ _ (first _ _ h) (texts_behind n x es (second (is_utf8 e.0) _ h) u)
+
+  -- with an edge of a greater name behind them they are edges
+  pub edges_behind : (n : Name) (x : X) (es : List (Name × X)) → T (are_edges es) → IsUtf8 n → T (is_behind n es) → T (are_edges (es ++ (n, x) ∷ []))
+  edges_behind n x es h u b = edges_from _ (sorted_behind n x es (edges_rise es h) b) (texts_behind n x es (edges_texts es h) (text_test n u))
+
+  texts_among : (e : Name × X) (es more : List (Name × X)) → T (are_texts (es ++ e ∷ more)) → IsUtf8 e.0
+  texts_among e [] more h = text_tested e.0 (first _ _ h)
+  texts_among e (d ∷ es) more h = texts_among e es more (second (is_utf8 d.0) _ h)
+
+  -- each name among them is UTF-8
+  pub text_among : (e : Name × X) (es more : List (Name × X)) → T (are_edges (es ++ e ∷ more)) → IsUtf8 e.0
+  text_among e es more h = texts_among e es more (edges_texts _ h)
+
   -- a name is greater than all exactly where it is greater than the last
   pub behind_after : (n : Name) (es : List (Name × X)) (k : Name) (x : X) → T (is_sorted name_cmp es) → slice_get es (length es - 1) ≡ Some (k, x) → T (is_behind n es) ↔ IsAfter (Some k) n
   behind_after n es k x h at = (last_behind n es k x at, behind_last n es k x h at)

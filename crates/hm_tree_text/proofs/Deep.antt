@@ -1,21 +1,20 @@
 -- Beginnings that leave many braces open: a value that goes on so is as deep.
 use Rattle.std.proofs.Common.{◌≡◌, ℕ, zero, suc, ◌+◌, ◌<◌, ◌≤◌, ◌⊎◌, inl, inr, Bool, true, T, List, [], ◌∷◌, ◌++◌, length, refl, sym, ap, subst, ◌∙◌, append_assoc, arith}
 use Rattle.std.specs.List.{AllByRecursion}
-use Rattle.std.specs.FinMap.{is_sorted}
 use Rattle.std.specs.Str.{IsUtf8}
-use Rattle.hm_tree.specs.Names.{Name, name_cmp}
-use Rattle.hm_tree.specs.Nodes.{bare, Node, edges, depth, deepest}
-use Rattle.hm_tree.specs.NodeLaws.{edges_sorted, depth-edges}
+use Rattle.hm_tree.specs.Names.{Name}
+use Rattle.hm_tree.specs.Nodes.{bare, Node, are_edges, edges_rise, edges, depth, deepest}
+use Rattle.hm_tree.specs.NodeLaws.{edges_are, depth-edges}
 use Rattle.hm_tree.specs.Spelling.{spelled}
 use Rattle.hm_tree.specs.SpellingLaws.{spelled_one, spelled-append}
-use Rattle.hm_tree_text.specs.Text.{whole, below, text, HasTextNames, edge_text, separator, is_more, inside, commas}
+use Rattle.hm_tree_text.specs.Text.{whole, below, text, HasAllowedMarks, edge_text, separator, is_more, inside, commas}
 use Rattle.hm_tree_text.specs.Opening.{Opens, opens_one, opens_more}
 use Rattle.hm_tree_text.specs.Reading.{is_behind, IsAfter, IsName, IsEdge, BeginsWith}
 use Rattle.hm_tree_text.specs.Failing.{OpensInside, OpensBelow, OpensEdge}
 use Rattle.hm_tree_text.proofs.Spelling.{heads, tails, over_separator, no_colon, edge_apart, brace_quote}
 use Rattle.hm_tree_text.proofs.Parts.{IsNot}
-use Rattle.hm_tree_text.proofs.Behind.{behind_sorted}
-use Rattle.hm_tree_text.proofs.Listed.{Edges, whole_some, below_full, has_edges, IsTextEdge, edges_from_names, all_among}
+use Rattle.hm_tree_text.proofs.Behind.{behind_sorted, text_among}
+use Rattle.hm_tree_text.proofs.Listed.{Edges, whole_some, below_full, has_edges, IsAllowedEdge, edges_from_marks, all_among}
 
 -- what stands behind a colon
 child_behind : (c : Node true) (more : Bool) (z w : List ℕ) → text below c.shape ++ separator more ∷ z ≡ 58 ∷ w → (c.shape ≡ bare → ⊥) × (text whole c.shape ++ separator more ∷ z ≡ w)
@@ -127,7 +126,8 @@ module _ (m : Bool) where
                 is = q.1 ∙ sym (append_assoc (spelled name) (58 ∷ inner) h.rest);
               })
               | inr q ↦
-                  let text = all_among m es q.0 q.1 (subst (AllByRecursion (IsTextEdge m)) q.3 (edges_from_names m u nu)) in
+                  let are = subst (λ (l : Edges). T (are_edges l)) q.3 (edges_are u) in
+                  let allowed = all_among m es q.0 q.1 (subst (AllByRecursion (IsAllowedEdge m)) q.3 (edges_from_marks m u nu)) in
                   inr (record {
                     part = edge_text q.0.0 q.0.1.shape ++ 44 ∷ [];
                     rest = q.2;
@@ -135,9 +135,9 @@ module _ (m : Bool) where
                       name = q.0.0;
                       child = q.0.1;
                       more = true;
-                      is_text = text.is_text;
-                      after = behind_sorted q.0.0 q.0.1 es q.1 (subst (λ l. T (is_sorted name_cmp l)) q.3 (edges_sorted u));
-                      names = text.names;
+                      is_text = text_among q.0 es q.1 are;
+                      after = behind_sorted q.0.0 q.0.1 es q.1 (edges_rise _ are);
+                      marks = allowed;
                       is = refl;
                     };
                     is = q.4 ∙ sym (append_assoc (edge_text q.0.0 q.0.1.shape) (44 ∷ []) q.2);
@@ -145,7 +145,7 @@ module _ (m : Bool) where
             ]
 
     -- and so behind the edges of a node that is whole
-    pub edge_deep : (t : Node true) → HasTextNames m t.shape → (x : List ℕ) → BeginsWith (OpensEdge m room (edges t)) x → BeginsWith (OpensInside m room) (commas (edges t) ++ x)
+    pub edge_deep : (t : Node true) → HasAllowedMarks m t.shape → (x : List ℕ) → BeginsWith (OpensEdge m room (edges t)) x → BeginsWith (OpensInside m room) (commas (edges t) ++ x)
     edge_deep t nt x h =
         let f = h.is_form in
         record {

@@ -2,25 +2,25 @@
 use Rattle.std.proofs.Common.{◌≡◌, ℕ, zero, suc, ◌<◌, ◌⊎◌, inl, inr, Bool, true, false, T, List, [], ◌∷◌, ◌++◌, ◌&&◌, length, get_or, Option, refl, sym, ap, subst, ◌∙◌, append_assoc, arith, length-append}
 use Rattle.std.proofs.lemmas.List.{append-nil}
 use Rattle.std.specs.List.{AllByRecursion}
-use Rattle.std.specs.FinMap.{is_sorted}
 use Rattle.std.specs.Str.{IsUtf8}
 use Rattle.std.proofs.lemmas.Str.{IsUtf8-from_ascii}
-use Rattle.hm_tree.specs.Names.{Name, name_cmp}
+use Rattle.hm_tree.specs.Names.{Name}
 use Rattle.std.specs.Ordering.{is_lt}
-use Rattle.hm_tree.specs.Nodes.{Shape, bare, mark, edge, Node, edges, node, empty, both, first, second}
-use Rattle.hm_tree.specs.NodeLaws.{edges-node, edges_sorted, is_marked-node}
+use Rattle.hm_tree.specs.Nodes.{Shape, bare, mark, edge, Node, edges, node, empty, both, first, second, are_edges, edges_rise, edges_cons}
+use Rattle.hm_tree.specs.NodeLaws.{edges-node, edges_are, is_marked-node}
 use Rattle.hm_tree.specs.Spelling.{spelled}
+use Rattle.hm_tree.proofs.Sorted.{text_test}
 use Rattle.hm_tree.specs.SpellingLaws.{spelled_one}
-use Rattle.hm_tree_text.specs.Text.{whole, below, text, HasTextNames, edge_text, separator, is_more, inside, commas}
+use Rattle.hm_tree_text.specs.Text.{whole, below, text, HasAllowedMarks, edge_text, separator, is_more, inside, commas}
 use Rattle.hm_tree_text.specs.Begun.{IsBegun}
 use Rattle.hm_tree_text.specs.Reading.{is_behind, IsAfter, IsName, IsSeparator, IsEdge, IsBelow, IsFull, IsInside, IsWhole, BeginsWith, IsLongestPart}
 use Rattle.hm_tree_text.proofs.Spelling.{tails, apart, IsOver, over_separator, no_colon}
 use Rattle.hm_tree_text.proofs.Parts.{nothing_here, IsNot}
-use Rattle.hm_tree_text.proofs.Behind.{behind_sorted, sorted_behind, behind_more, longer, longer_greater, longer_text}
-use Rattle.hm_tree_text.proofs.Listed.{Edges, shape_empty, none_shape, whole_some, below_full, has_edges, commas_last, inside_last, remaining, IsTextEdge, names_from_edges, edges_from_names, all_last, all_among}
+use Rattle.hm_tree_text.proofs.Behind.{behind_sorted, edges_behind, text_among, behind_more, longer, longer_greater, longer_text}
+use Rattle.hm_tree_text.proofs.Listed.{Edges, shape_empty, none_shape, whole_some, below_full, has_edges, commas_last, inside_last, remaining, IsAllowedEdge, marks_from_edges, edges_from_marks, all_last, all_among}
 
-pub empty_names : (m : Bool) → HasTextNames m (empty {m = true}).shape
-empty_names m = subst (HasTextNames m) (sym shape_empty) tt
+pub empty_marks : (m : Bool) → HasAllowedMarks m (empty {m = true}).shape
+empty_marks m = subst (HasAllowedMarks m) (sym shape_empty) tt
 
 below_empty : text below (empty {m = true}).shape ≡ []
 below_empty = ap (text below) shape_empty
@@ -40,7 +40,7 @@ module _ (m : Bool) (es : Edges) (last : Option Name) where
       more = false;
       is_text = h.is_text;
       after = same h.name h.after;
-      names = empty_names m;
+      marks = empty_marks m;
       is = ap (λ l. l ++ 125 ∷ []) (h.is ∙ sym (bare_text h.name));
     },
   )
@@ -67,7 +67,7 @@ module _ (m : Bool) (es : Edges) (n : Name) where
       more = h.more;
       is_text = u;
       after = b;
-      names = h.names;
+      marks = h.marks;
       is = append-nil (spelled n ++ y) ∙ ap (λ l. spelled n ++ l) h.is ∙ sym (append_assoc (spelled n) (text below h.child.shape) (separator h.more ∷ []));
     },
   )
@@ -84,12 +84,12 @@ module _ (m : Bool) (es : Edges) (n : Name) where
       record {
         part = text below e.child.shape ++ separator e.more ∷ [];
         rest = h.rest;
-        is_form = record { child = e.child; more = e.more; names = e.names; is = refl };
+        is_form = record { child = e.child; more = e.more; marks = e.marks; is = refl };
         is = (edge_split y h).1 ∙ sym (append_assoc (text below e.child.shape) (separator e.more ∷ []) h.rest);
       }
 
   module _ (c : Node true) where
-    pub separator_edge : IsUtf8 n → T (is_behind n es) → HasTextNames m c.shape → (y : List ℕ) → IsSeparator y → IsBegun (IsEdge m es) (edge_text n c.shape ++ y)
+    pub separator_edge : IsUtf8 n → T (is_behind n es) → HasAllowedMarks m c.shape → (y : List ℕ) → IsSeparator y → IsBegun (IsEdge m es) (edge_text n c.shape ++ y)
     separator_edge u b t y h = (
       [],
       record {
@@ -98,7 +98,7 @@ module _ (m : Bool) (es : Edges) (n : Name) where
         more = h.more;
         is_text = u;
         after = b;
-        names = t;
+        marks = t;
         is = append-nil (edge_text n c.shape ++ y) ∙ ap (λ l. edge_text n c.shape ++ l) h.is;
       },
     )
@@ -132,19 +132,19 @@ no_separator x comma brace = nothing_here IsSeparator IsSeparating (44 ∷ []) (
 -- ---- an edge among those of a node
 
 -- the node that has these edges
-module _ (m : Bool) (es : Edges) (sorted : T (is_sorted name_cmp es)) (names : AllByRecursion (IsTextEdge m) es) where
-  pub listed_names : HasTextNames m (node es).shape
-  listed_names = names_from_edges m (node es) (is_marked-node es) (subst (AllByRecursion (IsTextEdge m)) (sym (edges-node es sorted)) names)
+module _ (m : Bool) (es : Edges) (are : T (are_edges es)) (marks : AllByRecursion (IsAllowedEdge m) es) where
+  pub listed_marks : HasAllowedMarks m (node es).shape
+  listed_marks = marks_from_edges m (node es) (is_marked-node es) (subst (AllByRecursion (IsAllowedEdge m)) (sym (edges-node es are)) marks)
 
   pub listed_inside : 0 < length es → IsInside m (inside es)
   listed_inside some = record {
     node = node es;
-    names = listed_names;
-    some = let l = ap length (edges-node es sorted) in omega arith;
-    is = ap inside (sym (edges-node es sorted));
+    marks = listed_marks;
+    some = let l = ap length (edges-node es are) in omega arith;
+    is = ap inside (sym (edges-node es are));
   }
 
-module _ (m : Bool) (es : Edges) (sorted : T (is_sorted name_cmp es)) (names : AllByRecursion (IsTextEdge m) es) where
+module _ (m : Bool) (es : Edges) (are : T (are_edges es)) (marks : AllByRecursion (IsAllowedEdge m) es) where
   some_more : (es : Edges) (e : Name × Node true) → 0 < length (es ++ e ∷ [])
   some_more es e = let l = length-append es (e ∷ []) in omega arith
 
@@ -160,14 +160,14 @@ module _ (m : Bool) (es : Edges) (sorted : T (is_sorted name_cmp es)) (names : A
       e : Name × Node true
       e = (n, c)
 
-      here : IsTextEdge m e
-      here = record { is_text = h.is_text; names = h.names }
+      here : IsAllowedEdge m e
+      here = h.marks
 
-      sorted_here : T (is_sorted name_cmp (es ++ e ∷ []))
-      sorted_here = sorted_behind n c es sorted h.after
+      edges_here : T (are_edges (es ++ e ∷ []))
+      edges_here = edges_behind n c es are h.is_text h.after
 
-      names_here : AllByRecursion (IsTextEdge m) (es ++ e ∷ [])
-      names_here = all_last m es e names here
+      marks_here : AllByRecursion (IsAllowedEdge m) (es ++ e ∷ [])
+      marks_here = all_last m es e marks here
 
       f : Name × Node true
       f = (longer n, empty)
@@ -183,13 +183,13 @@ module _ (m : Bool) (es : Edges) (sorted : T (is_sorted name_cmp es)) (names : A
           after (d ∷ es) b = both _ _ (first _ _ (behind_more n (longer n) (d ∷ es) b (longer_greater n))) (after es (second _ _ b))
 
       by : (more : Bool) → y ≡ edge_text n c.shape ++ separator more ∷ [] → IsBegun (IsInside m) (commas es ++ y)
-      by false is = ([], subst (IsInside m) (sym (append-nil (inside (es ++ e ∷ []))) ∙ sym (inside_last es e []) ∙ ap (λ l. commas es ++ l) (append-nil _ ∙ sym is) ∙ sym (append-nil (commas es ++ y))) (listed_inside m (es ++ e ∷ []) sorted_here names_here (some_more es e)))
+      by false is = ([], subst (IsInside m) (sym (append-nil (inside (es ++ e ∷ []))) ∙ sym (inside_last es e []) ∙ ap (λ l. commas es ++ l) (append-nil _ ∙ sym is) ∙ sym (append-nil (commas es ++ y))) (listed_inside m (es ++ e ∷ []) edges_here marks_here (some_more es e)))
       by true is =
           let rest : List ℕ = edge_text f.0 f.1.shape ++ 125 ∷ [] in (
             rest,
             subst (IsInside m)
                 (sym (append-nil (inside ((es ++ e ∷ []) ++ f ∷ []))) ∙ sym (inside_last (es ++ e ∷ []) f []) ∙ ap (λ l. commas (es ++ e ∷ []) ++ l) (append-nil rest) ∙ commas_last es e rest ∙ ap (λ l. commas es ++ (l ++ rest)) (sym is) ∙ sym (append_assoc (commas es) y rest))
-                (listed_inside m ((es ++ e ∷ []) ++ f ∷ []) (sorted_behind (longer n) empty (es ++ e ∷ []) sorted_here behind_here) (all_last m (es ++ e ∷ []) f names_here (record { is_text = longer_text n h.is_text; names = empty_names m })) (some_more (es ++ e ∷ []) f)),
+                (listed_inside m ((es ++ e ∷ []) ++ f ∷ []) (edges_behind (longer n) empty (es ++ e ∷ []) edges_here (longer_text n h.is_text) behind_here) (all_last m (es ++ e ∷ []) f marks_here (empty_marks m)) (some_more (es ++ e ∷ []) f)),
           )
 
 -- an edge comes behind those that were read
@@ -200,8 +200,8 @@ inside_edge m es y h = by (edges h.is_form.node) refl h.is_form.some (h.is ∙ a
     by [] same some is = let l = ap length same in absurd (omega arith)
     by (f ∷ fs) same some is =
         let next = remaining y h.rest es f fs (is ∙ ap (λ l. inside l ++ h.rest) same) in
-        let sorted : T (is_sorted name_cmp (es ++ next.next ∷ next.more)) = subst (λ l. T (is_sorted name_cmp l)) (same ∙ next.among) (edges_sorted h.is_form.node) in
-        let text = all_among m es next.next next.more (subst (AllByRecursion (IsTextEdge m)) (same ∙ next.among) (edges_from_names m h.is_form.node h.is_form.names)) in
+        let are : T (are_edges (es ++ next.next ∷ next.more)) = subst (λ (l : Edges). T (are_edges l)) (same ∙ next.among) (edges_are h.is_form.node) in
+        let allowed = all_among m es next.next next.more (subst (AllByRecursion (IsAllowedEdge m)) (same ∙ next.among) (edges_from_marks m h.is_form.node h.is_form.marks)) in
         record {
           part = edge_text next.next.0 next.next.1.shape ++ separator (is_more next.more) ∷ [];
           rest = inside next.more ++ h.rest;
@@ -209,9 +209,9 @@ inside_edge m es y h = by (edges h.is_form.node) refl h.is_form.some (h.is ∙ a
             name = next.next.0;
             child = next.next.1;
             more = is_more next.more;
-            is_text = text.is_text;
-            after = behind_sorted next.next.0 next.next.1 es next.more sorted;
-            names = text.names;
+            is_text = text_among next.next es next.more are;
+            after = behind_sorted next.next.0 next.next.1 es next.more (edges_rise _ are);
+            marks = allowed;
             is = refl;
           };
           is = next.spelled ∙ sym (append_assoc (edge_text next.next.0 next.next.1.shape) (separator (is_more next.more) ∷ []) (inside next.more ++ h.rest));
@@ -226,13 +226,13 @@ allowed : (m : Bool) → T m → m ≡ true
 allowed true h = refl
 allowed false h = absurd h
 
-whole_first : (m : Bool) (s : Shape) → HasTextNames m s → (x : List ℕ) → (b : ℕ) × (r : List ℕ) × IsOpening m b × (text whole s ++ x ≡ b ∷ r)
+whole_first : (m : Bool) (s : Shape) → HasAllowedMarks m s → (x : List ℕ) → (b : ℕ) × (r : List ℕ) × IsOpening m b × (text whole s ++ x ≡ b ∷ r)
 whole_first m bare h x = (123, _, inl refl, refl)
 whole_first m mark h x = (33, _, inr (refl, allowed m h), refl)
 whole_first m (edge n c r) h x = (123, _, inl refl, refl)
 
 bare_whole : (m : Bool) → IsWhole m (123 ∷ 125 ∷ [])
-bare_whole m = record { node = empty; names = empty_names m; is = sym (ap (text whole) shape_empty) }
+bare_whole m = record { node = empty; marks = empty_marks m; is = sym (ap (text whole) shape_empty) }
 
 abbrev pub NoOpening : Bool → List ℕ → Type 0
 NoOpening m x = (b : ℕ) (r : List ℕ) → x ≡ b ∷ r → IsOpening m b → ⊥
@@ -242,7 +242,7 @@ no_opening m x brace point b r e good = elim good [ inl c ↦ brace r (e ∙ ap 
 
 pub no_whole : (m : Bool) (x : List ℕ) → NoOpening m x → IsLongestPart (IsWhole m) x 0
 no_whole m x none = nothing_here (IsWhole m) (IsOpening m) (123 ∷ 125 ∷ []) (bare_whole m)
-    (λ y h. let f = whole_first m h.is_form.node.shape h.is_form.names h.rest in (f.0, f.1, f.2, h.is ∙ ap (λ l. l ++ h.rest) h.is_form.is ∙ f.3))
+    (λ y h. let f = whole_first m h.is_form.node.shape h.is_form.marks h.rest in (f.0, f.1, f.2, h.is ∙ ap (λ l. l ++ h.rest) h.is_form.is ∙ f.3))
     x none
 
 -- a node of one edge without a name
@@ -266,7 +266,7 @@ module _ (m : Bool) where
     [],
     record {
       node = h.node;
-      names = h.names;
+      marks = h.marks;
       some = λ e. let n = none_shape h.node e in let s = h.some in omega arith;
       is = append-nil _ ∙ ap (λ l. 123 ∷ l) h.is ∙ sym (whole_some h.node (λ e. let s = h.some in omega arith));
     },
@@ -280,7 +280,7 @@ module _ (m : Bool) where
       record {
         part = inside (edges f.node);
         rest = h.rest;
-        is_form = record { node = f.node; names = f.names; some = positive (length (edges f.node)) some; is = refl };
+        is_form = record { node = f.node; marks = f.marks; some = positive (length (edges f.node)) some; is = refl };
         is = tails 123 123 _ _ (sym is ∙ ap (λ l. l ++ h.rest) (whole_some f.node some));
       }
 
@@ -289,7 +289,7 @@ module _ (m : Bool) where
     [],
     record {
       node = h.node;
-      names = h.names;
+      marks = h.marks;
       is = append-nil _ ∙ ap (λ l. 123 ∷ l) h.is ∙ sym (whole_some h.node (λ e. let s = h.some in omega arith));
     },
   )
@@ -301,7 +301,7 @@ module _ (m : Bool) where
         rest = h.rest;
         is_form = record {
           node = h.is_form.node;
-          names = h.is_form.names;
+          marks = h.is_form.marks;
           some = λ e. not h.rest (tails 123 123 _ _ (h.is ∙ ap (λ l. l ++ h.rest) (h.is_form.is ∙ ap (text whole) e)));
           is = h.is_form.is;
         };
@@ -314,7 +314,7 @@ module _ (m : Bool) where
     record {
       child = h.node;
       more = false;
-      names = h.names;
+      marks = h.marks;
       is = ap (λ l. (58 ∷ l) ++ 125 ∷ []) h.is ∙ ap (λ l. l ++ 125 ∷ []) (sym (below_full h.node.shape h.some));
     },
   )
@@ -327,16 +327,16 @@ module _ (m : Bool) where
       record {
         part = text whole f.child.shape;
         rest = separator f.more ∷ h.rest;
-        is_form = record { node = f.child; names = f.names; some = some; is = refl };
+        is_form = record { node = f.child; marks = f.marks; some = some; is = refl };
         is = tails 58 58 _ _ (sym is ∙ ap (λ l. l ++ separator f.more ∷ h.rest) (below_full f.child.shape some));
       }
 
   single_inside : IsInside m (inside single)
-  single_inside = listed_inside m single tt (record { is_text = no_bytes; names = empty_names m }, tt) (omega arith)
+  single_inside = listed_inside m single (edges_cons ([], empty {m = true}) [] (text_test [] no_bytes) tt tt) (empty_marks m, tt) (omega arith)
 
   pub no_full : (x : List ℕ) → NoOpening m x → IsLongestPart (IsFull m) x 0
   no_full x none =
       let one = inside_full (inside single) single_inside in
       nothing_here (IsFull m) (IsOpening m) _ one.1
-      (λ y h. let f = whole_first m h.is_form.node.shape h.is_form.names h.rest in (f.0, f.1, f.2, h.is ∙ ap (λ l. l ++ h.rest) h.is_form.is ∙ f.3))
+      (λ y h. let f = whole_first m h.is_form.node.shape h.is_form.marks h.rest in (f.0, f.1, f.2, h.is ∙ ap (λ l. l ++ h.rest) h.is_form.is ∙ f.3))
       x none

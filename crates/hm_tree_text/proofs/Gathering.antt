@@ -2,9 +2,8 @@
 use Rattle.std.proofs.Common.{◌≡◌, ℕ, ◌+◌, ◌<◌, ◌≤◌, Bool, true, false, T, List, [], ◌∷◌, ◌++◌, length, take, drop, Some, refl, sym, ap, subst, ◌∙◌, arith, inl, inr, length-append}
 use Rattle.std.proofs.lemmas.List.{take_all, drop_all, take-append-le, drop-append-le}
 use Rattle.std.specs.List.{AllByRecursion}
-use Rattle.std.specs.FinMap.{is_sorted}
-use Rattle.hm_tree.specs.Names.{Name, name_cmp}
-use Rattle.hm_tree.specs.Nodes.{Node, node, depth, deepest}
+use Rattle.hm_tree.specs.Names.{Name}
+use Rattle.hm_tree.specs.Nodes.{Node, node, are_edges, depth, deepest}
 use Rattle.hm_tree.specs.NodeLaws.{edges-node, depth-node}
 use Rattle.hm_tree.specs.Archives.{Archive}
 use Rattle.hm_tree_text.specs.declared.fault.TextFault.{TextFault}
@@ -14,34 +13,34 @@ use Rattle.hm_tree_text.specs.Reading.{StandsAt, IsEdge, IsInside, BeginsWith, I
 use Rattle.hm_tree_text.specs.Failing.{Fails, OpensInside, OpensEdge}
 use Rattle.hm_tree_text.specs.Pending.{valued_edges, MakeNode}
 use Rattle.hm_tree_text.proofs.Parts.{fault_behind}
-use Rattle.hm_tree_text.proofs.Behind.{sorted_behind}
-use Rattle.hm_tree_text.proofs.Listed.{Edges, commas_last, inside_last, IsTextEdge, all_last}
-use Rattle.hm_tree_text.proofs.Forms.{edge_inside, inside_edge, listed_names}
+use Rattle.hm_tree_text.proofs.Behind.{edges_behind}
+use Rattle.hm_tree_text.proofs.Listed.{Edges, commas_last, inside_last, IsAllowedEdge, all_last}
+use Rattle.hm_tree_text.proofs.Forms.{edge_inside, inside_edge, listed_marks}
 use Rattle.hm_tree_text.proofs.Deep.{deep_edge, edge_deep}
 use Rattle.hm_tree_text.proofs.Making.{valued-last, make_last}
 
 -- ---- the edges of a node: what was read of it since its brace, with a comma behind each
 
 pub record Gathered (m : Bool) (room : ℕ) (bytes : List ℕ) (start : ℕ) (es : Edges) (end : ℕ) : Type 0 where
-  pub sorted : T (is_sorted name_cmp es)
-  pub names : AllByRecursion (IsTextEdge m) es
+  pub edges : T (are_edges es)
+  pub marks : AllByRecursion (IsAllowedEdge m) es
   pub shallow : deepest es ≤ room + 1
   pub stands : StandsAt bytes start (commas es) end
 
 module _ (m : Bool) (room : ℕ) (bytes : List ℕ) (start : ℕ) where
   gathered_nothing : start ≤ length bytes → Gathered m room bytes start [] start
-  gathered_nothing le = record { sorted = tt; names = tt; shallow = omega arith; stands = record { spelled = refl; within = le } }
+  gathered_nothing le = record { edges = tt; marks = tt; shallow = omega arith; stands = record { spelled = refl; within = le } }
 
   module _ (es : Edges) (end : ℕ) (g : Gathered m room bytes start es end) where
     module _ (name : Name) (added : Archive) (more : Bool) (next : ℕ) (e : IsEdgeRead m room es bytes end name added more next) where
       abbrev with_last : Edges
       with_last = es ++ (name, e.child) ∷ []
 
-      sorted_last : T (is_sorted name_cmp with_last)
-      sorted_last = sorted_behind name e.child es g.sorted e.after
+      edges_last : T (are_edges with_last)
+      edges_last = edges_behind name e.child es g.edges e.is_text e.after
 
-      names_last : AllByRecursion (IsTextEdge m) with_last
-      names_last = all_last m es (name, e.child) g.names (record { is_text = e.is_text; names = e.read.names })
+      marks_last : AllByRecursion (IsAllowedEdge m) with_last
+      marks_last = all_last m es (name, e.child) g.marks e.read.marks
 
       deepest_last : (es : Edges) (c : Node true) (n : ℕ) → deepest es ≤ n → depth c + 1 ≤ n → deepest (es ++ (name, c) ∷ []) ≤ n
       deepest_last [] c n h d = omega arith
@@ -52,8 +51,8 @@ module _ (m : Bool) (room : ℕ) (bytes : List ℕ) (start : ℕ) where
 
       gathered_last : more ≡ true → Gathered m room bytes start with_last next
       gathered_last comma = record {
-        sorted = sorted_last;
-        names = names_last;
+        edges = edges_last;
+        marks = marks_last;
         shallow = shallow_last;
         stands = record {
           spelled = g.stands.spelled ∙ ap (λ l. commas es ++ l) (e.stands.spelled ∙ ap (λ b. (edge_text name e.child.shape ++ separator b ∷ []) ++ drop next bytes) comma) ∙ sym (commas_last es (name, e.child) (drop next bytes));
@@ -64,10 +63,10 @@ module _ (m : Bool) (room : ℕ) (bytes : List ℕ) (start : ℕ) where
       gathered_whole : more ≡ false → (value : Archive) → value ≡ Some (node with_last) → IsInsideRead m (room + 1) bytes start value next
       gathered_whole brace value is = record {
         node = node with_last;
-        read = record { is = is; names = listed_names m with_last sorted_last names_last; shallow = let d = depth-node with_last sorted_last in let s = shallow_last in omega arith };
-        some = subst (λ (es : Edges). 0 < length es) (sym (edges-node with_last sorted_last)) (let l = length-append es ((name, e.child) ∷ []) in omega arith);
+        read = record { is = is; marks = listed_marks m with_last edges_last marks_last; shallow = let d = depth-node with_last edges_last in let s = shallow_last in omega arith };
+        some = subst (λ (es : Edges). 0 < length es) (sym (edges-node with_last edges_last)) (let l = length-append es ((name, e.child) ∷ []) in omega arith);
         stands = record {
-          spelled = g.stands.spelled ∙ ap (λ l. commas es ++ l) (e.stands.spelled ∙ ap (λ b. (edge_text name e.child.shape ++ separator b ∷ []) ++ drop next bytes) brace) ∙ inside_last es (name, e.child) (drop next bytes) ∙ ap (λ (es : Edges). inside es ++ drop next bytes) (sym (edges-node with_last sorted_last));
+          spelled = g.stands.spelled ∙ ap (λ l. commas es ++ l) (e.stands.spelled ∙ ap (λ b. (edge_text name e.child.shape ++ separator b ∷ []) ++ drop next bytes) brace) ∙ inside_last es (name, e.child) (drop next bytes) ∙ ap (λ (es : Edges). inside es ++ drop next bytes) (sym (edges-node with_last edges_last));
           within = e.stands.within;
         };
       }
@@ -75,14 +74,14 @@ module _ (m : Bool) (room : ℕ) (bytes : List ℕ) (start : ℕ) where
     -- where no edge follows, the node doesn't go on
     pub edge_fails : start ≤ length bytes → (fault : TextFault) → Fails (IsEdge m es) (OpensEdge m room es) bytes end fault → Fails (IsInside m) (OpensInside m room) bytes start fault
     edge_fails le (BadTree at) f = (
-      fault_behind (IsEdge m es) (IsInside m) (λ _. Unit {0}) (commas es) (edge_inside m es g.sorted g.names) (λ y _. inside_edge m es y) bytes start end at le g.stands tt (λ _ _ _ _ _. tt) f.0,
+      fault_behind (IsEdge m es) (IsInside m) (λ _. Unit {0}) (commas es) (edge_inside m es g.edges g.marks) (λ y _. inside_edge m es y) bytes start end at le g.stands tt (λ _ _ _ _ _. tt) f.0,
       λ d. elim (deep_edge m room es (drop end bytes) g.shallow (subst (BeginsWith (OpensInside m room)) g.stands.spelled d)) [ inl o ↦ f.1 o | inr e ↦ f.0.longest.none e ],
     )
     edge_fails le TooDeep f =
-        let same = edges-node es g.sorted in
+        let same = edges-node es g.edges in
         subst (BeginsWith (OpensInside m room)) (sym g.stands.spelled)
         (subst (λ (l : Edges). BeginsWith (OpensInside m room) (commas l ++ drop end bytes)) same
-        (edge_deep m room (node es) (listed_names m es g.sorted g.names) (drop end bytes) (subst (λ (l : Edges). BeginsWith (OpensEdge m room l) (drop end bytes)) (sym same) f)))
+        (edge_deep m room (node es) (listed_marks m es g.edges g.marks) (drop end bytes) (subst (λ (l : Edges). BeginsWith (OpensEdge m room l) (drop end bytes)) (sym same) f)))
     edge_fails le Memory f = tt
 
 -- ---- the same of pending edges, behind those of the nodes around
@@ -98,7 +97,7 @@ module _ {X : Type 0} (value : X → Archive) (m : Bool) (room : ℕ) (bytes : L
   gathered_none is le = record {
     from = omega arith;
     around_kept = take_all start around (omega arith);
-    make = subst (MakeNode value) (sym none) (record { all_there = tt; rise = tt });
+    make = subst (MakeNode value) (sym none) (record { all_there = tt; edges = tt });
     gathered = subst (λ (es : List (Name × X)). Gathered m room bytes at (valued_edges value es) at) (sym none) (gathered_nothing m room bytes at le);
   }
     where
@@ -123,7 +122,7 @@ module _ {X : Type 0} (value : X → Archive) (m : Bool) (room : ℕ) (bytes : L
     new_edges = ap (valued_edges value) new_own ∙ valued-last value (drop start now) name child e.child e.read.is
 
     new_make : MakeNode value (drop start new)
-    new_make = subst (MakeNode value) (sym new_own) (make_last value (drop start now) name child e.child e.read.is s.make e.after)
+    new_make = subst (MakeNode value) (sym new_own) (make_last value (drop start now) name child e.child e.read.is s.make e.is_text e.after)
 
     pub taken_make : (taken : List (Name × X)) → taken ≡ drop start new → MakeNode value taken
     taken_make taken whole = subst (MakeNode value) (sym whole) new_make

@@ -1,12 +1,12 @@
 -- One text for each value, one value for each text, and one reading of all bytes.
-use Rattle.std.proofs.Common.{◌≡◌, ℕ, ◌≤◌, Bool, true, false, List, [], ◌∷◌, ◌++◌, refl, sym, ap, ◌∙◌, Some, None, arith}
+use Rattle.std.proofs.Common.{◌≡◌, ℕ, ◌≤◌, Bool, true, false, T, List, [], ◌∷◌, ◌++◌, refl, sym, ap, ◌∙◌, Some, None, arith}
 use Rattle.std.specs.Prelude.{codes}
-use Rattle.hm_tree.specs.Nodes.{Shape, bare, mark, edge, Node, Tree, depth, marked}
+use Rattle.hm_tree.specs.Nodes.{Shape, bare, mark, edge, is_node, Node, Tree, depth, marked}
 use Rattle.hm_tree.specs.NodeLaws.{same_node}
 use Rattle.hm_tree.specs.Archives.{Archive, recorded, depth-recorded}
 use Rattle.hm_tree_text.specs.declared.fault.TextFault.{TextFault}
 use Rattle.hm_tree_text.specs.declared.fault.TextFault.TheVariants.{BadTree, TooDeep, Memory}
-use Rattle.hm_tree_text.specs.Text.{whole, text, line_feed, tree_text, archive_text, HasTextNames}
+use Rattle.hm_tree_text.specs.Text.{whole, text, line_feed, tree_text, archive_text}
 use Rattle.hm_tree_text.specs.Files.{IsTreeFile, IsArchiveFile, IsTreeText, IsArchiveText}
 use Rattle.hm_tree_text.specs.Opening.{IsTooDeep}
 use Rattle.hm_tree_text.specs.Faults.{Faults, TreeFaults, ArchiveFaults}
@@ -41,10 +41,10 @@ archive_once o a bytes h k = archive_text_one o a (sym h.spelled ∙ k.spelled)
 -- ---- texts are files
 
 pub tree_text_file : (t : Tree) (bytes : List ℕ) → IsTreeText t bytes → IsTreeFile bytes
-tree_text_file t bytes h = (t, h.names, h.spelled)
+tree_text_file t bytes h = (t, h.spelled)
 
 pub archive_text_file : (o : Archive) (bytes : List ℕ) → IsArchiveText o bytes → IsArchiveFile bytes
-archive_text_file o bytes h = (o, h.names, h.spelled)
+archive_text_file o bytes h = (o, h.spelled)
 
 -- ---- one reading of all bytes
 
@@ -101,17 +101,17 @@ archive_fault_once = fault_once true IsArchiveFile
 
 -- ---- trees and archives
 
-whole_no_mark : (s : Shape) → HasTextNames false s → codes "!" ++ line_feed ≡ text whole s ++ line_feed → ⊥
+whole_no_mark : (s : Shape) → T (is_node false true s) → codes "!" ++ line_feed ≡ text whole s ++ line_feed → ⊥
 whole_no_mark bare p e = heads 123 33 _ _ (sym e) open_mark
 whole_no_mark mark p e = p
 whole_no_mark (edge n c r) p e = heads 123 33 _ _ (sym e) open_mark
 
 -- a mark is no file of a tree, and neither are no bytes
 pub mark_no_tree : IsTreeFile (codes "!" ++ line_feed) → ⊥
-mark_no_tree f = whole_no_mark f.0.shape f.1 f.2
+mark_no_tree f = whole_no_mark f.0.shape f.0.sound f.1
 
 pub nothing_no_tree : IsTreeFile [] → ⊥
-nothing_no_tree f = whole_something f.0.shape (sym f.2)
+nothing_no_tree f = whole_something f.0.shape (sym f.1)
 
 -- what is recorded of a tree has the tree's text
 pub archive_text-recorded : (t : Tree) → archive_text (Some (recorded t)) ≡ tree_text t
@@ -122,16 +122,10 @@ pub archive_text-marked : archive_text (Some marked) ≡ codes "!" ++ line_feed
 unfolding marked
 archive_text-marked = refl
 
-more_names : (s : Shape) → HasTextNames false s → HasTextNames true s
-more_names bare n = tt
-more_names mark n = absurd n
-more_names (edge k c r) n = (n.0, more_names c n.1, more_names r n.2)
-
 -- so what is read as a tree is read as an archive too
 pub recorded_text : (t : Tree) (bytes : List ℕ) → IsTreeText t bytes → IsArchiveText (Some (recorded t)) bytes
 unfolding recorded
 recorded_text t bytes h = record {
   spelled = h.spelled;
-  names = more_names t.shape h.names;
   shallow = let s = h.shallow in let d = depth-recorded t in omega arith;
 }

@@ -1,13 +1,12 @@
 -- The text of a node by the list of its edges.
 use Rattle.std.proofs.Common.{◌≡◌, ℕ, Bool, true, false, List, [], ◌∷◌, ◌++◌, length, refl, sym, ap, subst, ◌∙◌, append_assoc, arith}
 use Rattle.std.specs.List.{AllByRecursion}
-use Rattle.std.specs.Str.{IsUtf8}
 use mathlib.Core.Bool.{true≢false}
 use Rattle.hm_tree.specs.Names.{Name}
 use Rattle.hm_tree.specs.Nodes.{Shape, bare, mark, edge, Node, edges, node, empty, joined, is_mark, is_marked}
-use Rattle.hm_tree.specs.NodeLaws.{same_node, node-edges, node-nil, edges-node, edges_sorted, edges-marked, shape_checked}
+use Rattle.hm_tree.specs.NodeLaws.{same_node, node-edges, edges_empty, edges_are, edges-marked, shape_checked}
 use Rattle.hm_tree.specs.Spelling.{spelled}
-use Rattle.hm_tree_text.specs.Text.{whole, below, further, text, HasTextNames, edge_text, separator, is_more, inside, commas}
+use Rattle.hm_tree_text.specs.Text.{whole, below, further, text, HasAllowedMarks, edge_text, separator, is_more, inside, commas}
 use Rattle.hm_tree_text.proofs.Spelling.{edge_apart}
 
 abbrev pub Edges : Type 0
@@ -24,12 +23,9 @@ whole_joined e es = ap (λ l. 123 ∷ l) (ap (λ l. spelled e.0 ++ (text below e
 
 pub shape_joined : (t : Node true) → is_marked t ≡ false → t.shape ≡ joined (edges t)
 unfolding node
-shape_joined t u = sym (ap (λ (n : Node true). n.shape) (node-edges t u)) ∙ shape_checked (edges t) _ refl (edges_sorted t)
+shape_joined t u = sym (ap (λ (n : Node true). n.shape) (node-edges t u)) ∙ shape_checked (edges t) _ refl (edges_are t)
 
 -- ---- the node without edges
-
-pub edges_empty : edges (empty {m = true}) ≡ []
-edges_empty = ap edges (sym (node-nil [] refl)) ∙ edges-node [] tt
 
 pub shape_empty : (empty {m = true}).shape ≡ bare
 unfolding empty
@@ -151,39 +147,38 @@ module _ (x rest : List ℕ) where
           let then = again k fs one.3 in
           record { next = then.next; more = then.more; among = λ i. (sym one.0 i, sym one.1 i) ∷ then.among i; spelled = then.spelled }
 
--- ---- names
+-- ---- marks
 
--- an edge whose names are texts
-pub record IsTextEdge (m : Bool) (e : Name × Node true) : Type 0 where
-  pub is_text : IsUtf8 e.0
-  pub names : HasTextNames m e.1.shape
+-- an edge behind which marks stand only where m allows them
+abbrev pub IsAllowedEdge : Bool → Name × Node true → Type 0
+IsAllowedEdge m e = HasAllowedMarks m e.1.shape
 
 module _ (m : Bool) where
-  names_joined : (es : Edges) → AllByRecursion (IsTextEdge m) es → HasTextNames m (joined es)
+  marks_joined : (es : Edges) → AllByRecursion (IsAllowedEdge m) es → HasAllowedMarks m (joined es)
   unfolding joined
-  names_joined [] h = tt
-  names_joined (e ∷ es) h = (h.0.is_text, h.0.names, names_joined es h.1)
+  marks_joined [] h = tt
+  marks_joined (e ∷ es) h = (h.0, marks_joined es h.1)
 
-  joined_names : (es : Edges) → HasTextNames m (joined es) → AllByRecursion (IsTextEdge m) es
+  joined_marks : (es : Edges) → HasAllowedMarks m (joined es) → AllByRecursion (IsAllowedEdge m) es
   unfolding joined
-  joined_names [] h = tt
-  joined_names (e ∷ es) h = (record { is_text = h.0; names = h.1 }, joined_names es h.2)
+  joined_marks [] h = tt
+  joined_marks (e ∷ es) h = (h.0, joined_marks es h.1)
 
-  pub names_from_edges : (t : Node true) → is_marked t ≡ false → AllByRecursion (IsTextEdge m) (edges t) → HasTextNames m t.shape
-  names_from_edges t u h = subst (HasTextNames m) (sym (shape_joined t u)) (names_joined (edges t) h)
+  pub marks_from_edges : (t : Node true) → is_marked t ≡ false → AllByRecursion (IsAllowedEdge m) (edges t) → HasAllowedMarks m t.shape
+  marks_from_edges t u h = subst (HasAllowedMarks m) (sym (shape_joined t u)) (marks_joined (edges t) h)
 
-  pub edges_from_names : (t : Node true) → HasTextNames m t.shape → AllByRecursion (IsTextEdge m) (edges t)
-  edges_from_names t h = by (is_marked t) refl
+  pub edges_from_marks : (t : Node true) → HasAllowedMarks m t.shape → AllByRecursion (IsAllowedEdge m) (edges t)
+  edges_from_marks t h = by (is_marked t) refl
     where
-      by : (b : Bool) → is_marked t ≡ b → AllByRecursion (IsTextEdge m) (edges t)
-      by false u = joined_names (edges t) (subst (HasTextNames m) (shape_joined t u) h)
-      by true u = subst (AllByRecursion (IsTextEdge m)) (sym (edges-marked t u)) tt
+      by : (b : Bool) → is_marked t ≡ b → AllByRecursion (IsAllowedEdge m) (edges t)
+      by false u = joined_marks (edges t) (subst (HasAllowedMarks m) (shape_joined t u) h)
+      by true u = subst (AllByRecursion (IsAllowedEdge m)) (sym (edges-marked t u)) tt
 
-  pub all_last : (es : Edges) (e : Name × Node true) → AllByRecursion (IsTextEdge m) es → IsTextEdge m e → AllByRecursion (IsTextEdge m) (es ++ e ∷ [])
+  pub all_last : (es : Edges) (e : Name × Node true) → AllByRecursion (IsAllowedEdge m) es → IsAllowedEdge m e → AllByRecursion (IsAllowedEdge m) (es ++ e ∷ [])
   all_last [] e h here = (here, tt)
   all_last (f ∷ es) e h here = (h.0, all_last es e h.1 here)
 
-  pub all_among : (es : Edges) (e : Name × Node true) (more : Edges) → AllByRecursion (IsTextEdge m) (es ++ e ∷ more) → IsTextEdge m e
+  pub all_among : (es : Edges) (e : Name × Node true) (more : Edges) → AllByRecursion (IsAllowedEdge m) (es ++ e ∷ more) → IsAllowedEdge m e
   all_among [] e more h = h.0
   all_among (f ∷ es) e more h = all_among es e more h.1
 

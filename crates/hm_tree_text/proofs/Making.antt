@@ -2,16 +2,16 @@
 use Rattle.std.proofs.Common.{◌≡◌, ℕ, zero, suc, ◌-◌, ◌↔◌, ◌&&◌, true, T, List, [], ◌∷◌, ◌++◌, map, length, take, drop, Some, None, slice_get, refl, sym, ap, subst, ◌∙◌}
 use Rattle.std.specs.Ordering.{is_lt}
 use Rattle.std.specs.FinMap.{is_sorted}
+use Rattle.std.specs.Str.{IsUtf8, is_utf8}
 use Rattle.std.proofs.lemmas.List.{length-map, map-append, take_rest}
-use Rattle.hm_tree.specs.declared.archive.State.TheVariants.{Present}
 use Rattle.hm_tree.specs.Names.{Name, name_cmp}
-use Rattle.hm_tree.specs.Nodes.{Node, Tree, node, empty, below_all}
+use Rattle.hm_tree.specs.Nodes.{Node, Tree, node, empty, below_all, are_texts, are_edges, edges_rise}
 use Rattle.hm_tree.specs.NodeLaws.{same_node, edges-node}
-use Rattle.hm_tree.specs.Archives.{Archive, recorded, there, is_there, IsKeptArchive}
-use Rattle.hm_tree.proofs.Kept.{root_sorted, record_edge, recorded_view}
+use Rattle.hm_tree.specs.Archives.{Archive, recorded, there, is_there}
+use Rattle.hm_tree.proofs.Kept.{record_edge, recorded_view}
 use Rattle.hm_tree_text.specs.Reading.{is_behind, IsAfter}
 use Rattle.hm_tree_text.specs.Pending.{with_values, valued_edges, MakeNode}
-use Rattle.hm_tree_text.proofs.Behind.{behind_after, sorted_behind}
+use Rattle.hm_tree_text.proofs.Behind.{behind_after, edges_behind}
 
 -- ---- edges of which none leads to what is missing
 
@@ -52,7 +52,7 @@ module _ {X : Type 0} (value : X → Archive) where
       let es : List (Name × X) = drop start all in
       let found = there_at (with_values value es) (length es - 1) make.all_there e.0 (value e.1) (valued_at es (length es - 1) e.0 e.1 (sym (at ∙ ap (λ (l : List (Name × X)). slice_get l (length l - 1)) (take_rest all start)))) in
       let counts : length (valued_edges value es) ≡ length es = length_there (with_values value es) make.all_there ∙ length-map _ _ in
-      behind_after n (valued_edges value es) e.0 found.0 make.rise (subst (λ i. slice_get (valued_edges value es) (i - 1) ≡ Some (e.0, found.0)) (sym counts) found.1)
+      behind_after n (valued_edges value es) e.0 found.0 (edges_rise _ make.edges) (subst (λ i. slice_get (valued_edges value es) (i - 1) ≡ Some (e.0, found.0)) (sym counts) found.1)
 
   -- the same of edges that are held elsewhere
   pub same_after : (held own : List (Name × X)) → held ≡ own → (start : ℕ) (IsLast : Name → Type 0) → ((n : Name) → T (is_behind n (valued_edges value (drop start held))) ↔ IsLast n) → (n : Name) → T (is_behind n (valued_edges value (drop start own))) ↔ IsLast n
@@ -67,12 +67,12 @@ module _ {X : Type 0} (value : X → Archive) where
         ∙ there-append (with_values value es) ((k, value x) ∷ [])
         ∙ ap (λ (o : Archive). valued_edges value es ++ there ((k, o) ∷ [])) is
 
-    pub make_last : MakeNode value es → T (is_behind k (valued_edges value es)) → MakeNode value (es ++ (k, x) ∷ [])
-    make_last make behind = record {
+    pub make_last : MakeNode value es → IsUtf8 k → T (is_behind k (valued_edges value es)) → MakeNode value (es ++ (k, x) ∷ [])
+    make_last make text behind = record {
       all_there =
           subst (λ (l : List (Name × Archive)). T (is_there l)) (sym (map-append _ es ((k, x) ∷ [])))
           (is_there_append (with_values value es) ((k, value x) ∷ []) make.all_there (subst (λ (o : Archive). T (is_there ((k, o) ∷ []))) (sym is) tt));
-      rise = subst (λ (l : List (Name × Node true)). T (is_sorted name_cmp l)) (sym valued-last) (sorted_behind k n (valued_edges value es) make.rise behind);
+      edges = subst (λ (l : List (Name × Node true)). T (are_edges l)) (sym valued-last) (edges_behind k n (valued_edges value es) make.edges text behind);
     }
 
 -- ---- what is built
@@ -90,21 +90,26 @@ module _ {X Y : Type 0} (f : X → Y) where
   sorted_children [] = refl
   sorted_children (e ∷ es) = λ i. below_children e.0 es i && sorted_children es i
 
+  texts_children : (es : List (Name × X)) → are_texts (map (λ (e : Name × X). (e.0, f e.1)) es) ≡ are_texts es
+  texts_children [] = refl
+  texts_children (e ∷ es) = ap (λ b. is_utf8 e.0 && b) (texts_children es)
+
+  edges_children : (es : List (Name × X)) → are_edges (map (λ (e : Name × X). (e.0, f e.1)) es) ≡ are_edges es
+  edges_children es = λ i. sorted_children es i && texts_children es i
+
 -- a tree
 module _ (es : List (Name × Tree)) (make : MakeNode (λ t. Some (recorded t)) es) where
-  kept : IsKeptArchive Present (map record_edge es)
-  kept = record { sorted = make.rise; all_there = make.all_there; bare = λ no. absurd (no refl) }
+  there_children : (es : List (Name × Tree)) → there (map record_edge es) ≡ map (λ (e : Name × Tree). (e.0, recorded e.1)) es
+  there_children [] = refl
+  there_children (e ∷ es) = ap (λ l. (e.0, recorded e.1) ∷ l) (there_children es)
 
-  pub tree_rise : T (is_sorted name_cmp es)
-  tree_rise = subst T (sorted_children (λ (t : Tree). some_recorded t) es) (root_sorted Present (map record_edge es) kept)
-    where
-      some_recorded : Tree → Archive
-      some_recorded t = Some (recorded t)
+  pub tree_edges : T (are_edges es)
+  tree_edges = subst T (ap (λ (l : List (Name × Node true)). are_edges l) (there_children es) ∙ edges_children recorded es) make.edges
 
   pub tree_built : (t : Tree) → t ≡ node es → ◌≡◌ {A = Archive} (Some (recorded t)) (Some (node (valued_edges (λ t. Some (recorded t)) es)))
   tree_built t is =
       ap (λ (t : Tree). Some (recorded t)) is
-      ∙ sym (recorded_view (node es) (map record_edge es) (ap (map record_edge) (sym (edges-node es tree_rise))))
+      ∙ sym (recorded_view (node es) (map record_edge es) (ap (map record_edge) (sym (edges-node es tree_edges))))
 
 -- an archive
 pub valued_same : (es : List (Name × Archive)) → with_values (λ o. o) es ≡ es

@@ -4,8 +4,8 @@ use Rattle.std.proofs.lemmas.List.{append-nil}
 use Rattle.std.proofs.lemmas.Bool.{ltb-true, ltb-false}
 use Rattle.hm_tree.specs.declared.archive.State.TheVariants.{Present, Marked}
 use Rattle.hm_tree.specs.Names.{Name}
-use Rattle.hm_tree.specs.Nodes.{Node, edges, is_marked, empty}
-use Rattle.hm_tree.specs.NodeLaws.{node-nil, edges-node}
+use Rattle.hm_tree.specs.Nodes.{Node, edges, is_marked}
+use Rattle.hm_tree.specs.NodeLaws.{edges_empty}
 use Rattle.hm_tree.specs.Archives.{Archive, edges_here}
 use Rattle.hm_tree.specs.States.{state}
 use Rattle.hm_tree.specs.Spelling.{spelled}
@@ -54,9 +54,6 @@ pub put_all : (es : List (Name × Node true)) (i : ℕ) (now rest : List ℕ) �
 put_all es i now rest le e = sym (append-nil now) ∙ ap (λ l. now ++ inside l) (sym (drop_none es i le)) ∙ e
 
 -- ---- archives
-
-edges_empty : edges (empty {m = true}) ≡ []
-edges_empty = ap edges (sym (node-nil [] refl)) ∙ edges-node [] tt
 
 length_map : {X Y : Type 0} (f : X → Y) (xs : List X) → length (map f xs) ≡ length xs
 length_map f [] = refl

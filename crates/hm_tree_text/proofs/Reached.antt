@@ -9,14 +9,14 @@ use Rattle.hm_tree.specs.Spelling.{spelled}
 use Rattle.hm_tree.specs.SpellingLaws.{spelled_one}
 use Rattle.hm_tree_text.specs.declared.fault.TextFault.{TextFault}
 use Rattle.hm_tree_text.specs.declared.fault.TextFault.TheVariants.{BadTree, TooDeep, Memory}
-use Rattle.hm_tree_text.specs.Text.{whole, below, text, HasTextNames, edge_text, separator, inside}
+use Rattle.hm_tree_text.specs.Text.{whole, below, text, HasAllowedMarks, edge_text, separator, inside}
 use Rattle.hm_tree_text.specs.Opening.{opens_one}
 use Rattle.hm_tree_text.specs.Reading.{StandsAt, is_behind, IsAfter, IsName, IsSeparator, IsEdge, IsBelow, IsFull, IsInside, BeginsWith, IsRead, IsInsideRead, IsBelowRead, IsEdgeRead}
 use Rattle.hm_tree_text.specs.Failing.{Fails, FailsAlone, OpensInside, OpensBelow, OpensEdge}
 use Rattle.hm_tree_text.proofs.Places.{joins, behind}
 use Rattle.hm_tree_text.proofs.Parts.{fault_behind, begins_behind, IsNot, is_not_part}
 use Rattle.hm_tree_text.proofs.Listed.{shape_empty, whole_some, below_full, none_shape}
-use Rattle.hm_tree_text.proofs.Forms.{name_edge, edge_name, below_edge, edge_below, separator_edge, edge_separator, no_separator, no_opening, no_full, inside_full, full_inside, full_below, below_full_back, empty_names}
+use Rattle.hm_tree_text.proofs.Forms.{name_edge, edge_name, below_edge, edge_below, separator_edge, edge_separator, no_separator, no_opening, no_full, inside_full, full_inside, full_below, below_full_back, empty_marks}
 use Rattle.hm_tree_text.proofs.Deep.{below_deep, deep_below, deep_name, deep_colon, shallow_below, inside_deep, deep_inside}
 
 pub not_false : IsTrue false → ⊥
@@ -82,7 +82,7 @@ module _ (m : Bool) (room : ℕ) (es : List (Name × Node true)) (bytes : List �
 
       pub separator_fails : IsNot 44 (drop last bytes) → IsNot 125 (drop last bytes) → Fails (IsEdge m es) (OpensEdge m room es) bytes at (BadTree last)
       separator_fails comma brace = (
-        fault_behind IsSeparator (IsEdge m es) (λ y. read.node.shape ≡ bare → IsNot 58 y) (edge_text n read.node.shape) (separator_edge m es n read.node u b read.read.names) (edge_separator m es n read.node) bytes at last last le stands_edge over (λ n k rest lt le none. is_not_part 58 (drop last bytes) n (over none) k rest lt le)
+        fault_behind IsSeparator (IsEdge m es) (λ y. read.node.shape ≡ bare → IsNot 58 y) (edge_text n read.node.shape) (separator_edge m es n read.node u b read.read.marks) (edge_separator m es n read.node) bytes at last last le stands_edge over (λ n k rest lt le none. is_not_part 58 (drop last bytes) n (over none) k rest lt le)
             (record { passed = 0; place = omega arith; longest = no_separator (drop last bytes) comma brace }),
         λ d. shallow_below m room read.node read.read.shallow (drop last bytes) over (subst (BeginsWith (OpensBelow m room)) read.stands.spelled (deep_below m room es n (drop behind bytes) (subst (BeginsWith (OpensEdge m room es)) stands.spelled d))),
       )
@@ -102,10 +102,10 @@ unfolding marked
 shape_marked = refl
 
 pub read_empty : (m : Bool) (room : ℕ) (value : Archive) → value ≡ Some empty → IsRead m room value empty
-read_empty m room value is = record { is = is; names = empty_names m; shallow = depth_empty room }
+read_empty m room value is = record { is = is; marks = empty_marks m; shallow = depth_empty room }
 
 pub read_marked : (m : Bool) (room : ℕ) (value : Archive) → m ≡ true → value ≡ Some marked → IsRead m room value marked
-read_marked m room value allowed is = record { is = is; names = subst (HasTextNames m) (sym shape_marked) (subst T (sym allowed) tt); shallow = depth_marked room }
+read_marked m room value allowed is = record { is = is; marks = subst (HasAllowedMarks m) (sym shape_marked) (subst T (sym allowed) tt); shallow = depth_marked room }
 
 pub text_empty : text whole (empty {m = true}).shape ≡ 123 ∷ 125 ∷ []
 text_empty = ap (text whole) shape_empty

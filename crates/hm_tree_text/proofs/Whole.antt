@@ -1,11 +1,11 @@
 -- The steps of a reader: the root, the line feed, and the files of trees and archives.
 use Rattle.std.proofs.Common.{◌≡◌, ℕ, zero, suc, ◌+◌, ◌<◌, ◌≤◌, ◌⊎◌, inl, inr, Bool, true, false, T, List, [], ◌∷◌, ◌++◌, length, take, drop, Some, None, refl, sym, ap, subst, ◌∙◌, append_assoc, arith, length-append, length-drop}
 use Rattle.std.proofs.lemmas.List.{append-nil}
-use Rattle.hm_tree.specs.Nodes.{Shape, bare, mark, edge, is_node, both, first, second, above, Node, Tree, edges, depth, empty, marked}
+use Rattle.hm_tree.specs.Nodes.{Shape, bare, mark, edge, is_node, both, first, second, leads, Node, Tree, edges, depth, empty, marked}
 use Rattle.hm_tree.specs.Archives.{Archive, recorded, depth-recorded}
 use Rattle.hm_tree_text.specs.declared.fault.TextFault.{TextFault}
 use Rattle.hm_tree_text.specs.declared.fault.TextFault.TheVariants.{BadTree, TooDeep, Memory}
-use Rattle.hm_tree_text.specs.Text.{whole, text, HasTextNames, inside, line_feed}
+use Rattle.hm_tree_text.specs.Text.{whole, text, HasAllowedMarks, inside, line_feed}
 use Rattle.hm_tree_text.specs.Files.{IsTreeFile, IsArchiveFile, IsTreeText}
 use Rattle.hm_tree_text.specs.Begun.{IsBegun, IsLongestBegun}
 use Rattle.hm_tree_text.specs.Opening.{Opens, IsTooDeep}
@@ -68,7 +68,7 @@ module _ (m : Bool) (bytes : List ℕ) where
   begins_deep d = (d.part, d.rest, d.is_form, d.is)
 
   file_whole : (s : List ℕ) → IsFile m s → BeginsWith (IsWhole m) s
-  file_whole s f = record { part = text whole f.node.shape; rest = line_feed; is_form = record { node = f.node; names = f.names; is = refl }; is = f.is }
+  file_whole s f = record { part = text whole f.node.shape; rest = line_feed; is_form = record { node = f.node; marks = f.marks; is = refl }; is = f.is }
 
   pub file_fails : (fault : TextFault) → Fails (IsWhole m) (Opens m 1001) bytes 0 fault → Faults m (IsFile m) bytes fault
   file_fails (BadTree at) f =
@@ -81,7 +81,7 @@ module _ (m : Bool) (bytes : List ℕ) where
           within = l.within;
           begun =
               let b = l.begun in
-              (b.0 ++ line_feed, record { node = b.1.node; names = b.1.names; is = sym (append_assoc (take f.0.passed bytes) b.0 line_feed) ∙ ap (λ s. s ++ line_feed) b.1.is });
+              (b.0 ++ line_feed, record { node = b.1.node; marks = b.1.marks; is = sym (append_assoc (take f.0.passed bytes) b.0 line_feed) ∙ ap (λ s. s ++ line_feed) b.1.is });
           longest = λ n le h. l.longest n h.0 le (file_whole _ h.1);
         });
       }
@@ -103,7 +103,7 @@ module _ (m : Bool) (bytes : List ℕ) where
     goes_on y f = (apart whole r.node.shape f.node.shape y line_feed (λ _. tt) (λ _. tt) f.is).1
 
     a_file : IsFile m (text whole r.node.shape ++ line_feed)
-    a_file = record { node = r.node; names = r.read.names; is = refl }
+    a_file = record { node = r.node; marks = r.read.marks; is = refl }
 
     -- the longest beginning of a file ends in what stands behind the node
     behind_front : (x : List ℕ) (k : ℕ) → drop end bytes ≡ x → k ≤ length x → IsBegun (IsFile m) (text whole r.node.shape ++ take k x) → ((n : ℕ) (rest : List ℕ) → n ≤ length x → take n x ++ rest ≡ line_feed → n ≤ k) → IsLongestBegun (IsFile m) bytes (end + k)
@@ -174,19 +174,25 @@ module _ (m : Bool) (bytes : List ℕ) where
 
 -- ---- files of trees
 
--- a node without marks is a tree
-unmarked_sound : (w : Bool) (s : Shape) → T (is_node true w s) → HasTextNames false s → T (is_node false w s)
+-- a node without marks is a tree, and a tree has no marks
+unmarked_sound : (w : Bool) (s : Shape) → T (is_node true w s) → HasAllowedMarks false s → T (is_node false w s)
 unmarked_sound w bare h n = tt
 unmarked_sound w mark h n = absurd n
 unmarked_sound w (edge k c r) h n =
-    both (above k r) _ (first _ _ h) (both _ _ (unmarked_sound true c (first _ _ (second (above k r) _ h)) n.1) (unmarked_sound false r (second (is_node true true c) _ (second (above k r) _ h)) n.2))
+    both (leads k r) _ (first _ _ h) (both _ _ (unmarked_sound true c (first _ _ (second (leads k r) _ h)) n.0) (unmarked_sound false r (second (is_node true true c) _ (second (leads k r) _ h)) n.1))
+
+sound_unmarked : (w : Bool) (s : Shape) → T (is_node false w s) → HasAllowedMarks false s
+sound_unmarked w bare h = tt
+sound_unmarked w mark h = h
+sound_unmarked w (edge k c r) h =
+    (sound_unmarked true c (first _ _ (second (leads k r) _ h)), sound_unmarked false r (second (is_node false true c) _ (second (leads k r) _ h)))
 
 pub tree_file : (s : List ℕ) → IsFile false s → IsTreeFile s
-tree_file s f = (record { shape = f.node.shape; sound = unmarked_sound true f.node.shape f.node.sound f.names }, f.names, f.is)
+tree_file s f = (record { shape = f.node.shape; sound = unmarked_sound true f.node.shape f.node.sound f.marks }, f.is)
 
 pub file_tree : (s : List ℕ) → IsTreeFile s → IsFile false s
 unfolding recorded
-file_tree s f = record { node = recorded f.0; names = f.1; is = f.2 }
+file_tree s f = record { node = recorded f.0; marks = sound_unmarked true f.0.shape f.0.sound; is = f.1 }
 
 faults_as : (m : Bool) (F G : List ℕ → Type 0) → ((s : List ℕ) → F s → G s) → ((s : List ℕ) → G s → F s) → (bytes : List ℕ) (fault : TextFault) → Faults m F bytes fault → Faults m G bytes fault
 faults_as m F G to from bytes (BadTree at) h = record {
@@ -210,18 +216,24 @@ tree_read t bytes h =
     let same : recorded t ≡ h.node = let e = h.read.is in cc in
     record {
       spelled = h.is ∙ ap (λ (n : Node true). text whole n.shape ++ line_feed) (sym same);
-      names = subst (λ (n : Node true). HasTextNames false n.shape) (sym same) h.read.names;
       shallow = let s = h.read.shallow in let d = ap (λ (n : Node true). depth n) same in let r = depth-recorded t in omega arith;
     }
 
 -- ---- files of archives
 
 archive_file : (s : List ℕ) → IsFile true s → IsArchiveFile s
-archive_file s f = (Some f.node, f.names, f.is)
+archive_file s f = (Some f.node, f.is)
+
+-- in an archive marks may stand
+any_marks : (s : Shape) → HasAllowedMarks true s
+any_marks bare = tt
+any_marks mark = tt
+any_marks (edge k c r) = (any_marks c, any_marks r)
+
 
 file_archive : (s : List ℕ) → (s ≡ [] → ⊥) → IsArchiveFile s → IsFile true s
-file_archive s some (None, n, is) = absurd (some is)
-file_archive s some (Some t, n, is) = record { node = t; names = n; is = is }
+file_archive s some (None, is) = absurd (some is)
+file_archive s some (Some t, is) = record { node = t; marks = any_marks t.shape; is = is }
 
 some_bytes : (n : ℕ) (bytes rest : List ℕ) → n ≤ length bytes → take n bytes ++ rest ≡ [] → n ≡ 0
 some_bytes zero bytes rest le e = refl
@@ -240,7 +252,7 @@ archive_faults bytes some (BadTree at) h = record {
 }
   where
     by : (n : ℕ) → n ≤ length bytes → (rest : List ℕ) → IsArchiveFile (take n bytes ++ rest) → n ≤ at
-    by n le rest (None, names, is) = let z = some_bytes n bytes rest le is in omega arith
-    by n le rest (Some t, names, is) = h.place.longest n le (rest, record { node = t; names = names; is = is })
+    by n le rest (None, is) = let z = some_bytes n bytes rest le is in omega arith
+    by n le rest (Some t, is) = h.place.longest n le (rest, record { node = t; marks = any_marks t.shape; is = is })
 archive_faults bytes some TooDeep h = h
 archive_faults bytes some Memory h = tt

@@ -1,8 +1,7 @@
 -- Edges as they are read: names, and what was built behind each, which has the value of an archive.
 use Rattle.std.specs.Prelude.{true, T, List, map}
-use Rattle.std.specs.FinMap.{is_sorted}
-use Rattle.hm_tree.specs.Names.{Name, name_cmp}
-use Rattle.hm_tree.specs.Nodes.{Node}
+use Rattle.hm_tree.specs.Names.{Name}
+use Rattle.hm_tree.specs.Nodes.{Node, are_edges}
 use Rattle.hm_tree.specs.Archives.{Archive, there, is_there}
 
 -- each name with the value behind it
@@ -13,7 +12,7 @@ with_values value es = map (λ e. (e.0, value e.1)) es
 abbrev pub valued_edges : {X : Type 0} → (X → Archive) → List (Name × X) → List (Name × Node true)
 valued_edges value es = there (with_values value es)
 
--- a node has these edges: nothing is missing behind them, and their names rise
+-- a node has these edges: nothing is missing behind them, and their names rise and are UTF-8
 pub record MakeNode {X : Type 0} (value : X → Archive) (es : List (Name × X)) : Type 0 where
   pub all_there : T (is_there (with_values value es))
-  pub rise : T (is_sorted name_cmp (valued_edges value es))
+  pub edges : T (are_edges (valued_edges value es))

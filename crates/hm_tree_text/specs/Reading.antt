@@ -6,7 +6,7 @@ use Rattle.hm_tree.specs.Spelling.{spelled}
 use Rattle.hm_tree.specs.Names.{Name, name_cmp}
 use Rattle.hm_tree.specs.Nodes.{bare, Node, edges, depth}
 use Rattle.hm_tree.specs.Archives.{Archive}
-use Rattle.hm_tree_text.specs.Text.{whole, below, text, line_feed, HasTextNames, edge_text, separator, inside}
+use Rattle.hm_tree_text.specs.Text.{whole, below, text, line_feed, HasAllowedMarks, edge_text, separator, inside}
 use Rattle.hm_tree_text.specs.Begun.{IsBegun}
 
 -- whether a name is greater than all names of edges
@@ -45,39 +45,39 @@ pub record IsEdge (m : Bool) (es : List (Name × Node true)) (bytes : List ℕ) 
   pub more : Bool
   pub is_text : IsUtf8 name
   pub after : T (is_behind name es)
-  pub names : HasTextNames m child.shape
+  pub marks : HasAllowedMarks m child.shape
   pub is : bytes ≡ edge_text name child.shape ++ separator more ∷ []
 
 -- what stands behind a name and behind the edge
 pub record IsBelow (m : Bool) (bytes : List ℕ) : Type 0 where
   pub child : Node true
   pub more : Bool
-  pub names : HasTextNames m child.shape
+  pub marks : HasAllowedMarks m child.shape
   pub is : bytes ≡ text below child.shape ++ separator more ∷ []
 
 -- what stands behind a colon
 pub record IsFull (m : Bool) (bytes : List ℕ) : Type 0 where
   pub node : Node true
-  pub names : HasTextNames m node.shape
+  pub marks : HasAllowedMarks m node.shape
   pub some : node.shape ≡ bare → ⊥
   pub is : bytes ≡ text whole node.shape
 
 -- what stands behind the brace of a node with edges
 pub record IsInside (m : Bool) (bytes : List ℕ) : Type 0 where
   pub node : Node true
-  pub names : HasTextNames m node.shape
+  pub marks : HasAllowedMarks m node.shape
   pub some : 0 < length (edges node)
   pub is : bytes ≡ inside (edges node)
 
 pub record IsWhole (m : Bool) (bytes : List ℕ) : Type 0 where
   pub node : Node true
-  pub names : HasTextNames m node.shape
+  pub marks : HasAllowedMarks m node.shape
   pub is : bytes ≡ text whole node.shape
 
 -- a file that isn't empty
 pub record IsFile (m : Bool) (bytes : List ℕ) : Type 0 where
   pub node : Node true
-  pub names : HasTextNames m node.shape
+  pub marks : HasAllowedMarks m node.shape
   pub is : bytes ≡ text whole node.shape ++ line_feed
 
 -- ---- where a form isn't there
@@ -102,11 +102,11 @@ pub record IsFaultAt (Form : List ℕ → Type 0) (bytes : List ℕ) (start at :
   pub place : at ≡ start + passed
   pub longest : IsLongestPart Form (drop start bytes) passed
 
--- ---- what is read of a form: the node, whose names are texts, and its depth
+-- ---- what is read of a form: the node, in which marks stand only where m allows them, and its depth
 
 pub record IsRead (m : Bool) (room : ℕ) (value : Archive) (node : Node true) : Type 0 where
   pub is : value ≡ Some node
-  pub names : HasTextNames m node.shape
+  pub marks : HasAllowedMarks m node.shape
   pub shallow : depth node ≤ room
 
 -- behind a brace

@@ -2,7 +2,7 @@
 --     tree = "{" "}" / full          full = "{" edge *( "," edge ) "}"
 --     edge = name [ ":" full ]
 -- In an archive a "!" may stand in place of a tree, and in place of what stands behind a ":".
-use Rattle.std.specs.Prelude.{ℕ, Bool, true, false, T, List, [], ◌∷◌, ◌++◌, Some, None, codes, IsUtf8}
+use Rattle.std.specs.Prelude.{ℕ, Bool, true, false, T, List, [], ◌∷◌, ◌++◌, Some, None, codes}
 use Rattle.hm_tree.specs.Spelling.{spelled}
 use Rattle.hm_tree.specs.Names.{Name}
 use Rattle.hm_tree.specs.Nodes.{Shape, bare, mark, edge, Node, Tree}
@@ -46,11 +46,11 @@ abbrev pub archive_text : Archive → List ℕ
 archive_text None = []
 archive_text (Some t) = text whole t.shape ++ line_feed
 
--- all names are texts, and a mark stands only where m allows it
-abbrev pub HasTextNames : Bool → Shape → Type 0
-HasTextNames m bare = Unit {0}
-HasTextNames m mark = T m
-HasTextNames m (edge name child more) = IsUtf8 name × HasTextNames m child × HasTextNames m more
+-- a mark stands only where m allows it
+abbrev pub HasAllowedMarks : Bool → Shape → Type 0
+HasAllowedMarks m bare = Unit {0}
+HasAllowedMarks m mark = T m
+HasAllowedMarks m (edge name child more) = HasAllowedMarks m child × HasAllowedMarks m more
 
 -- ---- the text of a node by its edges
 
