@@ -1,13 +1,15 @@
 -- The definitions, tried on small trees: which names are carried, where it is contested, and a mark without a reason.
 use Rattle.std.proofs.Common.{◌≡◌, ◌≢◌, [], ◌∷◌, ◌++◌, Some, None, refl, sym, subst₂, ◌∙◌, inl, inr, arith}
 use mathlib.Core.Bool.{true≢false}
-use Rattle.std.specs.Prelude.{codes}
+use Rattle.std.specs.Prelude.{codes, Bool, false, true, T}
 use Rattle.std.specs.FinSet.{empty, contains-empty}
+use Rattle.std.specs.Str.{is_utf8}
 use Rattle.hm_tree.specs.declared.archive.State.TheVariants.{Missing, Present, Marked}
 use Rattle.hm_tree.specs.Names.{Name, name_cmp}
-use Rattle.hm_tree.specs.Nodes.{bare, mark, edge, Tree, marked, edges, edges_of, is_marked}
+use Rattle.hm_tree.specs.Nodes.{bare, mark, edge, is_node, both, Tree, marked, edges, edges_of, is_marked}
 use Rattle.hm_tree.specs.Archives.{Archive}
 use Rattle.hm_tree.specs.States.{Path, state}
+use Rattle.hm_tree.proofs.Texts.{ascii_test}
 use Rattle.hm_safety.specs.Views.{Views, Agree, both_present, both_missing}
 use Rattle.hm_safety.specs.Changes.{IsLost}
 use Rattle.hm_schema.specs.declared.node.NodeId.{NodeId}
@@ -23,15 +25,8 @@ use Rattle.hm_outcome.proofs.Marks.{has_or_lacks}
 abbrev nothing : Tree
 nothing = record { shape = bare; sound = tt }
 
-abbrev leaf : Name → Tree
-leaf n = record { shape = edge n bare bare; sound = tt }
-
 abbrev holds_nothing : Archive
 holds_nothing = Some (record { shape = bare; sound = tt })
-
--- an archive with one edge, to nothing
-abbrev holds : Name → Archive
-holds n = Some (record { shape = edge n bare bare; sound = tt })
 
 abbrev ann : Name
 ann = codes "Ann"
@@ -45,8 +40,47 @@ cid = codes "Cid"
 abbrev tel : Name
 tel = codes "tel"
 
+-- each is UTF-8
+
+ann_text : T (is_utf8 ann)
+ann_text = ascii_test ann refl
+
+bob_text : T (is_utf8 bob)
+bob_text = ascii_test bob refl
+
+cid_text : T (is_utf8 cid)
+cid_text = ascii_test cid refl
+
+tel_text : T (is_utf8 tel)
+tel_text = ascii_test tel refl
+
+-- one edge, to nothing, in a tree and in an archive
+leaf_sound : (m : Bool) (n : Name) → T (is_utf8 n) → T (is_node m true (edge n bare bare))
+leaf_sound m n text = both _ _ (both _ _ text tt) tt
+
+abbrev leaf : (n : Name) → T (is_utf8 n) → Tree
+leaf n text = record { shape = edge n bare bare; sound = leaf_sound false n text }
+
+abbrev holds : (n : Name) → T (is_utf8 n) → Archive
+holds n text = Some (record { shape = edge n bare bare; sound = leaf_sound true n text })
+
+abbrev has_ann : Tree
+has_ann = leaf ann ann_text
+
+abbrev has_bob : Tree
+has_bob = leaf bob bob_text
+
+abbrev has_cid : Tree
+has_cid = leaf cid cid_text
+
+abbrev holds_ann : Archive
+holds_ann = holds ann ann_text
+
+abbrev holds_bob : Archive
+holds_bob = holds bob bob_text
+
 abbrev bob_has_tel : Tree
-bob_has_tel = record { shape = edge bob (edge tel bare bare) bare; sound = tt }
+bob_has_tel = record { shape = edge bob (edge tel bare bare) bare; sound = both _ _ (both _ _ bob_text tt) (both _ _ (leaf_sound false tel tel_text) tt) }
 
 disagree : Agree Missing Present → ⊥
 disagree h = elim h [ ]
@@ -54,7 +88,7 @@ disagree h = elim h [ ]
 -- ---- both sides deleted Ann; the left side added Bob, the right side Cid
 
 abbrev moved : Views
-moved = views (given (holds ann) (leaf bob) (leaf cid))
+moved = views (given holds_ann has_bob has_cid)
 
 -- what a side has added stays there
 added_is_kept : IsCarried moved.archive moved.left moved.right (bob ∷ [])
@@ -76,7 +110,7 @@ deleted_is_not_kept (brought l h n c) = let e : Missing ≡ Present = h in let n
 -- ---- the left side deleted Bob, and the right side gave him a number
 
 abbrev clash : Views
-clash = views (given (holds bob) nothing bob_has_tel)
+clash = views (given holds_bob nothing bob_has_tel)
 
 is_lost : IsLost clash.archive clash.right clash.left (bob ∷ [])
 unfolding edges edges_of is_marked name_cmp
@@ -101,13 +135,13 @@ clash_is_contested s i = lost refl (inr is_lost)
 -- ---- the left side deleted Bob, and the right side left him as he was
 
 abbrev deleted : Views
-deleted = views (given (holds bob) nothing (leaf bob))
+deleted = views (given holds_bob nothing has_bob)
 
 not_lost : ¬ (IsLost deleted.archive deleted.right deleted.left (bob ∷ []))
 unfolding edges edges_of is_marked name_cmp
 not_lost l = as_he_was l.news.0 l.news.1 l.news.2
   where
-    as_he_was : (r : Path) → state (Some (leaf bob)) (bob ∷ r) ≡ Present → state (holds bob) (bob ∷ r) ≢ Present → ⊥
+    as_he_was : (r : Path) → state (Some has_bob) (bob ∷ r) ≡ Present → state holds_bob (bob ∷ r) ≢ Present → ⊥
     as_he_was [] has none = none refl
     as_he_was (k ∷ r) has none = let e : Missing ≡ Present = has in let no : ⊥ = cc in no
 
@@ -140,14 +174,14 @@ abbrev stopped : Tree → Tree → Views
 stopped a b = views (given (Some marked) a b)
 
 -- the mark stays where the sides differ below it
-still_contested : (s : SchemaValue) (i : NodeId) → IsTopmostContested s i (stopped (leaf bob) (leaf cid)) []
+still_contested : (s : SchemaValue) (i : NodeId) → IsTopmostContested s i (stopped has_bob has_cid) []
 unfolding edges edges_of is_marked marked name_cmp
 still_contested s i = record { contested = earlier refl (bob ∷ [], λ a. agree_not a); topmost = above }
   where
     agree_not : Agree Present Missing → ⊥
     agree_not h = elim h [ ]
 
-    above : (q r : Path) → [] ≡ q ++ r → r ≢ [] → ¬ (IsContested s i (stopped (leaf bob) (leaf cid)) q)
+    above : (q r : Path) → [] ≡ q ++ r → r ≢ [] → ¬ (IsContested s i (stopped has_bob has_cid) q)
     above [] r e n c = n (sym e)
     above (k ∷ q) r e n c = let no : ⊥ = cc in no
 
@@ -161,7 +195,7 @@ no_longer_contested s i t (refused r) = r.unmarked refl
 -- ---- both sides deleted a name that is marked
 
 abbrev both_deleted : Views
-both_deleted = views (given (Some (record { shape = edge bob mark bare; sound = tt })) nothing nothing)
+both_deleted = views (given (Some (record { shape = edge bob mark bare; sound = both _ _ (both _ _ bob_text tt) tt })) nothing nothing)
 
 gone_is_not_contested : (s : SchemaValue) (i : NodeId) → ¬ (IsContested s i both_deleted (bob ∷ []))
 unfolding edges edges_of is_marked name_cmp

@@ -2,6 +2,7 @@
 use Rattle.std.proofs.Common.{◌≡◌, ◌≢◌, ◌⊎◌, inl, inr, ◌↔◌, Bool, true, false, cond, [], ◌∷◌, ◌++◌, Option, Some, None, is_some, IsTrue, option_and_then, refl, sym, ap, subst, ◌∙◌}
 use Rattle.std.specs.Ordering.{is_eq, eq_by_cmp}
 use Rattle.std.specs.FinMap.{put}
+use Rattle.std.specs.Str.{IsUtf8}
 use mathlib.Core.Bool.{true≢false}
 use Rattle.std.proofs.lemmas.Option.{same_Some}
 use Rattle.hm_tree.specs.declared.archive.State.TheVariants.{Present, Marked}
@@ -61,24 +62,24 @@ gathered_none s i before passed none = record {
 pub tied_same : (k : Name) → eq_by_cmp name_cmp k k ≡ true
 tied_same k = ap is_eq (tied_itself name_total k)
 
-module _ (k : Name) where
+module _ (k : Name) (text : IsUtf8 k) where
   side_here : (c : Option Tree) (t : Tree) → below k t ≡ None → below k (with_side k c t) ≡ c
   side_here None t none = none
-  side_here (Some c) t none = below_with k k c t ∙ ap (λ b. cond b (Some c) (below k t)) (tied_same k)
+  side_here (Some c) t none = below_with k k c t text ∙ ap (λ b. cond b (Some c) (below k t)) (tied_same k)
 
   side_there : (q : Name) → eq_by_cmp name_cmp q k ≡ false → (c : Option Tree) (t : Tree) → below q (with_side k c t) ≡ below q t
   side_there q apart None t = refl
-  side_there q apart (Some c) t = below_with q k c t ∙ ap (λ b. cond b (Some c) (below q t)) apart
+  side_there q apart (Some c) t = below_with q k c t text ∙ ap (λ b. cond b (Some c) (below q t)) apart
 
   pub archive_here : (c : Archive) (o : Archive) → state o [] ≡ Present → under k o ≡ None → under k (with_archive k c o) ≡ c
   archive_here c None present none = let no : ⊥ = cc in absurd no
   archive_here None (Some t) present none = none
-  archive_here (Some c) (Some t) present none = below_with k k c t ∙ ap (λ b. cond b (Some c) (below k t)) (tied_same k)
+  archive_here (Some c) (Some t) present none = below_with k k c t text ∙ ap (λ b. cond b (Some c) (below k t)) (tied_same k)
 
   pub archive_there : (q : Name) → eq_by_cmp name_cmp q k ≡ false → (c : Archive) (o : Archive) → under q (with_archive k c o) ≡ under q o
   archive_there q apart c None = refl
   archive_there q apart None (Some t) = refl
-  archive_there q apart (Some c) (Some t) = below_with q k c t ∙ ap (λ b. cond b (Some c) (below q t)) apart
+  archive_there q apart (Some c) (Some t) = below_with q k c t text ∙ ap (λ b. cond b (Some c) (below q t)) apart
 
 -- a present root stays so
 pub still_present : (k : Name) (c : Archive) (o : Archive) → state o [] ≡ Present → state (with_archive k c o) [] ≡ Present
@@ -86,23 +87,23 @@ still_present k c None present = present
 still_present k None (Some t) present = present
 still_present k (Some c) (Some t) present = ap (λ m. cond m Marked Present) (is_marked-node (put name_cmp k c (edges t)))
 
-module _ (s : SchemaValue) (i : NodeId) (before : Trio) (passed : Name → Type 0) (o : Archive) (a b : Tree) (h : IsGathered s i before passed (given o a b)) (k : Name) (fresh : ¬ (passed k)) (here : Trio) where
+module _ (s : SchemaValue) (i : NodeId) (before : Trio) (passed : Name → Type 0) (o : Archive) (a b : Tree) (h : IsGathered s i before passed (given o a b)) (k : Name) (text : IsUtf8 k) (fresh : ¬ (passed k)) (here : Trio) where
   abbrev pub made : Trio
   made = with_trio k here o a b
 
   made_here : child k made ≡ here
   made_here =
       let none = h.rest k fresh in λ x. record {
-        archive = archive_here k here.archive o h.archive (ap (λ (t : Trio). t.archive) none) x;
-        left = side_here k here.left a (ap (λ (t : Trio). t.left) none) x;
-        right = side_here k here.right b (ap (λ (t : Trio). t.right) none) x;
+        archive = archive_here k text here.archive o h.archive (ap (λ (t : Trio). t.archive) none) x;
+        left = side_here k text here.left a (ap (λ (t : Trio). t.left) none) x;
+        right = side_here k text here.right b (ap (λ (t : Trio). t.right) none) x;
       }
 
   made_there : (q : Name) → eq_by_cmp name_cmp q k ≡ false → child q made ≡ child q (given o a b)
   made_there q apart = λ x. record {
-    archive = archive_there k q apart here.archive o x;
-    left = side_there k q apart here.left a x;
-    right = side_there k q apart here.right b x;
+    archive = archive_there k text q apart here.archive o x;
+    left = side_there k text q apart here.left a x;
+    right = side_there k text q apart here.right b x;
   }
 
   pub gathered_next : (now : Name → Type 0) → ((q : Name) → now q ↔ (passed q ⊎ (q ≡ k))) → ((j : NodeId) → child_at s i k ≡ Some j → IsOutcome s j (child k before) here) → IsGathered s i before now made

@@ -13,7 +13,7 @@ use Rattle.std.proofs.lemmas.List.Elements.{Contains-append_left, Contains-appen
 use Rattle.std.proofs.lemmas.Option.{none-some, same_Some, slice_get-map}
 use Rattle.hm_tree.specs.declared.archive.State.TheVariants.{Missing, Present, Marked}
 use Rattle.hm_tree.specs.Names.{Name, name_cmp}
-use Rattle.hm_tree.specs.Nodes.{Shape, bare, mark, edge, above, is_node, is_mark, Node, below_all, first, second, depth, is_marked, edges_of, edges, below}
+use Rattle.hm_tree.specs.Nodes.{Shape, bare, mark, edge, leads, is_node, is_mark, Node, below_all, first, second, depth, is_marked, edges_of, edges, below}
 use Rattle.hm_tree.specs.NodeLaws.{edges_sorted}
 use Rattle.hm_tree.specs.Archives.{Archive, edges_here, depth_here}
 use Rattle.hm_tree.specs.States.{Path, state, View}
@@ -47,7 +47,7 @@ unfolding edges_of marks_of
 marks_edges w bare h u = refl
 marks_edges w mark h u = absurd (true≢false u)
 marks_edges w (edge n c r) h u =
-    let rest = second (is_node true true c) _ (second (above n r) _ h) in
+    let rest = second (is_node true true c) _ (second (leads n r) _ h) in
     ap (λ l. below_name n (marks_of c) ++ l) (marks_edges false r rest (inside r rest))
 
 pub marks_of_node : (t : Node true) → is_marked t ≡ false → marks_of t.shape ≡ flat_map edge_marks (edges t)

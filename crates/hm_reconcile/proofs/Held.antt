@@ -1,6 +1,7 @@
 -- What was held where a new archive is marked.
 use Rattle.std.proofs.Common.{◌≡◌, ◌≢◌, ◌↔◌, ◌⊎◌, inl, inr, [], ◌∷◌, Some, None, Result, Ok, Err, IfOk, Bool, true, false, cond, sym, ap, subst, ◌∙◌, refl}
 use Rattle.std.specs.Ordering.{eq_by_cmp}
+use Rattle.std.specs.Str.{IsUtf8}
 use mathlib.Core.Bool.{true≢false}
 use Rattle.hm_tree.specs.declared.archive.State.TheVariants.{Present, Marked}
 use Rattle.hm_tree.specs.declared.memory.Memory.{Memory}
@@ -56,8 +57,8 @@ held_none old passed never = record {
 }
 
 -- one name more
-pub held_next : (old : Archive) (passed now : Name → Type 0) (new held : Archive) (k : Name) (here aside : Archive) → IsHeld old passed new held → ¬ (passed k) → state new [] ≡ Present → under k new ≡ None → ((q : Name) → now q ↔ (passed q ⊎ (q ≡ k))) → Holds (under k old) here aside → IsHeld old now (with_archive k here new) (with_archive k aside held)
-held_next old passed now new held k here aside h fresh present none grows holds = record {
+pub held_next : (old : Archive) (passed now : Name → Type 0) (new held : Archive) (k : Name) → IsUtf8 k → (here aside : Archive) → IsHeld old passed new held → ¬ (passed k) → state new [] ≡ Present → under k new ≡ None → ((q : Name) → now q ↔ (passed q ⊎ (q ≡ k))) → Holds (under k old) here aside → IsHeld old now (with_archive k here new) (with_archive k aside held)
+held_next old passed now new held k text here aside h fresh present none grows holds = record {
   root = still_present k aside held h.root;
   each = λ q was. go q ((grows q).0 was) (eq_by_cmp name_cmp q k) refl;
   rest = λ q not_now. untouched q not_now (eq_by_cmp name_cmp q k) refl;
@@ -66,13 +67,13 @@ held_next old passed now new held k here aside h fresh present none grows holds 
     go : (q : Name) → passed q ⊎ (q ≡ k) → (t : Bool) → eq_by_cmp name_cmp q k ≡ t → Holds (under q old) (under q (with_archive k here new)) (under q (with_archive k aside held))
     go q was true tied =
         subst (λ z. Holds (under z old) (under z (with_archive k here new)) (under z (with_archive k aside held))) (sym (tie_one q k tied))
-        (subst (λ (z : Archive × Archive). Holds (under k old) z.0 z.1) (λ i. (sym (archive_here k here new present none) i, sym (archive_here k aside held h.root (h.rest k fresh)) i)) holds)
-    go q (inl was) false apart = subst (λ (z : Archive × Archive). Holds (under q old) z.0 z.1) (λ i. (sym (archive_there k q apart here new) i, sym (archive_there k q apart aside held) i)) (h.each q was)
+        (subst (λ (z : Archive × Archive). Holds (under k old) z.0 z.1) (λ i. (sym (archive_here k text here new present none) i, sym (archive_here k text aside held h.root (h.rest k fresh)) i)) holds)
+    go q (inl was) false apart = subst (λ (z : Archive × Archive). Holds (under q old) z.0 z.1) (λ i. (sym (archive_there k text q apart here new) i, sym (archive_there k text q apart aside held) i)) (h.each q was)
     go q (inr same) false apart = absurd (true≢false (sym (ap (λ z. eq_by_cmp name_cmp z k) same ∙ tied_same k) ∙ apart))
 
     untouched : (q : Name) → ¬ (now q) → (t : Bool) → eq_by_cmp name_cmp q k ≡ t → under q (with_archive k aside held) ≡ None
     untouched q not_now true tied = absurd (not_now ((grows q).1 (inr (tie_one q k tied))))
-    untouched q not_now false apart = archive_there k q apart aside held ∙ h.rest q (λ was. not_now ((grows q).1 (inl was)))
+    untouched q not_now false apart = archive_there k text q apart aside held ∙ h.rest q (λ was. not_now ((grows q).1 (inl was)))
 
 -- what stands at a path that begins with a name, where the root isn't marked
 pub at_under : (o : Archive) (k : Name) (p : Path) → state o [] ≢ Marked → at_path o (k ∷ p) ≡ at_path (under k o) p

@@ -3,6 +3,7 @@ use mathlib.Core.Bool.{true≢false}
 use Rattle.std.proofs.Common.{◌≡◌, ◌≢◌, ◌⊎◌, inl, inr, T, List, [], ◌∷◌, map, Option, Some, None, true, false, cond, ◌&&◌, refl, sym, ap, subst, ◌∙◌}
 use Rattle.std.specs.Ordering.{is_lt, eq_by_cmp}
 use Rattle.std.specs.FinMap.{is_sorted, find}
+use Rattle.std.specs.Str.{IsUtf8}
 use Rattle.std.specs.declared.cmp.Ordering.TheVariants.{Less}
 use Rattle.hm_tree.specs.declared.archive.State.TheVariants.{Marked}
 use Rattle.hm_tree.specs.Names.{Name, name_cmp}
@@ -10,6 +11,7 @@ use Rattle.hm_tree.specs.Nodes.{Node, Tree, edges, below, below_all, empty}
 use Rattle.hm_tree.specs.NodeLaws.{edges_sorted}
 use Rattle.hm_tree.specs.Archives.{Archive, under, with_archive, edges_here}
 use Rattle.hm_tree.specs.States.{state}
+use Rattle.hm_tree.proofs.Utf8Names.{below_utf8}
 use Rattle.hm_schema.specs.declared.node.NodeId.{NodeId}
 use Rattle.hm_schema.specs.Values.{SchemaValue, child_at}
 use Rattle.hm_schema.specs.Membership.{HasNoTwins}
@@ -70,10 +72,22 @@ under_way_start s i o a b old es fs made held old_is left_is right_is made_is he
 
 -- ---- one name more
 
+-- a name that one of two trees has is UTF-8
+either_utf8 : (a b : Tree) (k : Name) → IsInEither (below k a) (below k b) → IsUtf8 k
+either_utf8 a b k h = go (below k a) (below k b) refl refl h
+  where
+    go : (x y : Option Tree) → below k a ≡ x → below k b ≡ y → IsInEither x y → IsUtf8 k
+    go (Some c) y e f there = below_utf8 a k c e
+    go None (Some d) e f there = below_utf8 b k d f
+    go None None e f there = absurd (true≢false (sym there))
+
 module _ {s : SchemaValue} {i : NodeId} {o : Archive} {a b : Tree} {old : List (Name × Archive)} {es fs es_rest fs_rest : List (Name × Tree)} {made_o : Archive} {made_a made_b : Tree} {aside : Archive} {k : Name} {one two : Option Tree} (w : IsUnderWay s i o a b old es fs (given made_o made_a made_b) aside) (t : IsTaken es fs es_rest fs_rest k one two) where
   -- what stood under the name in the archive
   pub old_here : found k old ≡ under k o
   old_here = w.old_is k (fresh w.left t) (in_either w.left t)
+
+  name_text : IsUtf8 k
+  name_text = either_utf8 a b k (in_either w.left t)
 
   -- nothing was made under it yet
   pub nothing_made : child k (given made_o made_a made_b) ≡ nothing
@@ -88,8 +102,8 @@ module _ {s : SchemaValue} {i : NodeId} {o : Archive} {a b : Tree} {old : List (
         left = next_left w.left t;
         sorted = sorted;
         old_is = λ q not_yet there. later q (passed_before (next_left w.left t) k q ((passes w.left t k).1 (inr refl)) not_yet there) ∙ w.old_is q (λ was. not_yet ((passes w.left t q).1 (inl was))) there;
-        gathered = gathered_next s i (given o a b) (Passed a b es fs) made_o made_a made_b w.gathered k (fresh w.left t) here (Passed a b es_rest fs_rest) (passes w.left t) settled;
-        held = held_next o (Passed a b es fs) (Passed a b es_rest fs_rest) made_o aside k here.archive aside_here w.held (fresh w.left t) w.gathered.archive (ap (λ (x : Trio). x.archive) nothing_made) (passes w.left t) holds;
+        gathered = gathered_next s i (given o a b) (Passed a b es fs) made_o made_a made_b w.gathered k name_text (fresh w.left t) here (Passed a b es_rest fs_rest) (passes w.left t) settled;
+        held = held_next o (Passed a b es fs) (Passed a b es_rest fs_rest) made_o aside k name_text here.archive aside_here w.held (fresh w.left t) w.gathered.archive (ap (λ (x : Trio). x.archive) nothing_made) (passes w.left t) holds;
       })
 
 -- ---- at the end

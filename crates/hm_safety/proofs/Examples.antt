@@ -1,12 +1,14 @@
 -- The definitions, tried on small trees: what has changed, what clashes, and results that aren't safe.
 use Rattle.std.proofs.Common.{◌≡◌, ◌≢◌, List, [], ◌∷◌, ◌++◌, Option, Some, None, refl, sym, ◌∙◌, inl, inr}
-use Rattle.std.specs.Prelude.{codes, false, true}
+use Rattle.std.specs.Prelude.{codes, Bool, false, true, T}
 use Rattle.hm_tree.specs.declared.archive.State.{State}
+use Rattle.std.specs.Str.{is_utf8}
 use Rattle.hm_tree.specs.declared.archive.State.TheVariants.{Missing, Present, Marked}
 use Rattle.hm_tree.specs.Names.{Name, name_cmp}
-use Rattle.hm_tree.specs.Nodes.{bare, mark, edge, Node, Tree, empty, marked, edges, edges_of, is_marked}
+use Rattle.hm_tree.specs.Nodes.{bare, mark, edge, is_node, both, Node, Tree, empty, marked, edges, edges_of, is_marked}
 use Rattle.hm_tree.specs.Archives.{Archive, recorded}
 use Rattle.hm_tree.specs.States.{Path, state}
+use Rattle.hm_tree.proofs.Texts.{ascii_test}
 use Rattle.hm_safety.specs.Views.{Views, Agree, both_present, both_missing}
 use Rattle.hm_safety.specs.Changes.{HasChanged, Clash, IsLost}
 use Rattle.hm_safety.specs.Safety.{IsTopmostMark, IsSafe}
@@ -14,10 +16,7 @@ use Rattle.hm_safety.specs.Safety.{IsTopmostMark, IsSafe}
 abbrev before : Archive → Tree → Tree → Views
 before o a b = record { archive = state o; left = state (Some a); right = state (Some b) }
 
--- an archive that holds a tree, and one edge
-
-abbrev leaf : Name → Tree
-leaf n = record { shape = edge n bare bare; sound = tt }
+-- small trees and archives
 
 abbrev nothing : Tree
 nothing = record { shape = bare; sound = tt }
@@ -31,9 +30,38 @@ bob = codes "Bob"
 abbrev tel : Name
 tel = codes "tel"
 
--- an archive with one edge, to nothing
-abbrev holds : Name → Archive
-holds n = Some (record { shape = edge n bare bare; sound = tt })
+-- each is UTF-8
+
+ann_text : T (is_utf8 ann)
+ann_text = ascii_test ann refl
+
+bob_text : T (is_utf8 bob)
+bob_text = ascii_test bob refl
+
+tel_text : T (is_utf8 tel)
+tel_text = ascii_test tel refl
+
+-- one edge, to nothing, in a tree and in an archive
+leaf_sound : (m : Bool) (n : Name) → T (is_utf8 n) → T (is_node m true (edge n bare bare))
+leaf_sound m n text = both _ _ (both _ _ text tt) tt
+
+abbrev leaf : (n : Name) → T (is_utf8 n) → Tree
+leaf n text = record { shape = edge n bare bare; sound = leaf_sound false n text }
+
+abbrev holds : (n : Name) → T (is_utf8 n) → Archive
+holds n text = Some (record { shape = edge n bare bare; sound = leaf_sound true n text })
+
+abbrev has_ann : Tree
+has_ann = leaf ann ann_text
+
+abbrev has_bob : Tree
+has_bob = leaf bob bob_text
+
+abbrev holds_ann : Archive
+holds_ann = holds ann ann_text
+
+abbrev holds_bob : Archive
+holds_bob = holds bob bob_text
 
 abbrev holds_nothing : Archive
 holds_nothing = Some (record { shape = bare; sound = tt })
@@ -45,12 +73,12 @@ disagree_too : Agree Missing Present → ⊥
 disagree_too h = elim h [ ]
 
 -- the archive has Ann, and a side that lacks her has changed there
-deleted_is_changed : HasChanged (state (holds ann)) (state (Some nothing)) (ann ∷ [])
+deleted_is_changed : HasChanged (state holds_ann) (state (Some nothing)) (ann ∷ [])
 unfolding edges edges_of is_marked name_cmp
 deleted_is_changed h = disagree h
 
 -- a side that still has her hasn't
-kept_is_unchanged : ¬ (HasChanged (state (holds ann)) (state (Some (leaf ann))) (ann ∷ []))
+kept_is_unchanged : ¬ (HasChanged (state holds_ann) (state (Some has_ann)) (ann ∷ []))
 unfolding edges edges_of is_marked name_cmp
 kept_is_unchanged h = h both_present
 
@@ -62,26 +90,26 @@ marked_is_changed h = elim h [ ]
 -- ---- results that aren't safe
 
 -- a deleted name may not come back
-not_back : ¬ (IsSafe (before (holds ann) nothing (leaf ann)) (before (holds ann) (leaf ann) (leaf ann)))
+not_back : ¬ (IsSafe (before holds_ann nothing has_ann) (before holds_ann has_ann has_ann))
 unfolding edges edges_of is_marked name_cmp
 not_back h = let same : Present ≡ Missing = h.keeps_left (ann ∷ []) deleted_is_changed in let no : ⊥ = cc in no
 
 -- nothing may be made up
-not_made_up : ¬ (IsSafe (before holds_nothing nothing nothing) (before (holds bob) (leaf bob) (leaf bob)))
+not_made_up : ¬ (IsSafe (before holds_nothing nothing nothing) (before holds_bob has_bob has_bob))
 unfolding edges edges_of is_marked name_cmp
 not_made_up h =
     let same : Present ≡ Missing = h.left_from_right (bob ∷ []) (λ e. let e2 : Present ≡ Missing = e in let no : ⊥ = cc in no) in
     let no : ⊥ = cc in no
 
 -- the left side may not win: what the right side has added stays there
-left_wins_not : ¬ (IsSafe (before holds_nothing (leaf ann) (leaf bob)) (before (holds ann) (leaf ann) (leaf ann)))
+left_wins_not : ¬ (IsSafe (before holds_nothing has_ann has_bob) (before holds_ann has_ann has_ann))
 unfolding edges edges_of is_marked name_cmp
 left_wins_not h =
     let same : Missing ≡ Present = h.keeps_right (bob ∷ []) (λ a. disagree_too a) in
     let no : ⊥ = cc in no
 
 -- where the sides differ the archive may not follow one of them
-not_as_left : ¬ (IsSafe (before holds_nothing (leaf ann) (leaf bob)) (before (holds ann) (leaf ann) (leaf bob)))
+not_as_left : ¬ (IsSafe (before holds_nothing has_ann has_bob) (before holds_ann has_ann has_bob))
 unfolding edges edges_of is_marked name_cmp
 not_as_left h = elim (h.agrees_or_stops (ann ∷ [])) [
   | inl m ↦ (let e : Present ≡ Marked = m in let no : ⊥ = cc in no)
@@ -90,7 +118,7 @@ not_as_left h = elim (h.agrees_or_stops (ann ∷ [])) [
 
 -- a change that the other side hasn't seen may not be held back under a mark: there is no clash
 abbrev marks_bob : Archive
-marks_bob = Some (record { shape = edge bob mark bare; sound = tt })
+marks_bob = Some (record { shape = edge bob mark bare; sound = both _ _ (both _ _ bob_text tt) tt })
 
 topmost : IsTopmostMark (state marks_bob) (bob ∷ [])
 unfolding edges edges_of is_marked name_cmp
@@ -105,7 +133,7 @@ topmost = record { marked = refl; topmost = above }
         longer k j [] r e = cc
         longer k j (i ∷ q) r e = cc
 
-not_held_back : ¬ (IsSafe (before holds_nothing nothing (leaf bob)) (before marks_bob nothing (leaf bob)))
+not_held_back : ¬ (IsSafe (before holds_nothing nothing has_bob) (before marks_bob nothing has_bob))
 unfolding edges edges_of is_marked name_cmp
 not_held_back h = elim (h.stops_at (bob ∷ []) topmost) [
   | inl both ↦ (let e : Missing ≡ Present = both.0 in let no : ⊥ = cc in no)
@@ -117,18 +145,18 @@ not_held_back h = elim (h.stops_at (bob ∷ []) topmost) [
 
 -- the left side deleted Bob, and the right side gave him a number
 abbrev bob_has_tel : Tree
-bob_has_tel = record { shape = edge bob (edge tel bare bare) bare; sound = tt }
+bob_has_tel = record { shape = edge bob (edge tel bare bare) bare; sound = both _ _ (both _ _ bob_text tt) (both _ _ (leaf_sound false tel tel_text) tt) }
 
-clashes : Clash (before (holds bob) nothing bob_has_tel) (bob ∷ [])
+clashes : Clash (before holds_bob nothing bob_has_tel) (bob ∷ [])
 unfolding edges edges_of is_marked name_cmp
 clashes = inr (record { has = refl; lacks = refl; known = λ e. (let f : Present ≡ Missing = e in let no : ⊥ = cc in no); news = (tel ∷ [], refl, λ e. (let f : Missing ≡ Present = e in let no : ⊥ = cc in no)) })
 
 -- a side that still has Bob as he was clashes with no deletion
-clashes_not : ¬ (Clash (before (holds bob) nothing (leaf bob)) (bob ∷ []))
+clashes_not : ¬ (Clash (before holds_bob nothing has_bob) (bob ∷ []))
 unfolding edges edges_of is_marked name_cmp
 clashes_not (inl lost) = let e : Missing ≡ Present = lost.has in let no : ⊥ = cc in no
 clashes_not (inr lost) = as_he_was lost.news.0 lost.news.1 lost.news.2
   where
-    as_he_was : (r : Path) → state (Some (leaf bob)) (bob ∷ r) ≡ Present → state (holds bob) (bob ∷ r) ≢ Present → ⊥
+    as_he_was : (r : Path) → state (Some has_bob) (bob ∷ r) ≡ Present → state holds_bob (bob ∷ r) ≢ Present → ⊥
     as_he_was [] has none = none refl
     as_he_was (k ∷ r) has none = let e : Missing ≡ Present = has in let no : ⊥ = cc in no

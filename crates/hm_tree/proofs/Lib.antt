@@ -1,9 +1,13 @@
+pub mod Texts
 pub mod Sorted
 pub mod Depths
 pub mod Deepest
 pub mod States
 pub mod PathLaws
 pub mod Paths
+pub mod Steps
+pub mod Utf8Names
+pub mod DepthLaws
 pub mod Extent
 pub mod Kept
 pub mod Presence

@@ -34,7 +34,8 @@ tied_self x = ap is_eq (tied_itself name_total x)
 tied_back : (x y : Name) → tied x y ≡ true → tied y x ≡ true
 tied_back x y h = subst (λ z. tied z x ≡ true) (tied_one x y h) (tied_self x)
 
-same_bool : (a b : Bool) → (a ≡ true → b ≡ true) → (b ≡ true → a ≡ true) → a ≡ b
+-- two tests of which each implies the other are equal
+pub same_bool : (a b : Bool) → (a ≡ true → b ≡ true) → (b ≡ true → a ≡ true) → a ≡ b
 same_bool true b f g = sym (f refl)
 same_bool false true f g = g refl
 same_bool false false f g = refl

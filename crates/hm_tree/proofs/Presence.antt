@@ -13,6 +13,7 @@ use Rattle.hm_tree.specs.Archives.{Archive, under}
 use Rattle.hm_tree.specs.States.{state, Path, IsWithin}
 use Rattle.hm_tree.proofs.States.{state_root, state_down}
 use Rattle.hm_tree.proofs.Sorted.{name_one, below_edge}
+use Rattle.hm_tree.proofs.Steps.{found_edge}
 use Rattle.hm_tree.proofs.Kept.{take_more}
 
 -- one step down an archive, where it is present
@@ -51,20 +52,6 @@ within_gone t o i k c at none all = within_nothing c (subst (λ z. IsWithin (Som
 
 pub within_more : (t : Tree) (o : Archive) (i : ℕ) (k : Name) (c : Tree) → slice_get (edges t) i ≡ Some (k, c) → All (IsEdgeWithin o) (take i (edges t)) → IsEdgeWithin o (k, c) → All (IsEdgeWithin o) (take (i + 1) (edges t))
 within_more t o i k c at all here = rw (add-one, take_more (edges t) i (k, c) at) (All-push (IsEdgeWithin o) (take i (edges t)) (k, c) all here)
-
--- what holds of each edge holds of the one that is found
-found_edge : (P : Name × Tree → Type 0) (k : Name) (c : Tree) (es : List (Name × Tree)) → All P es → find name_cmp k es ≡ Some c → P (k, c)
-found_edge P k c [] all e = let no : ⊥ = cc in absurd no
-found_edge P k c (x ∷ es) all e = go (name_cmp k x.0) refl (found_edge P k c es (All-tail P x es all))
-  where
-    go : (r : Ordering) → name_cmp k x.0 ≡ r → (find name_cmp k es ≡ Some c → P (k, c)) → P (k, c)
-    go Less p rest = rest (rw p at e)
-    go Greater p rest = rest (rw p at e)
-    go Equal p rest =
-        let same : Some x.1 ≡ Some c = rw p at e in
-        let child : x.1 ≡ c = cc in
-        let name = sym (name_one k x.0 p) in
-        subst P (λ i. (name i, child i)) (All-head P x es all)
 
 pub within_all : (t : Tree) (o : Archive) → state o [] ≡ Present → All (IsEdgeWithin o) (edges t) → IsWithin (Some t) o
 within_all t o root all [] e = root

@@ -13,12 +13,12 @@ use Rattle.std.proofs.lemmas.Option.{slice_get_read, get_or_from_slice_get, slic
 use Rattle.std.proofs.lemmas.List.Sorted.{searchable_from_sorted}
 use Rattle.std.proofs.lemmas.List.{get_or_default}
 use Rattle.std.specs.Str.{is_utf8, IsUtf8}
-use Rattle.std.proofs.lemmas.Str.{IsUtf8-from_is_utf8, is_utf8-from_IsUtf8}
 use Rattle.std.proofs.lemmas.Bool.{cases_lt, cond_both}
 use Rattle.hm_tree.specs.Names.{Name, name_cmp}
 use Rattle.hm_tree.specs.Nodes.{Node, node, edges, below, Tree, with_edge, without_edge, both, first, second, below_all, are_texts, are_edges, edges_rise, edges_texts, edges_from}
 use Rattle.hm_tree.specs.NodeLaws.{edges-node, edges_sorted, edges_are, node-edges, tree_unmarked}
 use Rattle.hm_tree.specs.Edges.{rank, IsPlaceOf, IsGapFor}
+use Rattle.hm_tree.proofs.Texts.{text_test}
 
 pub name_total : IsTotalOrder name_cmp
 unfolding name_cmp
@@ -52,17 +52,6 @@ back_less a b e = name_total.antisymm a b ∙ ap ordering_reverse e
 
 pub back_greater : (a b : Name) → name_cmp b a ≡ Greater → name_cmp a b ≡ Less
 back_greater a b e = name_total.antisymm a b ∙ ap ordering_reverse e
-
--- the test of what a name's bytes are
-pub text_test : (k : Name) → IsUtf8 k → T (is_utf8 k)
-text_test k u = subst T (sym (is_utf8-from_IsUtf8 k u)) tt
-
-pub text_tested : (k : Name) → T (is_utf8 k) → IsUtf8 k
-text_tested k h = IsUtf8-from_is_utf8 k (from_test (is_utf8 k) h)
-  where
-    from_test : (b : Bool) → T b → b ≡ true
-    from_test true h = refl
-    from_test false h = absurd h
 
 module _ {X : Type 0} where
   each_above : (x : Name) (es : List (Name × X)) (j : ℕ) (d : Name × X) → T (below_all x es) → j < length es → name_cmp x (get_or es j d).0 ≡ Less

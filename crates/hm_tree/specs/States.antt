@@ -1,5 +1,5 @@
 -- What an archive, a tree or a missing side has at a path (JCSS 2007, section 2).
-use Rattle.std.specs.Prelude.{◌≡◌, Bool, cond, List, [], ◌∷◌, ◌++◌, Option, Some, None}
+use Rattle.std.specs.Prelude.{◌≡◌, ◌≢◌, Bool, cond, List, [], ◌∷◌, ◌++◌, Option, Some, None}
 use Rattle.hm_tree.specs.declared.archive.State.{State}
 use Rattle.hm_tree.specs.declared.archive.State.TheVariants.{Missing, Present, Marked}
 use Rattle.hm_tree.specs.Names.{Name}
@@ -39,3 +39,7 @@ at_path (Some t) (k ∷ p) = cond (is_marked t) (Some t) (at_path (below k t) p)
 -- an archive is present wherever a tree, or a missing side, is
 abbrev pub IsWithin : Option Tree → Archive → Type 0
 IsWithin t o = (p : Path) → state t p ≡ Present → state o p ≡ Present
+
+-- no mark stands above a path
+abbrev pub HasNoMarkAbove : {m : Bool} → Option (Node m) → Path → Type 0
+HasNoMarkAbove t p = (q r : Path) → p ≡ q ++ r → r ≢ [] → state t q ≢ Marked

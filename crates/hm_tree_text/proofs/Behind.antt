@@ -8,7 +8,8 @@ use Rattle.std.specs.declared.cmp.Ordering.TheVariants.{Less, Equal, Greater}
 use Rattle.std.specs.FinMap.{is_sorted}
 use Rattle.hm_tree.specs.Names.{Name, name_cmp}
 use Rattle.hm_tree.specs.Nodes.{both, first, second, below_all, are_texts, are_edges, edges_rise, edges_texts, edges_from}
-use Rattle.hm_tree.proofs.Sorted.{name_total, is_less, text_test, text_tested}
+use Rattle.hm_tree.proofs.Sorted.{name_total, is_less}
+use Rattle.hm_tree.proofs.Texts.{text_test, text_tested}
 use Rattle.std.specs.Str.{IsUtf8, is_utf8}
 use Rattle.std.proofs.lemmas.Str.{IsUtf8-from_ascii, IsUtf8-append}
 use Rattle.hm_tree_text.specs.Reading.{is_behind, IsAfter}

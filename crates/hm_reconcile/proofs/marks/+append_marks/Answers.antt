@@ -14,7 +14,7 @@ loop-place-preserved t c = record {
   same_path = c.pop.ensures.rest ∙ popped c.loop-place.here.items c.append_marks.new.here.items _ _ (c.in_ok-append_marks.ensures.same_path ∙ c.in_ok-push-2.ensures.items) c.append_marks.new.here.ok.0 ∙ c.loop-place.invariant.same_path;
   appended =
       c.in_ok-append_marks.ensures.appended
-      ∙ append_more c.args.archive.now c.args.paths.now.items _ c.args.here.now.items _ c.loop-place.place _ _ c.edge.ensures (c.in_ok-push-2.ensures.items ∙ (λ j. c.loop-place.invariant.same_path j ++ c.in_ok-copy.ensures j ∷ [])) c.loop-place.invariant.appended;
+      ∙ append_more c.args.archive.now c.args.paths.now.items _ c.args.here.now.items _ c.loop-place.place _ _ c.edge.ensures (c.in_ok-push-2.ensures.items ∙ (λ j. c.loop-place.invariant.same_path j ++ c.in_ok-copy.ensures.value j ∷ [])) c.loop-place.invariant.appended;
 }
 
 pub returns : goal.returns

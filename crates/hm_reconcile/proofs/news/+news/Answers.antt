@@ -26,7 +26,7 @@ first_news-returns-in-Some t c =
     subst (IsFirst (IsNews (state c.args.archive.now) (state (Some c.args.tree.now)))) (sym items) whole
   where
     named : c.in_ok-copy.field-0 ∷ c.path.inside.names.items ≡ c.edge.result.0.now ∷ c.in-Some.path
-    named = λ i. c.in_ok-copy.ensures i ∷ c.path.view_is i
+    named = λ i. c.in_ok-copy.ensures.value i ∷ c.path.view_is i
 
     items : c.insert.new.self.items ≡ c.edge.result.0.now ∷ c.in-Some.path
     items = c.in_ok-insert.ensures.items ∙ named

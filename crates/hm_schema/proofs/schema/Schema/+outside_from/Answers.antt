@@ -27,7 +27,7 @@ returns-in-Some t c =
     let here = MatchOption-at_some _ _ _ c.in-Some.is c.in_ok-path.ensures in
     let whole = outside_under _ _ c.args.tree.now (allowed_names _ _ c.args.tree.now c.requires.no_twins (c.permits.ensures.0 (search rules))) _ _ _ c.edge.ensures c.loop-place.invariant _ c.child.ensures.child _ here in
     let items : c.insert.new.self.items ≡ c.edge.result.0.now ∷ c.in-Some.path =
-    c.in_ok-insert.ensures.items ∙ ap (λ k. k ∷ c.path.inside.names.items) c.in_ok-copy.ensures ∙ ap (λ p. c.edge.result.0.now ∷ p) c.path.view_is in
+    c.in_ok-insert.ensures.items ∙ ap (λ k. k ∷ c.path.inside.names.items) c.in_ok-copy.ensures.value ∙ ap (λ p. c.edge.result.0.now ∷ p) c.path.view_is in
     subst (IsFirstOutside c.args.self.now c.args.id (view c.args.tree.now)) (sym items) whole
 
 pub loop-place-preserved : goal.loop-place-preserved
