@@ -1,6 +1,6 @@
 -- When a line is bad, by what it says.
 use Rattle.std.proofs.Common.{◌≡◌, ◌≢◌, ◌⊎◌, inl, inr, ℕ, suc, ◌+◌, ◌<◌, Bool, true, false, List, [], ◌∷◌, ◌++◌, length, take, drop, Option, Some, None, refl, sym, ap, ◌∙◌, subst, count_by, arith}
-use Rattle.std.specs.Prelude.{codes}
+use Rattle.std.specs.Prelude.{codes, ◌==◌, IsTrue, is_some, not}
 use mathlib.Core.Bool.{true≢false}
 use Rattle.std.specs.List.{Contains}
 use Rattle.std.proofs.lemmas.List.{take-append-drop}
@@ -10,7 +10,6 @@ use Rattle.hm_node_lines.specs.NodeLines.{is_inside, NodeLineValue, node, edge, 
 use Rattle.hm_node_lines.specs.Entries.{EntryValue, says}
 use Rattle.hm_node_lines.specs.Firsts.{place_in, begun_name, listed_name, node_names, edge_names}
 use Rattle.hm_node_lines.specs.BadLines.{Says, named, begins_node, is_shape, up_to_node, earlier, around, behind, nodes_before, Declares, Lists, SpeaksOfOthers, HasShape, IsNode, names_of_shape, HasDouble, IsNoneCounted, IsBadNodeLine, in_no_node, declared_twice, declares_empty, names_no_node, listed_twice, others_twice, unlisted_name, name_twice, least_above_most, no_others_to_count, no_shape, too_many_nodes, too_many_shapes}
-use Rattle.std.specs.Prelude.{◌==◌, IsTrue, is_some, not}
 use Rattle.std.proofs.lemmas.Bool.Decides.{nat_tests}
 use Rattle.hm_node_lines.proofs.Sections.{drop_more, around_next, from_here}
 use Rattle.hm_node_lines.proofs.Places.{there, not_there, first_at, not_before, names_around}

@@ -12,7 +12,8 @@ use Rattle.hm_schema.specs.declared.node.NodeId.{NodeId}
 use Rattle.hm_schema.specs.Values.{Names, NodeValue, SchemaValue, node_of}
 use Rattle.hm_schema.specs.Permitted.{Permits}
 use Rattle.hm_schema.specs.Membership.{HasNames, IsMember}
-use Rattle.hm_schema.proofs.NamesOf.{same_names, bools}
+use Rattle.hm_schema.proofs.NamesOf.{same_names}
+use Rattle.hm_tree.proofs.NameSets.{same_bool}
 use Rattle.hm_outcome.specs.Trios.{Trio, views, turned, AreMembers}
 use Rattle.hm_outcome.specs.Carried.{IsCarried, on_both, clashing, kept, brought, AreCarried}
 use Rattle.hm_outcome.specs.Contested.{AreRefused, IsContested, earlier, lost, refused}
@@ -52,7 +53,7 @@ missing_or_not Marked = inr (λ e. let f : ⊥ = cc in f)
 permits : (s : SchemaValue) (i : NodeId) (a : View) (p : Path) → IsMember s i a → Has a p → (names : Names) → HasNames (down p a) names → (node : NodeValue) → node_of s i p ≡ Some node → Permits node names
 permits s i a p member has names are node is =
     let at = member p has in
-    let same = same_names at.allowed.names names (λ k. bools _ _ (λ there. (are k).1 ((at.allowed.has k).0 there)) (λ there. (at.allowed.has k).1 ((are k).0 there))) in
+    let same = same_names at.allowed.names names (λ k. same_bool _ _ (λ there. (are k).1 ((at.allowed.has k).0 there)) (λ there. (at.allowed.has k).1 ((are k).0 there))) in
     subst (λ n. Permits n names) (same_Some at.node node (sym at.is ∙ is)) (subst (Permits at.node) same at.allowed.permitted)
 
 -- both sides have at a path what they had

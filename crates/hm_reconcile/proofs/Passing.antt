@@ -8,7 +8,7 @@ use Rattle.std.proofs.lemmas.Option.{none-some}
 use Rattle.hm_tree.specs.Names.{Name, name_cmp}
 use Rattle.hm_tree.specs.Nodes.{Tree, edges, below, below_all, both, first, second}
 use Rattle.hm_tree.specs.NodeLaws.{edges_sorted}
-use Rattle.hm_tree.proofs.Sorted.{name_total, back_less}
+use Rattle.hm_tree.proofs.Sorted.{name_total, is_less, back_less}
 use Rattle.hm_schema.proofs.NamesOf.{tie_one}
 use Rattle.hm_outcome.specs.Gathering.{IsInEither}
 use Rattle.hm_reconcile.specs.Taken.{IsBeforeFirst, IsTakenOff, IsTaken, AreOver}
@@ -19,11 +19,6 @@ abbrev Edges : Type 0
 Edges = List (Name × Tree)
 
 -- ---- a list that rises
-
-is_less : (o : Ordering) → T (is_lt o) → o ≡ Less
-is_less Less p = refl
-is_less Equal p = absurd p
-is_less Greater p = absurd p
 
 before_all : (k n : Name) (es : Edges) → name_cmp k n ≡ Less → T (below_all n es) → T (below_all k es)
 before_all k n [] less h = tt

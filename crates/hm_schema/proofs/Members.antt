@@ -8,13 +8,14 @@ use Rattle.hm_tree.specs.Names.{Name}
 use Rattle.hm_tree.specs.Nodes.{Tree, edges, below}
 use Rattle.hm_tree.specs.States.{state, Path, View, Has, down}
 use Rattle.hm_tree.proofs.Sorted.{below_edge}
+use Rattle.hm_tree.proofs.NameSets.{same_bool}
 use Rattle.hm_tree.proofs.States.{state_root, state_down}
 use Rattle.hm_tree.proofs.Extent.{same_tree}
 use Rattle.hm_schema.specs.declared.node.NodeId.{NodeId}
 use Rattle.hm_schema.specs.Values.{Names, NodeValue, SchemaValue, node_at, child_at, reached, node_of}
 use Rattle.hm_schema.specs.Permitted.{Permits, PermitsAt, names_of}
 use Rattle.hm_schema.specs.Membership.{HasNames, IsTwin, Allows, IsAllowed, IsMember}
-use Rattle.hm_schema.proofs.NamesOf.{names_of-below, same_names, bools, found_value}
+use Rattle.hm_schema.proofs.NamesOf.{names_of-below, same_names, found_value}
 use Rattle.hm_schema.proofs.References.{child_here, child_there}
 
 abbrev pub view : Tree → View
@@ -41,7 +42,7 @@ has_names t k = (λ h. has_below t k (sym (names_of-below t k) ∙ h), λ h. nam
 
 -- no other set does
 pub names_one : (t : Tree) (names : Names) → HasNames (view t) names → names ≡ names_of t
-names_one t names h = same_names names (names_of t) (λ k. bools _ _ (λ there. (has_names t k).1 ((h k).0 there)) (λ there. (h k).1 ((has_names t k).0 there)))
+names_one t names h = same_names names (names_of t) (λ k. same_bool _ _ (λ there. (has_names t k).1 ((h k).0 there)) (λ there. (h k).1 ((has_names t k).0 there)))
 
 -- what stands below a name, as a view
 pub view_below : (t : Tree) (k : Name) (c : Tree) → below k t ≡ Some c → down (k ∷ []) (view t) ≡ view c

@@ -36,13 +36,6 @@ ascending-names_of t = ascending-edges (edges t) (edges_sorted t)
 pub same_names : (a b : Names) → ((k : Name) → contains a k ≡ contains b k) → a ≡ b
 same_names a b e = same_set name_total name_one a b e
 
--- two truth values, each of which is true where the other is, are equal
-pub bools : (a b : Bool) → (a ≡ true → b ≡ true) → (b ≡ true → a ≡ true) → a ≡ b
-bools true true f g = refl
-bools true false f g = sym (f refl)
-bools false true f g = g refl
-bools false false f g = refl
-
 module _ (p : Name → Bool) where
   kept : (s : Names) (q : Name) → contains (retain s p) q ≡ (contains s q && p q)
   kept s q = contains-retain s p q (λ x t. ap p (sym (name_one q x t)))

@@ -53,7 +53,7 @@ high_steps behind b (x ∷ bs) t all =
     high_step behind b (x ∷ (bs ++ t)) (all 0 0 (omega arith))
     ∙ ap (λ l. b ∷ l) (high_steps false x bs t (λ k d lt. all (suc k) d (omega arith)))
 
-high_bytes : (c : ℕ) → 128 ≤ c → All (λ x. 128 ≤ x) (encode c)
+pub high_bytes : (c : ℕ) → 128 ≤ c → All (λ x. 128 ≤ x) (encode c)
 high_bytes c h k d lt = elim (cases_lt (get_or (encode c) k 0) 128) [
   | inl low ↦ let same = inside_one c [] (encode c) k (sym (append-nil (encode c))) lt low in absurd (omega arith)
   | inr high ↦ let other = get_or_default (encode c) k d 0 lt in omega arith

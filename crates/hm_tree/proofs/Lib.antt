@@ -16,5 +16,6 @@ pub mod Classed
 pub mod Compared
 pub mod Folded
 pub mod CleanText
+pub mod SpelledText
 pub mod NameSets
 pub mod Ascending

@@ -1,5 +1,5 @@
 -- One text for each value, one value for each text, and one reading of all bytes.
-use Rattle.std.proofs.Common.{◌≡◌, ℕ, ◌≤◌, Bool, true, false, T, List, [], ◌∷◌, ◌++◌, refl, sym, ap, ◌∙◌, Some, None, arith}
+use Rattle.std.proofs.Common.{◌≡◌, ℕ, ◌≤◌, Bool, true, false, T, List, [], ◌∷◌, ◌++◌, refl, sym, ap, ◌∙◌, Some, None, Result, Ok, Err, IfOk, IfErr, arith}
 use Rattle.std.specs.Prelude.{codes}
 use Rattle.hm_tree.specs.Nodes.{Shape, bare, mark, edge, is_node, Node, Tree, depth, marked}
 use Rattle.hm_tree.specs.NodeLaws.{same_node}
@@ -10,6 +10,7 @@ use Rattle.hm_tree_text.specs.Text.{whole, text, line_feed, tree_text, archive_t
 use Rattle.hm_tree_text.specs.Files.{IsTreeFile, IsArchiveFile, IsTreeText, IsArchiveText}
 use Rattle.hm_tree_text.specs.Opening.{IsTooDeep}
 use Rattle.hm_tree_text.specs.Faults.{Faults, TreeFaults, ArchiveFaults}
+use Rattle.hm_tree_text.specs.Reads.{Reads, ReadsTree, ReadsArchive, UnlessMemory}
 use Rattle.hm_tree_text.proofs.Spelling.{apart, heads, open_mark}
 use Rattle.hm_tree_text.proofs.Deep.{opens_brace, shallow_whole}
 
@@ -98,6 +99,54 @@ tree_fault_once = fault_once false IsTreeFile
 
 pub archive_fault_once : (bytes : List ℕ) (one other : TextFault) → ArchiveFaults bytes one → ArchiveFaults bytes other → (one ≡ Memory → ⊥) → (other ≡ Memory → ⊥) → one ≡ other
 archive_fault_once = fault_once true IsArchiveFile
+
+-- ---- one reading
+
+module _ {A : Type 0} (IsText : A → List ℕ → Type 0) (FaultsOf : List ℕ → TextFault → Type 0) (bytes : List ℕ) where
+  pub read_as : (r : Result A TextFault) → IfOk r (λ x. IsText x bytes) → IfErr r (FaultsOf bytes) → UnlessMemory (Reads IsText FaultsOf bytes) r
+  read_as (Ok x) h k = h
+  read_as (Err (BadTree at)) h k = k
+  read_as (Err TooDeep) h k = k
+  read_as (Err Memory) h k = tt
+
+  reads_once : ((x y : A) → IsText x bytes → IsText y bytes → x ≡ y) → ((x : A) → IsText x bytes → (fault : TextFault) → FaultsOf bytes fault → fault ≡ Memory)
+      → ((one other : TextFault) → FaultsOf bytes one → FaultsOf bytes other → (one ≡ Memory → ⊥) → (other ≡ Memory → ⊥) → one ≡ other)
+      → (r q : Result A TextFault) → Reads IsText FaultsOf bytes r → Reads IsText FaultsOf bytes q → r ≡ q
+  reads_once text none fault (Ok x) (Ok y) h k = ap Ok (text x y h k)
+  reads_once text none fault (Ok x) (Err (BadTree at)) h k = let no = none x h (BadTree at) k in let f : ⊥ = cc in absurd f
+  reads_once text none fault (Ok x) (Err TooDeep) h k = let no = none x h TooDeep k in let f : ⊥ = cc in absurd f
+  reads_once text none fault (Ok x) (Err Memory) h k = absurd k
+  reads_once text none fault (Err (BadTree at)) (Ok y) h k = let no = none y k (BadTree at) h in let f : ⊥ = cc in absurd f
+  reads_once text none fault (Err TooDeep) (Ok y) h k = let no = none y k TooDeep h in let f : ⊥ = cc in absurd f
+  reads_once text none fault (Err Memory) (Ok y) h k = absurd h
+  reads_once text none fault (Err (BadTree at)) (Err (BadTree place)) h k = ap Err (fault (BadTree at) (BadTree place) h k (λ e. cc) (λ e. cc))
+  reads_once text none fault (Err (BadTree at)) (Err TooDeep) h k = ap Err (fault (BadTree at) TooDeep h k (λ e. cc) (λ e. cc))
+  reads_once text none fault (Err (BadTree at)) (Err Memory) h k = absurd k
+  reads_once text none fault (Err TooDeep) (Err (BadTree place)) h k = ap Err (fault TooDeep (BadTree place) h k (λ e. cc) (λ e. cc))
+  reads_once text none fault (Err TooDeep) (Err TooDeep) h k = refl
+  reads_once text none fault (Err TooDeep) (Err Memory) h k = absurd k
+  reads_once text none fault (Err Memory) (Err other) h k = absurd h
+
+-- two results that bytes are read as are equal
+pub tree_reads_once : (bytes : List ℕ) (r q : Result Tree TextFault) → ReadsTree bytes r → ReadsTree bytes q → r ≡ q
+tree_reads_once bytes =
+    reads_once IsTreeText TreeFaults bytes (λ t u. tree_once t u bytes) (λ t h. tree_text_reads t bytes h) (tree_fault_once bytes)
+
+pub archive_reads_once : (bytes : List ℕ) (r q : Result Archive TextFault) → ReadsArchive bytes r → ReadsArchive bytes q → r ≡ q
+archive_reads_once bytes =
+    reads_once IsArchiveText ArchiveFaults bytes (λ o a. archive_once o a bytes) (λ o h. archive_text_reads o bytes h) (archive_fault_once bytes)
+
+-- a fault with which a reading ends is one of the bytes
+pub read_fault : {A : Type 0} (IsText : A → List ℕ → Type 0) (m : Bool) (File : List ℕ → Type 0) (bytes : List ℕ) (fault : TextFault) → UnlessMemory (Reads IsText (Faults m File) bytes) (Err fault) → Faults m File bytes fault
+read_fault IsText m File bytes (BadTree at) h = h
+read_fault IsText m File bytes TooDeep h = h
+read_fault IsText m File bytes Memory h = tt
+
+pub tree_read_fault : (bytes : List ℕ) (fault : TextFault) → UnlessMemory (ReadsTree bytes) (Err fault) → TreeFaults bytes fault
+tree_read_fault = read_fault IsTreeText false IsTreeFile
+
+pub archive_read_fault : (bytes : List ℕ) (fault : TextFault) → UnlessMemory (ReadsArchive bytes) (Err fault) → ArchiveFaults bytes fault
+archive_read_fault = read_fault IsArchiveText true IsArchiveFile
 
 -- ---- trees and archives
 

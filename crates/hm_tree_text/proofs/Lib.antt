@@ -1,4 +1,5 @@
 pub mod Spelling
+pub mod TextUtf8
 pub mod Laws
 mod Places
 mod Parts

@@ -2,14 +2,14 @@
 use Rattle.std.proofs.Common.{◌≡◌, ℕ, zero, suc, ◌+◌, ◌<◌, ◌≤◌, Bool, true, false, cond, nat_lt, List, [], ◌∷◌, ◌++◌, map, length, drop, Some, None, slice_get, refl, sym, ap, ◌∙◌, append_assoc, arith, add-one}
 use Rattle.std.proofs.lemmas.List.{append-nil}
 use Rattle.std.proofs.lemmas.Bool.{ltb-true, ltb-false}
-use Rattle.hm_tree.specs.declared.archive.State.TheVariants.{Present, Marked}
+use Rattle.hm_tree.specs.declared.archive.State.TheVariants.{Missing, Present, Marked}
 use Rattle.hm_tree.specs.Names.{Name}
 use Rattle.hm_tree.specs.Nodes.{Node, edges, is_marked}
 use Rattle.hm_tree.specs.NodeLaws.{edges_empty}
 use Rattle.hm_tree.specs.Archives.{Archive, edges_here}
 use Rattle.hm_tree.specs.States.{state}
 use Rattle.hm_tree.specs.Spelling.{spelled}
-use Rattle.hm_tree_text.specs.Text.{below, text, edge_text, separator, inside, is_more}
+use Rattle.hm_tree_text.specs.Text.{whole, below, text, line_feed, archive_text, edge_text, separator, inside, is_more}
 use Rattle.hm_tree_text.specs.Writing.{present}
 use Rattle.hm_tree_text.proofs.Listed.{empty_unmarked}
 
@@ -89,3 +89,8 @@ present_unmarked (Some t) e = by (is_marked t) refl e
     by : (b : Bool) → is_marked t ≡ b → (cond b Marked Present ≡ Marked → ⊥) → is_marked t ≡ false
     by false m e = m
     by true m e = absurd (e refl)
+
+-- where its root isn't missing, an archive's text is that of its node
+pub archive_text_present : (a : Archive) → (state a [] ≡ Missing → ⊥) → text whole (present a).shape ++ line_feed ≡ archive_text a
+archive_text_present None some = absurd (some refl)
+archive_text_present (Some t) some = refl

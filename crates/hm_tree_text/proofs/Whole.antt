@@ -6,7 +6,7 @@ use Rattle.hm_tree.specs.Archives.{Archive, recorded, depth-recorded}
 use Rattle.hm_tree_text.specs.declared.fault.TextFault.{TextFault}
 use Rattle.hm_tree_text.specs.declared.fault.TextFault.TheVariants.{BadTree, TooDeep, Memory}
 use Rattle.hm_tree_text.specs.Text.{whole, text, HasAllowedMarks, inside, line_feed}
-use Rattle.hm_tree_text.specs.Files.{IsTreeFile, IsArchiveFile, IsTreeText}
+use Rattle.hm_tree_text.specs.Files.{IsTreeFile, IsArchiveFile, IsTreeText, IsArchiveText}
 use Rattle.hm_tree_text.specs.Begun.{IsBegun, IsLongestBegun}
 use Rattle.hm_tree_text.specs.Opening.{Opens, IsTooDeep}
 use Rattle.hm_tree_text.specs.Faults.{IsBad, Faults}
@@ -234,6 +234,9 @@ any_marks (edge k c r) = (any_marks c, any_marks r)
 file_archive : (s : List ℕ) → (s ≡ [] → ⊥) → IsArchiveFile s → IsFile true s
 file_archive s some (None, is) = absurd (some is)
 file_archive s some (Some t, is) = record { node = t; marks = any_marks t.shape; is = is }
+
+pub archive_read : (o : Archive) (bytes : List ℕ) → IsFileRead true o bytes → IsArchiveText o bytes
+archive_read o bytes h = subst (λ (a : Archive). IsArchiveText a bytes) (sym h.read.is) (record { spelled = h.is; shallow = h.read.shallow })
 
 some_bytes : (n : ℕ) (bytes rest : List ℕ) → n ≤ length bytes → take n bytes ++ rest ≡ [] → n ≡ 0
 some_bytes zero bytes rest le e = refl

@@ -3,6 +3,7 @@ pub mod Files
 pub mod Begun
 pub mod Opening
 pub mod Faults
+pub mod Reads
 pub mod Reading
 pub mod Failing
 pub mod Pending

@@ -2,8 +2,8 @@
 ghost use Rattle.std.specs.Prelude.{◌≡◌, ◌↔◌, ℕ, ◌+◌, ◌<◌, ◌≤◌, true, false, List, [], ◌∷◌, ◌++◌, T, IsTrue, IfOk, IfErr, OnOk, IsUtf8, length, drop, Option, Some, MatchOption, option_copied};
 ghost use Rattle.hm_tree.specs.Nodes.{marked};
 ghost use Rattle.hm_tree.specs.Spelling.{spelled};
-ghost use Rattle.hm_tree_text.specs.Files.{IsTreeText, IsArchiveText};
-ghost use Rattle.hm_tree_text.specs.Faults.{Faults, TreeFaults, ArchiveFaults};
+ghost use Rattle.hm_tree_text.specs.Reads.{ReadsTree, ReadsArchive, UnlessMemory};
+ghost use Rattle.hm_tree_text.specs.Faults.{Faults};
 ghost use Rattle.hm_tree_text.specs.Opening.{Opens};
 ghost use Rattle.hm_tree_text.specs.Reading.{StandsAt, IsAfter, IsName, IsEdge, IsBelow, IsInside, IsWhole, IsFile, IsInsideRead, IsBelowRead, IsWholeRead, IsEdgeRead, IsFileRead, BeginsWith};
 ghost use Rattle.hm_tree_text.specs.Pending.{valued_edges, MakeNode};
@@ -33,8 +33,7 @@ struct Edge<B> {
 /// than 1,000 braces open; else, where they are no file, `BadTree` with the length of their longest part with which a
 /// file begins.
 pub fn read_tree(alloc: Global, bytes: &[u8]) -> Result<Tree, TextFault>
-    ensures text { IfOk result (λ tree. IsTreeText tree bytes.now) }
-    ensures fault { IfErr result (TreeFaults bytes.now) }
+    ensures { UnlessMemory (ReadsTree bytes.now) result }
 {
     read_file(alloc, bytes)
 }
@@ -42,8 +41,7 @@ pub fn read_tree(alloc: Global, bytes: &[u8]) -> Result<Tree, TextFault>
 /// The archive that the bytes are the file of: no bytes at all where it is missing at the root. It fails as
 /// `read_tree` does.
 pub fn read_archive(alloc: Global, bytes: &[u8]) -> Result<Archive, TextFault>
-    ensures text { IfOk result (λ archive. IsArchiveText archive bytes.now) }
-    ensures fault { IfErr result (ArchiveFaults bytes.now) }
+    ensures { UnlessMemory (ReadsArchive bytes.now) result }
 {
     if bytes.is_empty() {
         return Ok(Archive::missing(alloc));

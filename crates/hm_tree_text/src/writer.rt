@@ -1,5 +1,5 @@
 //! Writing: each form of the grammar at the end of one text.
-ghost use Rattle.std.specs.Prelude.{◌≡◌, ◌↔◌, ◌<◌, ◌++◌, IsTrue, IfOk, OnOk, length, Some, slice_get};
+ghost use Rattle.std.specs.Prelude.{◌≡◌, ◌↔◌, ◌<◌, ◌++◌, IsTrue, IfOk, OnOk, IsUtf8, length, Some, slice_get};
 ghost use Rattle.hm_tree.specs.Nodes.{bare, edges, is_marked};
 ghost use Rattle.hm_tree_text.specs.Text.{tree_text, archive_text, text as text_of, whole, below, separator as separator_of};
 ghost use Rattle.hm_tree.specs.Archives.{recorded};
@@ -60,7 +60,8 @@ impl Written for Archive {
 
 /// The file of a tree.
 pub fn write_tree(alloc: Global, tree: &Tree) -> Result<Vec<u8>, Memory>
-    ensures { IfOk result (λ text. text.items ≡ tree_text tree.now) }
+    ensures value { IfOk result (λ text. text.items ≡ tree_text tree.now) }
+    ensures utf8 { IfOk result (λ text. IsUtf8 text.items) }
 {
     let mut text = Vec::new(alloc);
     put_whole(&mut text, tree)?;
@@ -70,7 +71,8 @@ pub fn write_tree(alloc: Global, tree: &Tree) -> Result<Vec<u8>, Memory>
 
 /// The file of an archive.
 pub fn write_archive(alloc: Global, archive: &Archive) -> Result<Vec<u8>, Memory>
-    ensures { IfOk result (λ text. text.items ≡ archive_text archive.now) }
+    ensures value { IfOk result (λ text. text.items ≡ archive_text archive.now) }
+    ensures utf8 { IfOk result (λ text. IsUtf8 text.items) }
 {
     let mut text = Vec::new(alloc);
     if let State::Missing = archive.root() {

@@ -1,9 +1,7 @@
-use Rattle.std.proofs.Common.{length, sym, ap, ◌∙◌, arith}
-use Rattle.hm_tree.specs.Nodes.{node}
+use Rattle.std.proofs.Common.{length, sym, ap, ◌∙◌, arith, rules, ◌+◌, false}
+use Rattle.hm_tree.specs.Nodes.{node, Node, depth}
 use Rattle.hm_tree.specs.NodeLaws.{edges_are}
-use Rattle.std.proofs.Common.{rules, ◌+◌, false}
 use Rattle.hm_tree.specs.Names.{Name}
-use Rattle.hm_tree.specs.Nodes.{Node, depth}
 use Rattle.hm_tree.proofs.Deepest.{most_insert, depth_kept}
 use Rattle.hm_tree.proofs.Sorted.{edges_seen, insert_is, edges_put, not_None}
 use Rattle.hm_tree.proofs.tree.Tree.insert.Goals as goal
