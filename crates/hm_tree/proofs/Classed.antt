@@ -5,7 +5,8 @@ use Rattle.std.specs.List.{All, filter}
 use Rattle.std.proofs.lemmas.List.Elements.{All-cons}
 use Rattle.std.proofs.lemmas.Bool.{eqb-true, cases_Bool, true≢false, and_from, cond_both}
 use Rattle.hm_tree.specs.Names.{Name}
-use Rattle.hm_tree.specs.Cleaned.{line_ends, is_kept, cleaned, has_no_return, line_ends_same}
+use Rattle.hm_tree.specs.Cleaned.{is_kept, cleaned}
+use Rattle.hm_tree.specs.LineEnds.{line_ends, has_no_return, line_ends_same, cleaned-line_ends}
 
 kept_no_return : (b : ℕ) → is_kept b ≡ true → not (b == 13) ≡ true
 kept_no_return b h = elim (cases_Bool (b == 13)) [
@@ -22,8 +23,7 @@ filter_kept [] all = refl
 filter_kept (b ∷ t) all = rw (all 0 0 (omega arith)) (ap (λ l. b ∷ l) (filter_kept t (λ k d lt. all (suc k) d (omega arith))))
 
 pub clean_from_kept : (t : Name) → All (λ b. IsTrue (is_kept b)) t → cleaned t ≡ t
-unfolding cleaned
-clean_from_kept t all = ap (filter is_kept) (line_ends_same t (no_return_from_kept t all)) ∙ filter_kept t all
+clean_from_kept t all = cleaned-line_ends t ∙ ap (filter is_kept) (line_ends_same t (no_return_from_kept t all)) ∙ filter_kept t all
 
 All_filtered : (t : List ℕ) → All (λ b. IsTrue (is_kept b)) (filter is_kept t)
 All_filtered [] = λ k d lt. absurd (omega arith)
@@ -33,7 +33,6 @@ All_filtered (b ∷ t) =
     (λ _. All_filtered t)
 
 pub kept_from_clean : (t : Name) → cleaned t ≡ t → All (λ b. IsTrue (is_kept b)) t
-unfolding cleaned
-kept_from_clean t e = subst (All (λ b. IsTrue (is_kept b))) e (All_filtered (line_ends false t))
+kept_from_clean t e = subst (All (λ b. IsTrue (is_kept b))) (sym (cleaned-line_ends t) ∙ e) (All_filtered (line_ends false t))
 
 pub ruleset clean_laws = (clean_from_kept, kept_from_clean)

@@ -9,7 +9,8 @@ use Rattle.std.proofs.lemmas.List.{append-nil, get_or_default}
 use Rattle.std.proofs.lemmas.List.Elements.{All-cons, All-filter, filter-append}
 use Rattle.std.proofs.lemmas.Str.{IsUtf8-nil, IsUtf8-append, IsUtf8-from_ascii, encode_ascii, inside_one}
 use Rattle.std.proofs.lemmas.Str.Ascii.{IsAscii-from_all}
-use Rattle.hm_tree.specs.Cleaned.{line_end, line_ends, is_kept, cleaned}
+use Rattle.hm_tree.specs.Cleaned.{is_kept, cleaned}
+use Rattle.hm_tree.specs.LineEnds.{line_end, line_ends, cleaned-line_ends}
 
 abbrev cleaned_from : Bool → List ℕ → List ℕ
 cleaned_from behind t = filter is_kept (line_ends behind t)
@@ -76,5 +77,4 @@ characters (c ∷ cs) h behind =
     character behind c (encodes cs) (c ∷ [], (and_from (scalar c) true parts.0 refl, append-nil (encode c))) (characters cs parts.1)
 
 pub cleaned_utf8 : (t : List ℕ) → IsUtf8 t → IsUtf8 (cleaned t)
-unfolding cleaned
-cleaned_utf8 t u = subst (λ l. IsUtf8 (cleaned_from false l)) u.1.1 (characters u.0 u.1.0 false)
+cleaned_utf8 t u = subst IsUtf8 (sym (cleaned-line_ends t)) (subst (λ l. IsUtf8 (cleaned_from false l)) u.1.1 (characters u.0 u.1.0 false))

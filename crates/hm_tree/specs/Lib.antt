@@ -10,4 +10,5 @@ pub mod Edges
 pub mod Spelling
 pub mod SpellingLaws
 pub mod Cleaned
+pub mod LineEnds
 pub mod Classes

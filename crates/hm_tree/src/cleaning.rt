@@ -1,6 +1,7 @@
 //! Texts whose line ends are LF, without other control characters of ASCII than tab.
 ghost use Rattle.std.specs.Prelude.{◌≡◌, ◌↔◌, ◌++◌, IsTrue, IfOk, OnOk, All, filter};
-ghost use Rattle.hm_tree.specs.Cleaned.{is_kept, line_end, cleaned};
+ghost use Rattle.hm_tree.specs.Cleaned.{is_kept, cleaned};
+ghost use Rattle.hm_tree.specs.LineEnds.{line_end};
 ghost use Rattle.hm_tree.specs.Classes.{IsClean};
 
 use crate::memory::Memory;
