@@ -1,5 +1,5 @@
 -- The depth of a tree or an archive is the length of its longest path, where a mark counts as a node without edges.
-use Rattle.std.proofs.Common.{◌≡◌, ◌≢◌, ℕ, zero, suc, ◌+◌, ◌<◌, ◌≤◌, Bool, true, false, cond, List, [], ◌∷◌, ◌++◌, length, slice_get, Option, Some, None, refl, sym, ap, subst, ◌∙◌, arith}
+use Rattle.std.proofs.Common.{◌≡◌, ◌≢◌, ℕ, zero, suc, ◌+◌, ◌≤◌, Bool, true, false, cond, List, [], ◌∷◌, length, slice_get, Option, Some, None, refl, sym, ap, subst, ◌∙◌, arith}
 use denote.Param.Weighed.{most}
 use Rattle.hm_tree.specs.declared.archive.State.{State}
 use Rattle.hm_tree.specs.declared.archive.State.TheVariants.{Missing, Present, Marked}

@@ -1,18 +1,15 @@
 -- A tree's paths are in an archive where those of each child are.
-use Rattle.std.proofs.Common.{◌≡◌, ℕ, ◌+◌, Bool, true, false, cond, List, [], ◌∷◌, take, slice_get, Option, Some, None, add-one, refl, sym, ap, subst, ◌∙◌}
+use Rattle.std.proofs.Common.{◌≡◌, ℕ, ◌+◌, Bool, true, false, cond, [], ◌∷◌, take, slice_get, Option, Some, None, add-one, refl, sym, ap, subst, ◌∙◌}
 use Rattle.std.specs.List.{All}
-use Rattle.std.specs.FinMap.{find}
-use Rattle.std.specs.declared.cmp.Ordering.{Ordering}
-use Rattle.std.specs.declared.cmp.Ordering.TheVariants.{Less, Equal, Greater}
-use Rattle.std.proofs.lemmas.List.Elements.{All-head, All-tail, All-push}
+use Rattle.std.proofs.lemmas.List.Elements.{All-push}
 use Rattle.hm_tree.specs.declared.archive.State.TheVariants.{Missing, Present, Marked}
-use Rattle.hm_tree.specs.Names.{Name, name_cmp}
+use Rattle.hm_tree.specs.Names.{Name}
 use Rattle.hm_tree.specs.Nodes.{Tree, below, edges, is_marked}
 use Rattle.hm_tree.specs.NodeLaws.{marked_below}
 use Rattle.hm_tree.specs.Archives.{Archive, under}
 use Rattle.hm_tree.specs.States.{state, Path, IsWithin}
 use Rattle.hm_tree.proofs.States.{state_root, state_down}
-use Rattle.hm_tree.proofs.Sorted.{name_one, below_edge}
+use Rattle.hm_tree.proofs.Sorted.{below_edge}
 use Rattle.hm_tree.proofs.Steps.{found_edge}
 use Rattle.hm_tree.proofs.Kept.{take_more}
 

@@ -3,9 +3,8 @@ use Rattle.std.proofs.Common.{◌≡◌, ℕ, zero, suc, ◌+◌, ◌-◌, ◌<�
 use Rattle.std.specs.Ordering.{is_lt, is_eq, eq_by_cmp, ordering_index, ordering_reverse}
 use Rattle.std.specs.declared.cmp.Ordering.{Ordering}
 use Rattle.std.specs.declared.cmp.Ordering.TheVariants.{Less, Equal, Greater}
-use Rattle.std.specs.Cmp.{IsTotalOrder}
-use Rattle.std.proofs.lemmas.Cmp.{tied_itself, alike_right, nat_list_cmp_total}
-use Rattle.std.specs.FinMap.{is_sorted, find, put, slice_cmp-IsAntisymmetric, nat_cmp-IsAntisymmetric}
+use Rattle.std.proofs.lemmas.Cmp.{tied_itself, alike_right}
+use Rattle.std.specs.FinMap.{is_sorted, find, put}
 use Rattle.std.specs.FinMap.Entries.{find-put, is_sorted-put, is_sorted-where_key}
 use Rattle.std.specs.List.{insert, remove, filter}
 use Rattle.std.specs.List.Sorted.{IsSearchInRange, IsBinarySearchResult, IsNonDecreasingBy}
@@ -15,19 +14,11 @@ use Rattle.std.proofs.lemmas.List.{get_or_default}
 use Rattle.std.specs.Str.{is_utf8, IsUtf8}
 use Rattle.std.proofs.lemmas.Bool.{cases_lt, cond_both}
 use Rattle.hm_tree.specs.Names.{Name, name_cmp}
+pub use Rattle.hm_tree.specs.NameLaws.{name_total, name_one}
 use Rattle.hm_tree.specs.Nodes.{Node, node, edges, below, Tree, with_edge, without_edge, both, first, second, below_all, are_texts, are_edges, edges_rise, edges_texts, edges_from}
 use Rattle.hm_tree.specs.NodeLaws.{edges-node, edges_sorted, edges_are, node-edges, tree_unmarked}
 use Rattle.hm_tree.specs.Edges.{rank, IsPlaceOf, IsGapFor}
 use Rattle.hm_tree.proofs.Texts.{text_test}
-
-pub name_total : IsTotalOrder name_cmp
-unfolding name_cmp
-name_total = nat_list_cmp_total
-
--- names that tie are equal
-pub name_one : (a b : Name) → name_cmp a b ≡ Equal → a ≡ b
-unfolding name_cmp
-name_one = slice_cmp-IsAntisymmetric nat_cmp-IsAntisymmetric
 
 -- what a value of the type with these edges is seen as
 pub edges_seen : {m : Bool} (es : List (Name × Node m)) (t : Node m) → T (are_edges es) → node es ≡ t → edges t ≡ es

@@ -5,7 +5,7 @@ use denote.Param.Weighed.{most}
 use Rattle.std.specs.Coded.{Coded, coded_option}
 use Rattle.hm_tree.specs.declared.archive.State.{State}
 use Rattle.hm_tree.specs.declared.archive.State.TheVariants.{Missing, Present, Marked}
-use Rattle.hm_tree.specs.Names.{Name, name_cmp}
+use Rattle.hm_tree.specs.Names.{Name}
 use Rattle.hm_tree.specs.Nodes.{Shape, bare, mark, edge, leads, is_node, are_edges, Node, Tree, both, first, second, depth, edges_of, edges, is_marked, node, below, marked, with_edge, deepest}
 use Rattle.hm_tree.specs.NodeLaws.{same_node, node_code, depth-node, tree_unmarked}
 

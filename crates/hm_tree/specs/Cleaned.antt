@@ -1,5 +1,5 @@
 -- What is left of a text where line ends are LF and control characters of ASCII are dropped.
-use Rattle.std.specs.Prelude.{ℕ, Bool, true, false, cond, not, ◌&&◌, ◌||◌, List, [], ◌∷◌, map, filter}
+use Rattle.std.specs.Prelude.{ℕ, Bool, false, cond, not, ◌&&◌, ◌||◌, List, [], ◌∷◌, map, filter}
 use Rattle.std.specs.Bool.{◌==◌, nat_le}
 use Rattle.hm_tree.specs.Names.{Name}
 

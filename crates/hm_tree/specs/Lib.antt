@@ -1,4 +1,5 @@
 pub mod Names
+pub mod NameLaws
 pub mod Texts
 pub mod Sets
 pub mod Nodes

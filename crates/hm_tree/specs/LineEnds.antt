@@ -4,7 +4,7 @@ use Rattle.std.specs.Bool.{◌==◌}
 use Rattle.std.proofs.Common.{sym, ap, ◌∙◌}
 use Rattle.std.proofs.lemmas.Bool.{true≢false, eqb-true, and_parts, and_from, cond_both, cond-true, cond-false}
 use Rattle.hm_tree.specs.Names.{Name}
-use Rattle.hm_tree.specs.Cleaned.{begins_with_feed, pairs_made_feeds, returns_made_feeds, is_kept, cleaned}
+use Rattle.hm_tree.specs.Cleaned.{pairs_made_feeds, returns_made_feeds, is_kept, cleaned}
 
 abbrev pub line_end : Bool → ℕ → List ℕ
 line_end behind_return b = cond (b == 13) (10 ∷ []) (cond (behind_return && (b == 10)) [] (b ∷ []))

@@ -1,6 +1,11 @@
 //! Names, which are texts in the order of their UTF-8 bytes.
 ghost use Rattle.std.specs.Prelude.{◌≡◌, ◌↔◌, IsTrue, IfOk, IsUtf8, string_bytes};
+ghost use Rattle.std.specs.Prelude.{refl};
+ghost use Rattle.std.specs.Cmp.{partial_equiv_from_equiv, partial_order_from_total};
+ghost use Rattle.std.specs.Ordering.{eq_by_cmp, as_partial_cmp};
+ghost use Rattle.std.proofs.lemmas.Cmp.{eq_by_cmp_equiv};
 ghost use Rattle.hm_tree.specs.Names.{name_cmp};
+ghost use Rattle.hm_tree.specs.NameLaws.{name_total};
 ghost use Rattle.hm_tree.specs.Cleaned.{cleaned};
 ghost use Rattle.hm_tree.specs.Classes.{IsInClass};
 
@@ -126,5 +131,43 @@ impl Name {
         ensures { IsTrue result ↔ (self.now ≡ other.now) }
     {
         self.text.as_str() == other.text.as_str()
+    }
+}
+
+impl PartialEq for Name {
+    ghost eq = { eq_by_cmp name_cmp };
+
+    ghost laws = { partial_equiv_from_equiv (eq_by_cmp_equiv name_total) };
+
+    fn eq(&self, other: &Name) -> bool {
+        self.order(other).is_eq()
+    }
+}
+
+impl Eq for Name {
+    ghost laws = { eq_by_cmp_equiv name_total };
+}
+
+impl PartialOrd for Name {
+    ghost partial_cmp = { as_partial_cmp name_cmp };
+
+    ghost laws = { partial_order_from_total name_total };
+
+    fn partial_cmp(&self, other: &Name) -> Option<Ordering> {
+        Some(self.order(other))
+    }
+}
+
+impl Ord for Name {
+    ghost cmp = { name_cmp };
+
+    ghost total = { name_total };
+
+    ghost matches_partial_cmp = { λ x y. refl };
+
+    ghost matches_eq = { λ x y. refl };
+
+    fn cmp(&self, other: &Name) -> Ordering {
+        self.order(other)
     }
 }

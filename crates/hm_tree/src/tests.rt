@@ -3,6 +3,7 @@ use crate::{
     Archive, Class, Memory, Name, NameSet, Path, State, Tree, append_path, spell_name, unspell_name,
 };
 use std::alloc::Global;
+use std::collections::BTreeMap;
 use std::mem::size_of;
 use std::process::Abort;
 use std::test::Fail;
@@ -266,7 +267,7 @@ fn room_is_not_seen(rt: HostRuntime) -> Result<(), Fail> {
 }
 
 #[test]
-#[tactic(auto, using(crate::specs::NodeLaws::edges_sorted))]
+#[tactic(auto, using(crate::specs::NodeLaws::edges_are))]
 fn edges_taken_apart_and_put_together(rt: HostRuntime) -> Result<(), Fail> {
     let alloc = rt.alloc();
     let tree = edge_to(alloc, "a", edge_to(alloc, "b", Tree::empty(alloc))?)?;
@@ -339,5 +340,20 @@ fn edges_taken_out(rt: HostRuntime) -> Result<(), Fail> {
     assert!(rt; tree.without(&Name::from_text(alloc, "c")?).is_some());
     assert_eq!(rt; tree.count(), 0);
     assert_eq!(rt; tree.depth(), 0);
+    Ok(())
+}
+
+// Names are keys in the order of their bytes: \u{e9} is greater than z.
+#[test]
+fn names_as_keys(rt: HostRuntime) -> Result<(), Fail> {
+    let alloc = rt.alloc();
+    let mut counts = BTreeMap::new(alloc);
+    counts.insert(Name::from_text(alloc, "\u{e9}")?, 1u64)?;
+    counts.insert(Name::from_text(alloc, "z")?, 2u64)?;
+    counts.insert(Name::from_text(alloc, "\u{e9}")?, 3u64)?;
+    assert_eq!(rt; counts.len(), 2);
+    assert_eq!(rt; counts.get(&Name::from_text(alloc, "\u{e9}")?), Some(&3u64));
+    assert_eq!(rt; counts.get(&Name::from_text(alloc, "e")?), None);
+    assert_eq!(rt; counts.first_key_value().map(|first| *first.1), Some(2u64));
     Ok(())
 }
