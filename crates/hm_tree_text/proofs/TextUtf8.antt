@@ -1,5 +1,5 @@
 -- The text of a tree, and that of an archive, is UTF-8.
-use Rattle.std.proofs.Common.{◌≡◌, ℕ, Bool, true, false, T, List, [], ◌∷◌, ◌++◌, Some, None, refl}
+use Rattle.std.proofs.Common.{Bool, true, false, T, Some, None, refl}
 use Rattle.std.specs.Str.{IsUtf8}
 use Rattle.std.proofs.lemmas.Str.{IsUtf8-nil, IsUtf8-append}
 use Rattle.hm_tree.specs.Nodes.{Shape, bare, mark, edge, is_node, leads, first, second, Tree}

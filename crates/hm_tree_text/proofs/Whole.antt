@@ -230,7 +230,6 @@ any_marks bare = tt
 any_marks mark = tt
 any_marks (edge k c r) = (any_marks c, any_marks r)
 
-
 file_archive : (s : List ℕ) → (s ≡ [] → ⊥) → IsArchiveFile s → IsFile true s
 file_archive s some (None, is) = absurd (some is)
 file_archive s some (Some t, is) = record { node = t; marks = any_marks t.shape; is = is }
