@@ -1,7 +1,9 @@
 -- There is an outcome, whatever the archive and the two members are: what one side alone has is settled as a whole, what
 -- both have name by name, unless the names that come to stand there aren't permitted.
 use Rattle.std.proofs.Common.{◌≡◌, ◌≢◌, ◌⊎◌, ◌↔◌, inl, inr, ℕ, zero, suc, ◌<◌, List, [], ◌∷◌, ◌++◌, Option, Some, None, refl, sym, subst, ◌∙◌, arith}
-use Rattle.std.specs.List.{list_any}
+use Rattle.std.specs.List.{All, list_any}
+use Rattle.std.specs.Str.{IsUtf8}
+use Rattle.std.proofs.lemmas.List.Elements.{All-head, All-tail}
 use Rattle.std.proofs.lemmas.Option.{none-some, same_Some}
 use Rattle.hm_tree.specs.declared.archive.State.{State}
 use Rattle.hm_tree.specs.declared.archive.State.TheVariants.{Missing, Present, Marked}
@@ -29,7 +31,7 @@ use Rattle.hm_outcome.proofs.Best.{outcome_once}
 use Rattle.hm_outcome.proofs.Downward.{child}
 use Rattle.hm_outcome.proofs.Gathered.{nothing, IsGathered, gathered_none, gathered_next, member_at, carried_left, carried_right, gathered}
 use Rattle.hm_outcome.proofs.Marks.{is_marked_or_not}
-use Rattle.hm_outcome.proofs.NameLists.{IsListed, none_listed, one_more, name_list, listed_in_either}
+use Rattle.hm_outcome.proofs.NameLists.{IsListed, none_listed, one_more, name_list, listed_in_either, texts_of_both}
 use Rattle.hm_outcome.proofs.Search.{within_or_news, same_or_differ}
 use Rattle.hm_outcome.proofs.Settled.{equal_sides, stopped, taken_out, outcome_turned}
 
@@ -119,22 +121,22 @@ module _ (s : SchemaValue) (i : NodeId) (o : Archive) (a b : Tree) (settled_belo
     };
   }
 
-  put_new : (k : Name) (names : List Name) → ¬ (IsListed names k) → IsPut names → IsPut (k ∷ names)
-  put_new k names fresh put =
+  put_new : (k : Name) (names : List Name) → IsUtf8 k → ¬ (IsListed names k) → IsPut names → IsPut (k ∷ names)
+  put_new k names text fresh put =
       let under_it = settled_under k in
       record {
         archive = with_archive k under_it.here.archive put.archive;
         left = with_side k under_it.here.left put.left;
         right = with_side k under_it.here.right put.right;
-        gathered = gathered_next s i before (IsListed names) put.archive put.left put.right put.gathered k fresh under_it.here
+        gathered = gathered_next s i before (IsListed names) put.archive put.left put.right put.gathered k text fresh under_it.here
             (IsListed (k ∷ names)) (one_more k names) under_it.is;
       }
 
-  put_all : (names : List Name) → IsPut names
-  put_all [] = record { archive = Some empty; left = empty; right = empty; gathered = gathered_none s i before (IsListed []) none_listed }
-  put_all (k ∷ names) = elim (decided_true (list_any (tied k) names)) [
-    | inl listed ↦ put_again k names listed (put_all names)
-    | inr fresh ↦ put_new k names fresh (put_all names)
+  put_all : (names : List Name) → All IsUtf8 names → IsPut names
+  put_all [] texts = record { archive = Some empty; left = empty; right = empty; gathered = gathered_none s i before (IsListed []) none_listed }
+  put_all (k ∷ names) texts = elim (decided_true (list_any (tied k) names)) [
+    | inl listed ↦ put_again k names listed (put_all names (All-tail IsUtf8 k names texts))
+    | inr fresh ↦ put_new k names (All-head IsUtf8 k names texts) fresh (put_all names (All-tail IsUtf8 k names texts))
   ]
 
   -- ---- a node of both, whose archive isn't marked
@@ -191,7 +193,7 @@ module _ (s : SchemaValue) (i : NodeId) (o : Archive) (a b : Tree) (settled_belo
         }
 
     name_by_name : IsSettledNode s i before
-    name_by_name = whole (put_all names)
+    name_by_name = whole (put_all names (texts_of_both a b))
 
 -- ---- a node of both, by the depth of the left one
 
