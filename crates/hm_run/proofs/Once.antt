@@ -3,10 +3,8 @@ use Rattle.std.proofs.Common.{◌≡◌, ◌≢◌, ℕ, List, [], ◌∷◌, Op
 use Rattle.hm_tree.specs.Nodes.{Tree}
 use Rattle.hm_tree.specs.States.{Path, state}
 use Rattle.hm_tree.proofs.PathLaws.{first_once}
-use Rattle.hm_tree_text.specs.declared.fault.TextFault.{TextFault}
-use Rattle.hm_tree_text.specs.declared.fault.TextFault.TheVariants.{BadTree, TooDeep, Memory}
-use Rattle.hm_tree_text.specs.Faults.{TreeFaults, ArchiveFaults}
-use Rattle.hm_tree_text.proofs.Laws.{tree_once, archive_once, tree_text_reads, archive_text_reads, tree_fault_once, archive_fault_once}
+use Rattle.hm_tree_text.specs.Reads.{ReadsTree, ReadsArchive}
+use Rattle.hm_tree_text.proofs.Laws.{tree_reads_once, archive_reads_once}
 use Rattle.hm_schema.specs.Values.{SchemaValue}
 use Rattle.hm_schema.specs.Membership.{IsOutside}
 use Rattle.hm_schema_text.specs.SchemaFiles.{ReadsSchema}
@@ -25,31 +23,8 @@ use Rattle.hm_files.specs.declared.stop.Stop.TheVariants.{Refused}
 use Rattle.hm_files.specs.Steps.{FindsOne}
 use Rattle.hm_files.proofs.Steps.{sides_once, equals_once, then_once}
 use Rattle.hm_command.specs.Words.{FileNames}
-use Rattle.hm_run.specs.Reads.{ReadsTree, ReadsArchive, Told, ChecksText, ChecksMember, ReadsReplica, ReadsFour, ReadsAll, Trees, schema_stop, archive_stop, replica_stop}
+use Rattle.hm_run.specs.Reads.{Told, ChecksText, ChecksMember, ReadsReplica, ReadsFour, ReadsAll, Trees, schema_stop, archive_stop, replica_stop}
 use Rattle.hm_run.specs.Verdict.{Synced, Plans, PlansFrom, VerdictOf, Becomes, Reconciles}
-
--- ---- the readers' laws
-
--- a fault that is told is not want of memory
-tree_fault : (bytes : List ℕ) (f : TextFault) → ReadsTree bytes (Err f) → (f ≢ Memory) × TreeFaults bytes f
-tree_fault bytes (BadTree at) h = ((λ e. let no : ⊥ = cc in no), h)
-tree_fault bytes TooDeep h = ((λ e. let no : ⊥ = cc in no), h)
-tree_fault bytes Memory h = absurd h
-
-pub tree_reads_once : (bytes : List ℕ) → FindsOne (ReadsTree bytes)
-tree_reads_once bytes = sides_once (ReadsTree bytes) (λ t u. tree_once t u bytes)
-    (λ t f h k. (tree_fault bytes f k).0 (tree_text_reads t bytes h f (tree_fault bytes f k).1))
-    (λ f g h k. tree_fault_once bytes f g (tree_fault bytes f h).1 (tree_fault bytes g k).1 (tree_fault bytes f h).0 (tree_fault bytes g k).0)
-
-archive_fault : (bytes : List ℕ) (f : TextFault) → ReadsArchive bytes (Err f) → (f ≢ Memory) × ArchiveFaults bytes f
-archive_fault bytes (BadTree at) h = ((λ e. let no : ⊥ = cc in no), h)
-archive_fault bytes TooDeep h = ((λ e. let no : ⊥ = cc in no), h)
-archive_fault bytes Memory h = absurd h
-
-pub archive_reads_once : (bytes : List ℕ) → FindsOne (ReadsArchive bytes)
-archive_reads_once bytes = sides_once (ReadsArchive bytes) (λ o a. archive_once o a bytes)
-    (λ o f h k. (archive_fault bytes f k).0 (archive_text_reads o bytes h f (archive_fault bytes f k).1))
-    (λ f g h k. archive_fault_once bytes f g (archive_fault bytes f h).1 (archive_fault bytes g k).1 (archive_fault bytes f h).0 (archive_fault bytes g k).0)
 
 -- ---- what a reader finds, told as a refusal
 

@@ -19,23 +19,24 @@ use Rattle.hm_command.specs.declared.ending.Ending.{Ending}
 use Rattle.hm_command.specs.declared.ending.Output.{Output}
 use Rattle.hm_command.specs.Words.{FileNames, meaning}
 use Rattle.hm_command.specs.Lines.{put_status, work_status, status_of, refusal_status}
-use Rattle.hm_outcome.specs.Trios.{given, views, AreMembers}
+use Rattle.hm_safety.proofs.Shallow.{left_shallow, right_shallow, archive_shallow}
+use Rattle.hm_tree_text.proofs.TextUtf8.{tree_text_utf8, archive_text_utf8}
 use Rattle.hm_outcome.proofs.Apart.{marks_differ}
 use Rattle.hm_outcome.proofs.Best.{outcome_maximal, outcome_only}
 use Rattle.hm_report.proofs.Explained.{explained}
 use Rattle.hm_run.specs.Reads.{Trees}
-use Rattle.hm_run.specs.Verdict.{Becomes, IsReport, Plan, Plans, PlansFrom, VerdictOf, Verdict, conflicts_status, stop_state}
+use Rattle.hm_run.specs.Verdict.{Synced, AreRead, texts_of, Becomes, IsReport, Plan, Plans, PlansFrom, VerdictOf, Verdict, conflicts_status, stop_state}
 use Rattle.hm_run.specs.Work.{IsDone, IsRefused, Works}
 use Rattle.hm_run.specs.Endings.{Outside, HasPut, EndsAs, TellsConflicts, old_trio, new_trio, IsPlan, IsSynchronised, IsReported, IsComplete}
 use Rattle.hm_run.proofs.Once.{verdict_once}
-use Rattle.hm_run.proofs.Working.{of_schema}
+use Rattle.hm_run.proofs.Working.{IsOfSchema, of_schema, members_of}
 
 -- ---- what a plan begins with, and comes to
 
--- two members become the outcome
+-- what was read of the files, and what it becomes
 record IsFounded (plan : Plan) : Type 0 where
   outcome : Becomes plan.before plan.after
-  members : AreMembers plan.before.schema plan.before.schema.root (views (old_trio plan))
+  of_schema : IsOfSchema plan.before
 
 same_refusal : (p q : Refusal) → ◌≡◌ {A = Result Plan Refusal} (Err p) (Err q) → p ≡ q
 same_refusal p q e = cc
@@ -44,13 +45,12 @@ plan_is : (p q : Plan) → ◌≡◌ {A = Result Plan Refusal} (Ok p) (Ok q) →
 plan_is p q e = cc
 
 planned_founded : (files : FileNames) (before : Trees) (plan : Plan) (r : Result Plan Refusal)
-    → AreMembers before.schema before.schema.root (views (given before.archive before.left before.right))
-    → r ≡ Ok plan → Plans files before r → IsFounded plan
+    → IsOfSchema before → r ≡ Ok plan → Plans files before r → IsFounded plan
 unfolding Plans
 planned_founded files before plan _ of e (stops h) = absurd h
 planned_founded files before plan _ of e (goes_on h (stops k)) = absurd (let no : ⊥ = cc in no)
 planned_founded files before plan r of e (goes_on {x = after} h (goes_on k is)) =
-    subst IsFounded (plan_is (record { files = files; before = before; after = after }) plan (sym is ∙ e)) (record { outcome = h; members = of })
+    subst IsFounded (plan_is (record { files = files; before = before; after = after }) plan (sym is ∙ e)) (record { outcome = h; of_schema = of })
 
 founded : (c : Contents) (meant : Result FileNames Refusal) (plan : Plan) (r : Result Plan Refusal) → r ≡ Ok plan → VerdictOf c meant r → IsFounded plan
 unfolding VerdictOf PlansFrom
@@ -58,7 +58,7 @@ founded c meant plan _ e (stops h) = absurd (let no : ⊥ = cc in no)
 founded c meant plan _ e (goes_on h (stops k)) = absurd (let no : ⊥ = cc in no)
 founded c meant plan _ e (goes_on h (goes_on k (stops l))) = absurd (let no : ⊥ = cc in no)
 founded c meant plan r e (goes_on {x = files} h (goes_on {x = all} k (goes_on {x = before} l m))) =
-    planned_founded files before plan r (of_schema all before l).1 e m
+    planned_founded files before plan r (of_schema all before l) e m
 
 is_plan : (words : List Name) (c : Contents) (plan : Plan) → Verdict c words (Ok plan) → IsPlan words c plan
 is_plan words c plan h = record { planned = h; only = λ r k. verdict_once c (meaning words) r (Ok plan) k h }
@@ -104,6 +104,37 @@ low_status (Ok output) put.Failed s = absurd (omega arith)
 low_status (Ok output) put.Memory s = absurd (omega arith)
 low_status (Err stop) answer s = absurd (omega (arith, put_high stop answer))
 
+-- ---- the new files are read
+
+-- no text is deeper than the replicas were
+new_read : (before : Trees) (after : Synced) → IsOfSchema before → Becomes before after → AreRead (texts_of after) after
+new_read t u of becomes =
+    let safe = becomes.safe.safe in
+    let a = of.left.shallow in
+    let b = of.right.shallow in record {
+      archive = (
+        archive_text_utf8 u.archive,
+        record {
+          spelled = refl;
+          shallow = archive_shallow t.archive u.archive t.left t.right u.left u.right 1000 safe a b;
+        },
+      );
+      left = (
+        tree_text_utf8 u.left,
+        record {
+          spelled = refl;
+          shallow = left_shallow t.archive u.archive t.left t.right u.left u.right 1000 safe a b;
+        },
+      );
+      right = (
+        tree_text_utf8 u.right,
+        record {
+          spelled = refl;
+          shallow = right_shallow t.archive u.archive t.left t.right u.left u.right 1000 safe a b;
+        },
+      );
+    }
+
 -- ---- after 0 and 1
 
 status_told : (plan : Plan) (output : Output) → IsReport plan.before plan.after output → TellsConflicts plan output.status
@@ -114,10 +145,12 @@ done_synchronised : (words : List Name) (c : Contents) (output : Output) (left :
 done_synchronised words c output left h =
     let plan = h.state.plan in
     let s = plan.before.schema in
-    let outcome = (founded c (meaning words) plan (Ok plan) refl h.state.planned).outcome in record {
+    let begun = founded c (meaning words) plan (Ok plan) refl h.state.planned in
+    let outcome = begun.outcome in record {
       plan = plan;
       planned = is_plan words c plan h.state.planned;
       new = h.state.is;
+      read = new_read plan.before plan.after begun.of_schema outcome;
       safe = outcome.safe.safe;
       member_left = outcome.safe.members.left;
       member_right = outcome.safe.members.right;
@@ -140,7 +173,7 @@ done_reported words c w output left out h put =
       told = h.tells.tells.status;
       put = put ∙ ap (λ t. Some (w ++ t)) h.tells.tells.text;
       explained = explained s s.root (old_trio plan) (new_trio plan) h.tells.conflicts begun.outcome h.tells.remain;
-      apart = marks_differ s s.root (old_trio plan) (new_trio plan) begun.members begun.outcome;
+      apart = marks_differ s s.root (old_trio plan) (new_trio plan) (members_of plan.before begun.of_schema) begun.outcome;
     }
 
 -- ---- how a run ended, and what follows from it

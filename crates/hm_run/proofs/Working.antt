@@ -1,6 +1,6 @@
 -- The work as a whole, step behind step.
-use Rattle.std.proofs.Common.{◌≡◌, inr, ℕ, List, [], ◌∷◌, take, Option, Some, Result, Ok, Err, refl, sym, ap, subst, ◌∙◌}
-use Rattle.hm_tree.specs.Nodes.{Tree}
+use Rattle.std.proofs.Common.{◌≡◌, inr, ℕ, ◌≤◌, List, [], ◌∷◌, take, Option, Some, Result, Ok, Err, refl, sym, ap, subst, ◌∙◌}
+use Rattle.hm_tree.specs.Nodes.{Tree, depth}
 use Rattle.hm_tree.specs.States.{state}
 use Rattle.hm_schema.specs.Values.{SchemaValue}
 use Rattle.hm_schema.specs.Membership.{IsMember, HasNoTwins}
@@ -28,18 +28,24 @@ use Rattle.hm_run.specs.Work.{Synchronises, IsFault, IsStopState, IsDone, IsCutO
 
 -- ---- what is known of what was read
 
-abbrev IsOfSchema : Trees → Type 0
-IsOfSchema t = HasNoTwins t.schema × AreMembers t.schema t.schema.root (views (given t.archive t.left t.right))
+-- a member that isn't too deep
+pub record IsFit (s : SchemaValue) (t : Tree) : Type 0 where
+  pub member : IsMember s s.root (state (Some t))
+  pub shallow : depth t ≤ 1000
 
-checked : (s : SchemaValue) (at : Slot) (t u : Tree) → ChecksMember s at u (Ok t) → IsMember s s.root (state (Some t))
-checked s at t u h = subst (λ (z : Tree). IsMember s s.root (state (Some z))) (sym h.0) h.1
+pub record IsOfSchema (t : Trees) : Type 0 where
+  pub no_twins : HasNoTwins t.schema
+  pub left : IsFit t.schema t.left
+  pub right : IsFit t.schema t.right
 
-member_by : (s : SchemaValue) (at : Slot) (bytes : List ℕ) (t : Tree) (r : Result Tree Refusal)
-    → r ≡ Ok t → ReadsReplica s at bytes r → IsMember s s.root (state (Some t))
+checked : (s : SchemaValue) (at : Slot) (t u : Tree) → depth u ≤ 1000 → ChecksMember s at u (Ok t) → IsFit s t
+checked s at t u shallow h = subst (IsFit s) (sym h.0) (record { member = h.1; shallow = shallow })
+
+fit_by : (s : SchemaValue) (at : Slot) (bytes : List ℕ) (t : Tree) (r : Result Tree Refusal) → r ≡ Ok t → ReadsReplica s at bytes r → IsFit s t
 unfolding ReadsReplica
-member_by s at bytes t _ e (stops h) = absurd (let no : ⊥ = cc in no)
-member_by s at bytes t _ e (goes_on h (stops k)) = absurd (let no : ⊥ = cc in no)
-member_by s at bytes t r e (goes_on h (goes_on {x = u} k j)) = checked s at t u (subst (ChecksMember s at u) e j)
+fit_by s at bytes t _ e (stops h) = absurd (let no : ⊥ = cc in no)
+fit_by s at bytes t _ e (goes_on h (stops k)) = absurd (let no : ⊥ = cc in no)
+fit_by s at bytes t r e (goes_on h (goes_on {x = u} k j)) = checked s at t u k.shallow (subst (ChecksMember s at u) e j)
 
 trees_is : (t u : Trees) → ◌≡◌ {A = Result Trees Refusal} (Ok t) (Ok u) → t ≡ u
 trees_is t u e = cc
@@ -51,8 +57,11 @@ four_of_schema x y z w t _ e (goes_on h (stops k)) = absurd (let f : ⊥ = cc in
 four_of_schema x y z w t _ e (goes_on h (goes_on k (stops l))) = absurd (let f : ⊥ = cc in f)
 four_of_schema x y z w t _ e (goes_on h (goes_on k (goes_on l (stops m)))) = absurd (let f : ⊥ = cc in f)
 four_of_schema x y z w t r e (goes_on {x = s} h (goes_on {x = o} k (goes_on {x = a} l (goes_on {x = b} m is)))) =
-    subst IsOfSchema (trees_is (record { schema = s; archive = o; left = a; right = b }) t (sym is ∙ e))
-    (schema_no_twins x s h, record { left = member_by s ASlot z a (Ok a) refl l; right = member_by s BSlot w b (Ok b) refl m })
+    subst IsOfSchema (trees_is (record { schema = s; archive = o; left = a; right = b }) t (sym is ∙ e)) (record {
+      no_twins = schema_no_twins x s h;
+      left = fit_by s ASlot z a (Ok a) refl l;
+      right = fit_by s BSlot w b (Ok b) refl m;
+    })
 
 pub of_schema : (all : List (List ℕ)) (t : Trees) → ReadsAll all (Ok t) → IsOfSchema t
 of_schema (x ∷ y ∷ z ∷ w ∷ []) t h = four_of_schema x y z w t (Ok t) refl h
@@ -61,6 +70,9 @@ of_schema (x ∷ []) t h = absurd h
 of_schema (x ∷ y ∷ []) t h = absurd h
 of_schema (x ∷ y ∷ z ∷ []) t h = absurd h
 of_schema (x ∷ y ∷ z ∷ w ∷ v ∷ vs) t h = absurd h
+
+pub members_of : (t : Trees) → IsOfSchema t → AreMembers t.schema t.schema.root (views (given t.archive t.left t.right))
+members_of t of = record { left = of.left.member; right = of.right.member }
 
 -- ---- a plan
 

@@ -22,7 +22,7 @@ use Rattle.hm_command.specs.declared.ending.Output.{Output}
 use Rattle.hm_command.specs.declared.ending.Ending.{Ending}
 use Rattle.hm_command.specs.Words.{meaning}
 use Rattle.hm_command.specs.Lines.{output_of, refusal_status}
-use Rattle.hm_run.specs.Verdict.{Plan, Verdict, stop_state, HasConflicts, conflicts_status}
+use Rattle.hm_run.specs.Verdict.{Plan, Verdict, AreRead, texts_of, stop_state, HasConflicts, conflicts_status}
 use Rattle.hm_run.specs.Work.{Works}
 
 -- what is known of the store and the sink at one moment
@@ -69,12 +69,13 @@ pub record IsPlan (words : List Name) (c : Contents) (plan : Plan) : Type 0 wher
   pub planned : Verdict c words (Ok plan)
   pub only : (r : Result Plan Refusal) → Verdict c words r → r ≡ Ok plan
 
--- the store has the three new texts; what they hold is a safe result of what was read, both replicas are members, they
--- agree wherever those of any safe result do, and no other safe result agrees wherever they do
+-- the store has the three new texts, which are read as what they hold; that is a safe result of what was read, both
+-- replicas are members, they agree wherever those of any safe result do, and no other safe result agrees wherever they do
 pub record IsSynchronised (words : List Name) (c : Contents) (status : ℕ) (left : Option Contents) : Type 0 where
   pub plan : Plan
   pub planned : IsPlan words c plan
   pub new : left ≡ Some (stop_state c plan 3)
+  pub read : AreRead (texts_of plan.after) plan.after
   pub safe : IsSafe (views (old_trio plan)) (views (new_trio plan))
   pub member_left : IsMember plan.before.schema plan.before.schema.root (state (Some plan.after.left))
   pub member_right : IsMember plan.before.schema plan.before.schema.root (state (Some plan.after.right))

@@ -4,8 +4,7 @@ use Rattle.std.specs.Str.Lossy.{utf8_valid_len}
 use Rattle.hm_tree.specs.Nodes.{Tree}
 use Rattle.hm_tree.specs.Archives.{Archive}
 use Rattle.hm_tree.specs.States.{Path, state}
-use Rattle.hm_tree_text.specs.Files.{IsTreeText, IsArchiveText}
-use Rattle.hm_tree_text.specs.Faults.{TreeFaults, ArchiveFaults}
+use Rattle.hm_tree_text.specs.Reads.{ReadsTree, ReadsArchive}
 use Rattle.hm_tree_text.specs.declared.fault.TextFault.{TextFault}
 use Rattle.hm_tree_text.specs.declared.fault.TextFault.TheVariants as text
 use Rattle.hm_schema.specs.Values.{SchemaValue}
@@ -24,21 +23,7 @@ use Rattle.hm_files.specs.declared.stop.Stop.{Stop}
 use Rattle.hm_files.specs.declared.stop.Stop.TheVariants.{Refused, Memory}
 use Rattle.hm_files.specs.Steps.{Then}
 
--- ---- the readers
-
-abbrev pub ReadsTree : List ℕ → Result Tree TextFault → Type 0
-ReadsTree bytes (Ok t) = IsTreeText t bytes
-ReadsTree bytes (Err (text.BadTree at)) = TreeFaults bytes (text.BadTree at)
-ReadsTree bytes (Err text.TooDeep) = TreeFaults bytes text.TooDeep
-ReadsTree bytes (Err text.Memory) = ⊥
-
-abbrev pub ReadsArchive : List ℕ → Result Archive TextFault → Type 0
-ReadsArchive bytes (Ok o) = IsArchiveText o bytes
-ReadsArchive bytes (Err (text.BadTree at)) = ArchiveFaults bytes (text.BadTree at)
-ReadsArchive bytes (Err text.TooDeep) = ArchiveFaults bytes text.TooDeep
-ReadsArchive bytes (Err text.Memory) = ⊥
-
--- ---- their faults, as what stops a run
+-- ---- the faults of readers, as what stops a run
 
 abbrev pub schema_stop : SchemaFault → Stop
 schema_stop (schema.BadSchema line) = Refused (At slot.Schema (BadSchema line))

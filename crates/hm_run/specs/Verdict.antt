@@ -1,10 +1,12 @@
 -- What a run over these contents is to do: the first refusal in the order of the checks, or a plan.
-use Rattle.std.specs.Prelude.{◌≡◌, ℕ, zero, suc, List, [], ◌∷◌, length, take, Result, Ok, Err}
+use Rattle.std.specs.Prelude.{◌≡◌, ℕ, zero, suc, List, [], ◌∷◌, length, take, Result, Ok, Err, IsUtf8}
 use Rattle.hm_tree.specs.Names.{Name}
 use Rattle.hm_tree.specs.Nodes.{Tree}
 use Rattle.hm_tree.specs.Archives.{Archive}
 use Rattle.hm_tree.specs.States.{state}
 use Rattle.hm_tree_text.specs.Text.{tree_text, archive_text}
+use Rattle.hm_tree_text.specs.declared.fault.TextFault.{TextFault}
+use Rattle.hm_tree_text.specs.Reads.{ReadsTree, ReadsArchive}
 use Rattle.hm_outcome.specs.Trios.{given, views}
 use Rattle.hm_outcome.specs.Outcomes.{IsOutcome}
 use Rattle.hm_report.specs.declared.conflict.Conflict.{Conflict}
@@ -72,6 +74,16 @@ pub record Texts : Type 0 where
 
 abbrev pub texts_of : Synced → Texts
 texts_of t = record { archive = archive_text t.archive; left = tree_text t.left; right = tree_text t.right }
+
+-- bytes are UTF-8, and are read as this
+abbrev pub AreReadAs : {A : Type 0} → (List ℕ → Result A TextFault → Type 0) → List ℕ → A → Type 0
+AreReadAs reads bytes x = IsUtf8 bytes × reads bytes (Ok x)
+
+-- texts are read as what they are to hold
+pub record AreRead (texts : Texts) (held : Synced) : Type 0 where
+  pub archive : AreReadAs ReadsArchive texts.archive held.archive
+  pub left : AreReadAs ReadsTree texts.left held.left
+  pub right : AreReadAs ReadsTree texts.right held.right
 
 -- in the order in which they are measured and written
 abbrev pub news_of : FileNames → Texts → List New

@@ -1,10 +1,11 @@
 //! Reading the values that the four files hold.
 ghost use Rattle.std.specs.Prelude.{◌≡◌, length, map};
 ghost use Rattle.hm_schema.specs.Membership.{HasNoTwins};
+ghost use Rattle.hm_tree_text.specs.Reads.{ReadsTree, ReadsArchive};
 ghost use Rattle.hm_schema_text.specs.SchemaFiles.{ReadsSchema};
 ghost use Rattle.hm_files.specs.Did.{Computes, itself};
 ghost use Rattle.hm_files.specs.Files.{bytes_of};
-ghost use Rattle.hm_run.specs.Reads.{Told, ReadsTree, ReadsArchive, ChecksText, ChecksMember, ReadsReplica, ReadsFour, ReadsAll, schema_stop, archive_stop, replica_stop};
+ghost use Rattle.hm_run.specs.Reads.{Told, ChecksText, ChecksMember, ReadsReplica, ReadsFour, ReadsAll, schema_stop, archive_stop, replica_stop};
 ghost use Rattle.hm_run.specs.Making.{inputs_of};
 
 use hm_files::{ArchiveFault, FileFault, Refusal, ReplicaFault, Slot, Stop};

@@ -2,14 +2,14 @@ use Rattle.std.proofs.Common.{◌∙◌, ap, map, refl, rules}
 use Rattle.hm_files.specs.Files.{bytes_of, all_bytes}
 use Rattle.hm_command.specs.Files.{names}
 use Rattle.hm_run.specs.Verdict.{Texts, news_of}
-use Rattle.hm_run.proofs.Working.{of_schema, reads_stop, measures_stop, planned}
+use Rattle.hm_run.proofs.Working.{of_schema, members_of, reads_stop, measures_stop, planned}
 use Rattle.hm_run.proofs.make.plan.Goals as goal
 
 pub make-requires-clause-no_twins : goal.make-requires-clause-no_twins
-make-requires-clause-no_twins c = (of_schema _ _ c.in_ok-inputs.ensures.0).0
+make-requires-clause-no_twins c = (of_schema _ _ c.in_ok-inputs.ensures.0).no_twins
 
 pub make-requires-clause-members : goal.make-requires-clause-members
-make-requires-clause-members c = (of_schema _ _ c.in_ok-inputs.ensures.0).1
+make-requires-clause-members c = members_of _ (of_schema _ _ c.in_ok-inputs.ensures.0)
 
 pub returns-in_err-inputs : goal.returns-in_err-inputs
 returns-in_err-inputs c =
