@@ -25,12 +25,17 @@ at_path-append {m = m} (Some t) (k ∷ p) q = go (is_marked t) refl (at_path-app
     of_mark [] e = refl
     of_mark (j ∷ q) e = rw e refl
 
-    go : (b : Bool) → is_marked t ≡ b → at_path (below k t) (p ++ q) ≡ at_path (at_path (below k t) p) q → cond b (Some t) (at_path (below k t) (p ++ q)) ≡ at_path (cond b (Some t) (at_path (below k t) p)) q
+    go : (b : Bool) → is_marked t ≡ b → at_path (below k t) (p ++ q) ≡ at_path (at_path (below k t) p) q
+        → cond b (Some t) (at_path (below k t) (p ++ q)) ≡ at_path (cond b (Some t) (at_path (below k t) p)) q
     go true e rest = of_mark q e
     go false e rest = rest
 
 pub along-append : (p q : Path) (t : Trio) → along (p ++ q) t ≡ along q (along p t)
-along-append p q t = λ i. record { archive = at_path-append t.archive p q i; left = at_path-append t.left p q i; right = at_path-append t.right p q i }
+along-append p q t = λ i. record {
+  archive = at_path-append t.archive p q i;
+  left = at_path-append t.left p q i;
+  right = at_path-append t.right p q i;
+}
 
 -- ---- one side deleted it, and what the other has there
 
@@ -83,7 +88,8 @@ module _ (o : Archive) (mine other : Option Tree) (p : Path) where
     λ l. record { lost = lost_along.1 l.lost; first = (first_along names).1 l.first },
   )
 
-changed_along : (o : Archive) (a : Option Tree) (p : Path) → HasChanged (state o) (state a) p ↔ HasChanged (state (at_path o p)) (state (at_path a p)) []
+changed_along : (o : Archive) (a : Option Tree) (p : Path)
+    → HasChanged (state o) (state a) p ↔ HasChanged (state (at_path o p)) (state (at_path a p)) []
 changed_along o a p = (
   λ changed agree. changed (subst (λ (x : State × State). Agree x.0 x.1) (λ i. (sym (state_here o p) i, sym (state_here a p) i)) agree),
   λ changed agree. changed (subst (λ (x : State × State). Agree x.0 x.1) (λ i. (state_here o p i, state_here a p i)) agree),
@@ -91,23 +97,30 @@ changed_along o a p = (
 
 -- ---- carried
 
-pub carried_along : (o : Archive) (mine other : Option Tree) (p : Path) → IsCarried (state o) (state mine) (state other) p ↔ IsCarried (state (at_path o p)) (state (at_path mine p)) (state (at_path other p)) []
+pub carried_along : (o : Archive) (mine other : Option Tree) (p : Path)
+    → IsCarried (state o) (state mine) (state other) p ↔ IsCarried (state (at_path o p)) (state (at_path mine p)) (state (at_path other p)) []
 carried_along o mine other p = (to, from)
   where
     to : IsCarried (state o) (state mine) (state other) p → IsCarried (state (at_path o p)) (state (at_path mine p)) (state (at_path other p)) []
     to (on_both h g) = on_both (sym (state_here mine p) ∙ h) (sym (state_here other p) ∙ g)
     to (clashing l) = clashing ((lost_along o mine other p).0 l)
-    to (kept h l n c) = kept (sym (state_here mine p) ∙ h) (sym (state_here other p) ∙ l) (λ x. n ((lost_along o mine other p).1 x)) ((changed_along o mine p).0 c)
-    to (brought l h n c) = brought (sym (state_here mine p) ∙ l) (sym (state_here other p) ∙ h) (λ x. n ((lost_along o other mine p).1 x)) ((changed_along o other p).0 c)
+    to (kept h l n c) = kept (sym (state_here mine p) ∙ h) (sym (state_here other p) ∙ l) (λ x. n ((lost_along o mine other p).1 x))
+        ((changed_along o mine p).0 c)
+    to (brought l h n c) = brought (sym (state_here mine p) ∙ l) (sym (state_here other p) ∙ h) (λ x. n ((lost_along o other mine p).1 x))
+        ((changed_along o other p).0 c)
 
     from : IsCarried (state (at_path o p)) (state (at_path mine p)) (state (at_path other p)) [] → IsCarried (state o) (state mine) (state other) p
     from (on_both h g) = on_both (state_here mine p ∙ h) (state_here other p ∙ g)
     from (clashing l) = clashing ((lost_along o mine other p).1 l)
-    from (kept h l n c) = kept (state_here mine p ∙ h) (state_here other p ∙ l) (λ x. n ((lost_along o mine other p).0 x)) ((changed_along o mine p).1 c)
-    from (brought l h n c) = brought (state_here mine p ∙ l) (state_here other p ∙ h) (λ x. n ((lost_along o other mine p).0 x)) ((changed_along o other p).1 c)
+    from (kept h l n c) = kept (state_here mine p ∙ h) (state_here other p ∙ l) (λ x. n ((lost_along o mine other p).0 x))
+        ((changed_along o mine p).1 c)
+    from (brought l h n c) = brought (state_here mine p ∙ l) (state_here other p ∙ h) (λ x. n ((lost_along o other mine p).0 x))
+        ((changed_along o other p).1 c)
 
 -- a name is carried at a path
-pub name_carried : (o : Archive) (mine other : Option Tree) (p : Path) (k : Name) → IsCarried (state o) (state mine) (state other) (p ++ k ∷ []) ↔ IsCarried (state (at_path (at_path o p) (k ∷ []))) (state (at_path (at_path mine p) (k ∷ []))) (state (at_path (at_path other p) (k ∷ []))) []
+pub name_carried : (o : Archive) (mine other : Option Tree) (p : Path) (k : Name)
+    → IsCarried (state o) (state mine) (state other) (p ++ k ∷ [])
+    ↔ IsCarried (state (at_path (at_path o p) (k ∷ []))) (state (at_path (at_path mine p) (k ∷ []))) (state (at_path (at_path other p) (k ∷ []))) []
 name_carried o mine other p k =
     subst (λ (t : Trio). IsCarried (state o) (state mine) (state other) (p ++ k ∷ []) ↔ IsCarried (state t.archive) (state t.left) (state t.right) [])
     (along-append p (k ∷ []) (record { archive = o; left = mine; right = other })) (carried_along o mine other (p ++ k ∷ []))
@@ -116,6 +129,10 @@ name_carried o mine other p k =
 
 pub differ_along : (t : Trio) (p : Path) → Differ (views t) p ↔ Differ (views (along p t)) []
 differ_along t p = (
-  λ d. (d.0, λ agree. d.1 (subst (λ (x : State × State). Agree x.0 x.1) (λ i. (sym (state_at t.left p d.0) i, sym (state_at t.right p d.0) i)) agree)),
+  λ d. (
+    d.0,
+    λ agree. d.1 (subst (λ (x : State × State). Agree x.0 x.1) (λ i. (sym (state_at t.left p d.0) i, sym (state_at t.right p d.0) i))
+        agree),
+  ),
   λ d. (d.0, λ agree. d.1 (subst (λ (x : State × State). Agree x.0 x.1) (λ i. (state_at t.left p d.0 i, state_at t.right p d.0 i)) agree)),
 )

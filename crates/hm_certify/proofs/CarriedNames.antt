@@ -42,15 +42,22 @@ module _ (o : Archive) (mine other : Option Tree) where
     apart : IsWithin (Some t) o → Carried → ⊥
     apart within (on_both h g) = has_and_lacks g (lacks_none f)
     apart within (clashing l) = l.news.2 (within l.news.0 (ap (λ (x : Option Tree). state x l.news.0) (sym e) ∙ l.news.1))
-    apart within (kept h l n c) = c (agree_of (within [] (state_root t) ∙ sym h) (λ m. (let no : Present ≡ _ = sym (within [] (state_root t)) ∙ m in (let f : ⊥ = cc in f))))
+    apart within (kept h l n c) =
+        c (agree_of (within [] (state_root t) ∙ sym h) (λ m. (let no : Present ≡ _ = sym (within [] (state_root t)) ∙ m in (let f : ⊥ = cc in f))))
     apart within (brought l h n c) = has_and_lacks (has_some e) l
 
     found : (IsWithin (Some t) o → ⊥) → Carried
     found n = elim (missing_or_there o) [
-      | inl none ↦ (let gone = ap (λ (x : Archive). state x []) none in kept (has_some e) (lacks_none f) (λ l. l.known gone) (λ a. has_and_lacks (has_some e) (sym (agree_same a) ∙ gone)))
+      | inl none ↦ (let gone = ap (λ (x : Archive). state x []) none in
+          kept (has_some e) (lacks_none f) (λ l. l.known gone) (λ a. has_and_lacks (has_some e) (sym (agree_same a) ∙ gone)))
       | inr known ↦ elim (within_or_news t o) [
         | inl within ↦ absurd (n within)
-        | inr news ↦ clashing (record { has = has_some e; lacks = lacks_none f; known = known; news = (news.0, ap (λ (x : Option Tree). state x news.0) e ∙ news.1, news.2) })
+        | inr news ↦ clashing (record {
+          has = has_some e;
+          lacks = lacks_none f;
+          known = known;
+          news = (news.0, ap (λ (x : Option Tree). state x news.0) e ∙ news.1, news.2);
+        })
       ]
     ]
 
@@ -67,14 +74,21 @@ module _ (o : Archive) (mine other : Option Tree) where
     unknown (brought l h n c) = elim (missing_or_there o) [
       | inl none ↦ none
       | inr known ↦ elim (within_or_news t o) [
-        | inl within ↦ absurd (c (agree_of (within [] (state_root t) ∙ sym h) (λ m. state_unmarked other [] (h ∙ sym (within [] (state_root t)) ∙ m))))
-        | inr news ↦ absurd (n (record { has = h; lacks = l; known = known; news = (news.0, ap (λ (x : Option Tree). state x news.0) f ∙ news.1, news.2) }))
+        | inl within ↦ absurd (c (agree_of (within [] (state_root t) ∙ sym h)
+            (λ m. state_unmarked other [] (h ∙ sym (within [] (state_root t)) ∙ m))))
+        | inr news ↦ absurd (n (record {
+          has = h;
+          lacks = l;
+          known = known;
+          news = (news.0, ap (λ (x : Option Tree). state x news.0) f ∙ news.1, news.2);
+        }))
       ]
     ]
 
     pub carried_other : (b : Bool) → IsTrue b ↔ (o ≡ None) → IsTrue b ↔ Carried
     carried_other b h = (
-      λ true_is. (let gone = ap (λ (x : Archive). state x []) (h.0 true_is) in brought (lacks_none e) (has_some f) (λ l. l.known gone) (λ a. has_and_lacks (has_some f) (sym (agree_same a) ∙ gone))),
+      λ true_is. (let gone = ap (λ (x : Archive). state x []) (h.0 true_is) in
+          brought (lacks_none e) (has_some f) (λ l. l.known gone) (λ a. has_and_lacks (has_some f) (sym (agree_same a) ∙ gone))),
       λ c. h.1 (unknown c),
     )
 
@@ -86,24 +100,32 @@ same_answers true false h = is_not (λ e. false≢true (h.1 (e.0 refl)))
 same_answers false true h = is_not (λ e. false≢true (e.1 (h.0 refl)))
 same_answers false false h = is_so ((λ e. absurd (false≢true e)), h.1)
 
-pub judged : (o : Archive) (mine other : Tree) (names : Names) (k : Name) (a b : Bool) (c : Archive) (l r : Option Tree) → a ≡ contains names k → c ≡ at_path o (k ∷ []) → l ≡ below k mine → r ≡ below k other → IsTrue b ↔ IsCarried (state c) (state l) (state r) [] → IsTrue (beq a b) ↔ IsJudged o mine other names k
+pub judged : (o : Archive) (mine other : Tree) (names : Names) (k : Name) (a b : Bool) (c : Archive) (l r : Option Tree) → a ≡ contains names k
+    → c ≡ at_path o (k ∷ []) → l ≡ below k mine → r ≡ below k other → IsTrue b ↔ IsCarried (state c) (state l) (state r) []
+    → IsTrue (beq a b) ↔ IsJudged o mine other names k
 judged o mine other names k a b c l r e f g h carried =
-    subst (λ (x : Bool). IsTrue (beq a b) ↔ (IsTrue x ↔ IsCarried (state o) (state (Some mine)) (state (Some other)) (k ∷ []))) e (same_answers a b (as_well lower ((λ x. along.1 x), (λ x. along.0 x))))
+    subst (λ (x : Bool). IsTrue (beq a b) ↔ (IsTrue x ↔ IsCarried (state o) (state (Some mine)) (state (Some other)) (k ∷ []))) e
+    (same_answers a b (as_well lower ((λ x. along.1 x), (λ x. along.0 x))))
   where
-    along : IsCarried (state o) (state (Some mine)) (state (Some other)) (k ∷ []) ↔ IsCarried (state (at_path o (k ∷ []))) (state (at_path (Some mine) (k ∷ []))) (state (at_path (Some other) (k ∷ []))) []
+    along : IsCarried (state o) (state (Some mine)) (state (Some other)) (k ∷ [])
+        ↔ IsCarried (state (at_path o (k ∷ []))) (state (at_path (Some mine) (k ∷ []))) (state (at_path (Some other) (k ∷ []))) []
     along = carried_along o (Some mine) (Some other) (k ∷ [])
 
     lower : IsTrue b ↔ IsCarried (state (at_path o (k ∷ []))) (state (at_path (Some mine) (k ∷ []))) (state (at_path (Some other) (k ∷ []))) []
-    lower = subst (λ (t : Trio). IsTrue b ↔ IsCarried (state t.archive) (state t.left) (state t.right) []) (λ i. record { archive = f i; left = (g ∙ sym (tree_step mine k)) i; right = (h ∙ sym (tree_step other k)) i }) carried
+    lower = subst (λ (t : Trio). IsTrue b ↔ IsCarried (state t.archive) (state t.left) (state t.right) [])
+        (λ i. record { archive = f i; left = (g ∙ sym (tree_step mine k)) i; right = (h ∙ sym (tree_step other k)) i }) carried
 
 -- ---- all names
 
 module _ (o : Archive) (mine other : Tree) (names : Names) where
-  among : (list : List Name) → AllJudged o mine other names list → (k : Name) → list_any (eq_by_cmp name_cmp k) list ≡ true → IsJudged o mine other names k
+  among : (list : List Name) → AllJudged o mine other names list → (k : Name) → list_any (eq_by_cmp name_cmp k) list ≡ true
+      → IsJudged o mine other names k
   among [] all k e = absurd (true≢false (sym e))
-  among (x ∷ list) all k e = by (or_cases (eq_by_cmp name_cmp k x) (list_any (eq_by_cmp name_cmp k) list) e) (λ later. among list (All-tail (IsJudged o mine other names) x list all) k later)
+  among (x ∷ list) all k e = by (or_cases (eq_by_cmp name_cmp k x) (list_any (eq_by_cmp name_cmp k) list) e)
+      (λ later. among list (All-tail (IsJudged o mine other names) x list all) k later)
     where
-      by : (eq_by_cmp name_cmp k x ≡ true) ⊎ (list_any (eq_by_cmp name_cmp k) list ≡ true) → (list_any (eq_by_cmp name_cmp k) list ≡ true → IsJudged o mine other names k) → IsJudged o mine other names k
+      by : (eq_by_cmp name_cmp k x ≡ true) ⊎ (list_any (eq_by_cmp name_cmp k) list ≡ true)
+          → (list_any (eq_by_cmp name_cmp k) list ≡ true → IsJudged o mine other names k) → IsJudged o mine other names k
       by (inl tie) rest = subst (IsJudged o mine other names) (sym (tie_one k x tie)) (All-head (IsJudged o mine other names) x list all)
       by (inr later) rest = rest later
 
@@ -113,7 +135,8 @@ module _ (o : Archive) (mine other : Tree) (names : Names) where
   nowhere k e f (kept h l n c) = has_and_lacks h (state_down mine k [] ∙ lacks_none e)
   nowhere k e f (brought l h n c) = has_and_lacks h (state_down other k [] ∙ lacks_none f)
 
-  pub all_names : (list : List Name) → from_list list ≡ names → EachJudged o mine other names mine → EachJudged o mine other names other → AllJudged o mine other names list → AreCarried (state o) (state (Some mine)) (state (Some other)) [] names
+  pub all_names : (list : List Name) → from_list list ≡ names → EachJudged o mine other names mine → EachJudged o mine other names other
+      → AllJudged o mine other names list → AreCarried (state o) (state (Some mine)) (state (Some other)) [] names
   all_names list is each_mine each_other all k = go (below k mine) (below k other) refl refl
     where
       go : (a b : Option Tree) → below k mine ≡ a → below k other ≡ b → IsJudged o mine other names k
@@ -125,5 +148,8 @@ module _ (o : Archive) (mine other : Tree) (names : Names) where
           in_set true there = among list all k (sym (contains-from_list name_total list k) ∙ ap (λ (n : Names). contains n k) is ∙ there)
           in_set false apart = ((λ there. absurd (false≢true (sym apart ∙ there))), (λ c. absurd (nowhere k e f c)))
 
-  pub names_listed : (list : List Name) (b : Bool) → from_list list ≡ names → EachJudged o mine other names mine → EachJudged o mine other names other → IsTrue b ↔ AllJudged o mine other names list → IsTrue b ↔ AreCarried (state o) (state (Some mine)) (state (Some other)) [] names
-  names_listed list b is each_mine each_other h = (λ true_is. all_names list is each_mine each_other (h.0 true_is), λ carried. h.1 (λ i d lt. carried _))
+  pub names_listed : (list : List Name) (b : Bool) → from_list list ≡ names → EachJudged o mine other names mine
+      → EachJudged o mine other names other → IsTrue b ↔ AllJudged o mine other names list
+      → IsTrue b ↔ AreCarried (state o) (state (Some mine)) (state (Some other)) [] names
+  names_listed list b is each_mine each_other h =
+      (λ true_is. all_names list is each_mine each_other (h.0 true_is), λ carried. h.1 (λ i d lt. carried _))

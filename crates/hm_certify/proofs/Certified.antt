@@ -26,11 +26,21 @@ shown_contested s i v p w (reasons.lost h (inr f)) = lost h (inr f.lost)
 shown_contested s i v p w (reasons.refused r) = refused r
 
 -- the conflict that stands at a path
-conflict_at : (cs : List Conflict) (p : Path) → Contains (paths_of cs) p → (k : ℕ) × (k < length cs) × ((c : Conflict) × (get_or cs k c ≡ c) × (c.path ≡ p))
+conflict_at : (cs : List Conflict) (p : Path) → Contains (paths_of cs) p
+    → (k : ℕ) × (k < length cs) × ((c : Conflict) × (get_or cs k c ≡ c) × (c.path ≡ p))
 conflict_at cs p at =
     let long = length-map cs (λ (x : Conflict). x.path) in
     elim ((slice_get_cases cs at.0).1) [
-      | inl there ↦ (at.0, there.1, (there.0, there.3, ap (λ (x : Conflict). x.path) (sym there.3) ∙ sym (get_or-map (λ (x : Conflict). x.path) cs at.0 there.0 p there.1) ∙ at.2))
+      | inl there ↦ (
+        at.0,
+        there.1,
+        (
+          there.0,
+          there.3,
+          ap (λ (x : Conflict). x.path) (sym there.3)
+              ∙ sym (get_or-map (λ (x : Conflict). x.path) cs at.0 there.0 p there.1) ∙ at.2,
+        ),
+      )
       | inr past ↦ (let lt = at.1 in let l = past.0 in absurd (omega arith))
     ]
 

@@ -26,7 +26,8 @@ AscendUpTo cs n = (k : ℕ) → k + 1 < n → path_cmp (get_or (paths_of cs) k [
 
 module _ (cs : List Conflict) (at : ℕ) (c d : Conflict) (start : 1 ≤ at) (within : at < length cs) where
   pair : path_cmp (get_or (paths_of cs) (at - 1) []) (get_or (paths_of cs) at []) ≡ path_cmp (get_or cs (at - 1) c).path (get_or cs at d).path
-  pair = λ i. path_cmp (get_or-map (λ (x : Conflict). x.path) cs (at - 1) c [] (omega arith) i) (get_or-map (λ (x : Conflict). x.path) cs at d [] within i)
+  pair = λ i. path_cmp (get_or-map (λ (x : Conflict). x.path) cs (at - 1) c [] (omega arith) i)
+      (get_or-map (λ (x : Conflict). x.path) cs at d [] within i)
 
   pub ascend_more : AscendUpTo cs at → path_cmp (get_or cs (at - 1) c).path (get_or cs at d).path ≡ Less → AscendUpTo cs (at + 1)
   ascend_more all less k lt = elim (cases_lt (k + 1) at) [
@@ -49,7 +50,8 @@ ascend_all cs n end all =
 
 -- ---- what holds of each
 
-pub one_more_holds : (P : Conflict → Type 0) (cs : List Conflict) (i : ℕ) (c : Conflict) → i < length cs → c ≡ get_or cs i c → All P (take i cs) → P c → All P (take (i + 1) cs)
+pub one_more_holds : (P : Conflict → Type 0) (cs : List Conflict) (i : ℕ) (c : Conflict) → i < length cs → c ≡ get_or cs i c → All P (take i cs)
+    → P c → All P (take (i + 1) cs)
 one_more_holds P cs i c lt e all here = All-more P cs i c lt all (subst P e here)
 
 pub all_hold : (P : Conflict → Type 0) (cs : List Conflict) (i : ℕ) → length cs ≤ i → All P (take i cs) → All P cs
@@ -63,9 +65,11 @@ module _ (o : Archive) (cs : List Conflict) where
       let long = length-map cs (λ (x : Conflict). x.path) in
       subst (IsTopmostMark (state o)) (get_or-map (λ (x : Conflict). x.path) cs k d [] lt) (all_marks o (paths_of cs) h k [] (omega arith))
 
-  pub marks_number : (b : Bool) → IsStrictlySortedBy path_cmp (paths_of cs) → All (λ (c : Conflict). IsTopmostMark (state o) c.path) cs → IsTrue b ↔ (length cs ≡ length (topmost_list o)) → IsTrue b ↔ AreTopmostMarks (state o) (paths_of cs)
+  pub marks_number : (b : Bool) → IsStrictlySortedBy path_cmp (paths_of cs) → All (λ (c : Conflict). IsTopmostMark (state o) c.path) cs
+      → IsTrue b ↔ (length cs ≡ length (topmost_list o)) → IsTrue b ↔ AreTopmostMarks (state o) (paths_of cs)
   marks_number b ascending all h =
       let long = length-map cs (λ (x : Conflict). x.path) in (
-        λ true_is. (let e = h.0 true_is in counted_list o (paths_of cs) ascending (All-map (IsTopmostMark (state o)) (λ (x : Conflict). x.path) cs all) (omega arith)),
+        λ true_is. (let e = h.0 true_is in counted_list o (paths_of cs) ascending
+            (All-map (IsTopmostMark (state o)) (λ (x : Conflict). x.path) cs all) (omega arith)),
         λ m. (let e = listed_count o (paths_of cs) m in h.1 (omega arith)),
       )

@@ -42,7 +42,10 @@ module _ (o : Archive) (t : Tree) (k : Name) (q : Path) (present : state o [] �
   news_before f j c is less r has = elim (is_present (state (under j o) r)) [
     | inl there ↦ there
     | inr n ↦ (
-        let news : NewsOf o t (j ∷ r) = record { has = state_down t j r ∙ ap (λ (x : Option Tree). state x r) is ∙ has; news = λ e. n (sym (down j r) ∙ e) } in
+        let news : NewsOf o t (j ∷ r) = record {
+          has = state_down t j r ∙ ap (λ (x : Option Tree). state x r) is ∙ has;
+          news = λ e. n (sym (down j r) ∙ e);
+        } in
         absurd (f.none_before (j ∷ r) news (ap (λ x. ordering_then x (path_cmp r q)) less)))
   ]
 
@@ -87,6 +90,9 @@ module _ (o : Archive) (t : Tree) (names : Path) (here : Archive) (side : Tree) 
 
       pub on_down : IsWithinBefore side here k → (c : Tree) (d : Archive) → below k side ≡ Some c → d ≡ under k here → NewsOn o t names d c (i + 1)
       on_down before c d is under_is = (
-        λ f. subst (λ (x : Archive). IsFirst (NewsOf x c) (drop (i + 1) names)) (sym under_is) ((news_step here side k (drop (i + 1) names) present c is before).0 (next f)),
-        λ f. on.1 (subst (IsFirst (NewsOf here side)) (sym (front_is names i k within at)) ((news_step here side k (drop (i + 1) names) present c is before).1 (subst (λ (x : Archive). IsFirst (NewsOf x c) (drop (i + 1) names)) under_is f))),
+        λ f. subst (λ (x : Archive). IsFirst (NewsOf x c) (drop (i + 1) names)) (sym under_is)
+            ((news_step here side k (drop (i + 1) names) present c is before).0 (next f)),
+        λ f. on.1 (subst (IsFirst (NewsOf here side)) (sym (front_is names i k within at))
+            ((news_step here side k (drop (i + 1) names) present c is before).1
+            (subst (λ (x : Archive). IsFirst (NewsOf x c) (drop (i + 1) names)) under_is f))),
       )

@@ -13,7 +13,8 @@ use Rattle.hm_tree.proofs.Paths.{front_is}
 
 mark_under : (o : Archive) (k : Name) (p : Path) → state o [] ≢ Marked → IsTopmostMark (state o) (k ∷ p) ↔ IsTopmostMark (state (under k o)) p
 mark_under o k p n = (
-  λ m. subst (λ (v : View). IsTopmostMark v p) same (record { marked = m.marked; topmost = (none_above_below (λ q. state o q ≡ Marked) k p n).0 m.topmost }),
+  λ m. subst (λ (v : View). IsTopmostMark v p) same
+      (record { marked = m.marked; topmost = (none_above_below (λ q. state o q ≡ Marked) k p n).0 m.topmost }),
   λ m. below_root (state o) k p n (subst (λ (v : View). IsTopmostMark v p) (sym same) m),
 )
   where
@@ -41,5 +42,6 @@ module _ (o here : Archive) (p : Path) (i : ℕ) (on : FoundOn o here p i) where
     pub on_down : state here [] ≢ Marked → (child : Archive) → child ≡ under k here → FoundOn o child p (i + 1)
     on_down n child is = (
       λ m. subst (λ (c : Archive). IsTopmostMark (state c) (drop (i + 1) p)) (sym is) ((mark_under here k (drop (i + 1) p) n).0 (here_is (on.0 m))),
-      λ m. on.1 (subst (IsTopmostMark (state here)) (sym (front_is p i k within at)) ((mark_under here k (drop (i + 1) p) n).1 (subst (λ (c : Archive). IsTopmostMark (state c) (drop (i + 1) p)) is m))),
+      λ m. on.1 (subst (IsTopmostMark (state here)) (sym (front_is p i k within at))
+          ((mark_under here k (drop (i + 1) p) n).1 (subst (λ (c : Archive). IsTopmostMark (state c) (drop (i + 1) p)) is m))),
     )

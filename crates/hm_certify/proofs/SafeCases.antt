@@ -55,7 +55,8 @@ module _ (before : Trio) (left right : Option Tree) where
       nowhere : (c : Option Tree) → c ≡ None → (p : Path) → Missing ≡ state c p
       nowhere c none p = sym (ap (λ (x : Option Tree). state x p) none)
 
-      kept : (a c : Option Tree) → c ≡ None → IsWithin a before.archive → (p : Path) → HasChanged (state before.archive) (state a) p → state c p ≡ state a p
+      kept : (a c : Option Tree) → c ≡ None → IsWithin a before.archive → (p : Path) → HasChanged (state before.archive) (state a) p
+          → state c p ≡ state a p
       kept a c none within p changed = elim (has_or_lacks a p) [
         | inl has ↦ absurd (changed (agree_of (within p has ∙ sym has) (λ m. (let f : Present ≡ Marked = sym (within p has) ∙ m in cc))))
         | inr lacks ↦ sym (nowhere c none p) ∙ sym lacks
@@ -119,7 +120,8 @@ module _ (before after : Trio) (marked : state after.archive [] ≡ Marked) wher
       here_right : (p : Path) → state after.right p ≡ state before.right p
       here_right p = ap (λ (x : Option Tree). state x p) s.right_stays
 
-      only_root : (p : Path) → IsTopmostMark (state after.archive) p → (Has (state before.left) p × Has (state before.right) p) ⊎ Clash (views before) p
+      only_root : (p : Path) → IsTopmostMark (state after.archive) p
+          → (Has (state before.left) p × Has (state before.right) p) ⊎ Clash (views before) p
       only_root [] top = s.stops
       only_root (k ∷ p) top = absurd (top.topmost [] (k ∷ p) refl (λ e. (let f : ⊥ = cc in f)) marked)
 
@@ -148,8 +150,10 @@ module _ (before after : Trio) (present : state after.archive [] ≡ Present) wh
 
   lower : (k : Name) → IsSafe (views (step k before)) (views (step k after)) ↔ IsSafe (views_below k (views before)) (views_below k (views after))
   lower k = (
-    λ h. subst (λ (v : Views). IsSafe v (views_below k (views after))) (views_step k before) (subst (λ (w : Views). IsSafe (views (step k before)) w) (views_step k after) h),
-    λ h. subst (λ (v : Views). IsSafe v (views (step k after))) (sym (views_step k before)) (subst (λ (w : Views). IsSafe (views_below k (views before)) w) (sym (views_step k after)) h),
+    λ h. subst (λ (v : Views). IsSafe v (views_below k (views after))) (views_step k before)
+        (subst (λ (w : Views). IsSafe (views (step k before)) w) (views_step k after) h),
+    λ h. subst (λ (v : Views). IsSafe v (views (step k after))) (sym (views_step k before))
+        (subst (λ (w : Views). IsSafe (views_below k (views before)) w) (sym (views_step k after)) h),
   )
 
   may_stand : IsSafeHere (views before) (views after) → MayStand before
@@ -158,10 +162,14 @@ module _ (before after : Trio) (present : state after.archive [] ≡ Present) wh
       | inl other ↦ inl (has, other)
       | inr lacks ↦ inr (unknown before.right after.right h.keeps_right lacks (sym h.agrees.1 ∙ present), inl has)
     ]
-    | inr lacks ↦ inr (unknown before.left after.left h.keeps_left lacks (sym h.agrees.0 ∙ present), inr (sym (h.left_from_right (λ e. has_and_lacks (sym h.agrees.0 ∙ present) (e ∙ lacks))) ∙ sym h.agrees.0 ∙ present))
+    | inr lacks ↦ inr (
+      unknown before.left after.left h.keeps_left lacks (sym h.agrees.0 ∙ present),
+      inr (sym (h.left_from_right (λ e. has_and_lacks (sym h.agrees.0 ∙ present) (e ∙ lacks))) ∙ sym h.agrees.0 ∙ present),
+    )
   ]
     where
-      unknown : (a c : Option Tree) → (HasChanged (state before.archive) (state a) [] → state c [] ≡ state a []) → Lacks (state a) [] → Has (state c) [] → before.archive ≡ None
+      unknown : (a c : Option Tree) → (HasChanged (state before.archive) (state a) [] → state c [] ≡ state a []) → Lacks (state a) []
+          → Has (state c) [] → before.archive ≡ None
       unknown a c keeps lacks has = elim (agrees (state before.archive []) (state a [])) [
         | inl e ↦ none_of (agree_same e ∙ lacks)
         | inr changed ↦ absurd (has_and_lacks has (keeps changed ∙ lacks))
@@ -189,14 +197,17 @@ module _ (before after : Trio) (present : state after.archive [] ≡ Present) wh
       swapped (inr (c, inl a)) = inr (c, inr a)
       swapped (inr (c, inr b)) = inr (c, inl b)
 
-      stays : (a c : Option Tree) → Has (state c) [] → HasChanged (state before.archive) (state a) [] → Has (state a) [] ⊎ before.archive ≡ None → state c [] ≡ state a []
+      stays : (a c : Option Tree) → Has (state c) [] → HasChanged (state before.archive) (state a) [] → Has (state a) [] ⊎ before.archive ≡ None
+          → state c [] ≡ state a []
       stays a c has changed (inl there) = has ∙ sym there
       stays a c has changed (inr unknown) = elim (has_or_lacks a []) [
         | inl there ↦ has ∙ sym there
-        | inr lacks ↦ (let missing : state before.archive [] ≡ Missing = ap (λ (x : Archive). state x []) unknown in absurd (changed (agree_of (missing ∙ sym lacks) (missing_only missing))))
+        | inr lacks ↦ (let missing : state before.archive [] ≡ Missing = ap (λ (x : Archive). state x []) unknown in
+            absurd (changed (agree_of (missing ∙ sym lacks) (missing_only missing))))
       ]
 
-      brought : (a b c : Option Tree) → Has (state c) [] → state c [] ≢ state a [] → (Has (state a) [] × Has (state b) []) ⊎ (before.archive ≡ None × (Has (state a) [] ⊎ Has (state b) [])) → state c [] ≡ state b []
+      brought : (a b c : Option Tree) → Has (state c) [] → state c [] ≢ state a []
+          → (Has (state a) [] × Has (state b) []) ⊎ (before.archive ≡ None × (Has (state a) [] ⊎ Has (state b) [])) → state c [] ≡ state b []
       brought a b c has n (inl both) = has ∙ sym both.1
       brought a b c has n (inr (_, inl there)) = absurd (n (has ∙ sym there))
       brought a b c has n (inr (_, inr there)) = has ∙ sym there

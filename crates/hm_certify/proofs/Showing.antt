@@ -32,7 +32,8 @@ use Rattle.hm_certify.proofs.Verdicts.{is_so, is_not, as_well}
 use Rattle.hm_certify.proofs.Along.{loses_along, name_carried, carried_along, differ_along}
 
 -- what Archive::at found
-pub at_found : (r : Option (Bor Archive)) (x : Archive) → MatchOption r (x ≡ None) (λ found. (found.now ≡ x) × IsTrue (is_some found.now)) → archive_or_none (option_copied r) ≡ x
+pub at_found : (r : Option (Bor Archive)) (x : Archive) → MatchOption r (x ≡ None) (λ found. (found.now ≡ x) × IsTrue (is_some found.now))
+    → archive_or_none (option_copied r) ≡ x
 at_found None x e = sym e
 at_found (Some c) x e = e.0
 
@@ -57,7 +58,8 @@ still_differ t false marked h = is_so (marked, elim (differs t.left t.right) [ i
 -- ---- behind a path
 
 pub loses_behind : (t : Trio) (p q rest : Path) (b : Bool) → q ≡ p ++ rest → IsTrue b ↔ LosesHere t rest → IsTrue b ↔ LosesBehind t p q
-loses_behind t p q rest b is h = (λ true_is. (rest, is, h.0 true_is), λ l. h.1 (subst (LosesHere t) (append_cancel_left p l.0 rest (sym l.1 ∙ is)) l.2))
+loses_behind t p q rest b is h =
+    (λ true_is. (rest, is, h.0 true_is), λ l. h.1 (subst (LosesHere t) (append_cancel_left p l.0 rest (sym l.1 ∙ is)) l.2))
 
 module _ (s : SchemaValue) (i : NodeId) (t : Trio) (p : Path) where
   abbrev v : Views
@@ -84,12 +86,20 @@ module _ (s : SchemaValue) (i : NodeId) (t : Trio) (p : Path) where
       from (lost present (inl f)) = (
         f.first.below,
         f.first.is,
-        (sym (state_here t.archive p) ∙ present, inl ((loses_along t.archive t.left t.right p f.first.below).0 (subst (λ (x : Path). LosesFirst v.archive v.left v.right p x) f.first.is f))),
+        (
+          sym (state_here t.archive p) ∙ present,
+          inl ((loses_along t.archive t.left t.right p f.first.below).0
+              (subst (λ (x : Path). LosesFirst v.archive v.left v.right p x) f.first.is f)),
+        ),
       )
       from (lost present (inr f)) = (
         f.first.below,
         f.first.is,
-        (sym (state_here t.archive p) ∙ present, inr ((loses_along t.archive t.right t.left p f.first.below).0 (subst (λ (x : Path). LosesFirst v.archive v.right v.left p x) f.first.is f))),
+        (
+          sym (state_here t.archive p) ∙ present,
+          inr ((loses_along t.archive t.right t.left p f.first.below).0
+              (subst (λ (x : Path). LosesFirst v.archive v.right v.left p x) f.first.is f)),
+        ),
       )
 
   names_shown : (left right : Names) → AreRefused s i v p left right ↔ ShowsWhy s i v p (why.Names left right)
@@ -101,10 +111,12 @@ module _ (s : SchemaValue) (i : NodeId) (t : Trio) (p : Path) where
   -- what the test of each reason finds
   module _ (b : Bool) (y : Why) where
     pub shows_earlier : y ≡ why.Earlier → (x : Trio) → x ≡ along p t → IsTrue b ↔ IsEarlierHere x → IsTrue b ↔ ShowsWhy s i v p y
-    shows_earlier e x is h = subst (λ (z : Why). IsTrue b ↔ ShowsWhy s i v p z) (sym e) (as_well (subst (λ (z : Trio). IsTrue b ↔ IsEarlierHere z) is h) earlier_shown)
+    shows_earlier e x is h = subst (λ (z : Why). IsTrue b ↔ ShowsWhy s i v p z) (sym e)
+        (as_well (subst (λ (z : Trio). IsTrue b ↔ IsEarlierHere z) is h) earlier_shown)
 
     pub shows_lost : (q : Path) → y ≡ why.Lost q → (x : Trio) → x ≡ along p t → IsTrue b ↔ LosesBehind x p q → IsTrue b ↔ ShowsWhy s i v p y
-    shows_lost q e x is h = subst (λ (z : Why). IsTrue b ↔ ShowsWhy s i v p z) (sym e) (as_well (subst (λ (z : Trio). IsTrue b ↔ LosesBehind z p q) is h) (lost_shown q))
+    shows_lost q e x is h = subst (λ (z : Why). IsTrue b ↔ ShowsWhy s i v p z) (sym e)
+        (as_well (subst (λ (z : Trio). IsTrue b ↔ LosesBehind z p q) is h) (lost_shown q))
 
     pub shows_names : (left right : Names) → y ≡ why.Names left right → IsTrue b ↔ AreRefused s i v p left right → IsTrue b ↔ ShowsWhy s i v p y
     shows_names left right e h = subst (λ (z : Why). IsTrue b ↔ ShowsWhy s i v p z) (sym e) (as_well h (names_shown left right))
@@ -135,24 +147,28 @@ module _ (s : SchemaValue) (i : NodeId) (p : Path) where
       refuses names n permitted = n (record { node = node_there.0; is = node_there.1; permitted = permitted })
 
       pub left_not_permitted : a ≡ false → IsTrue true ↔ AreNotPermitted s i p left right
-      left_not_permitted e = is_so (record { node = node_there.0; is = node_is ∙ node_there.1; refused = inl (refuses left (λ at. false≢true (sym e ∙ left_permitted.1 at))) })
+      left_not_permitted e = is_so
+          (record { node = node_there.0; is = node_is ∙ node_there.1; refused = inl (refuses left (λ at. false≢true (sym e ∙ left_permitted.1 at))) })
 
       pub right_decides : (b : Bool) → a ≡ true → IsTrue b ↔ PermitsAt s id right → IsTrue (not b) ↔ AreNotPermitted s i p left right
       right_decides true e h = is_not (λ r. elim r.refused [
         | inl n ↦ n (permitted_at r.node left r.is (left_permitted.0 e))
         | inr n ↦ n (permitted_at r.node right r.is (h.0 refl))
       ])
-      right_decides false e h = is_so (record { node = node_there.0; is = node_is ∙ node_there.1; refused = inr (refuses right (λ at. false≢true (h.1 at))) })
+      right_decides false e h =
+          is_so (record { node = node_there.0; is = node_is ∙ node_there.1; refused = inr (refuses right (λ at. false≢true (h.1 at))) })
 
 module _ (s : SchemaValue) (i : NodeId) (o : Archive) (left right : Tree) (p : Path) (on_left on_right : Names) where
   abbrev Refused : Type 0
   Refused = AreRefused s i (views (given o left right)) p on_left on_right
 
   -- the names that are carried at a path are those at the root of what stands there
-  carried_there : (mine other : Option Tree) (names : Names) → AreCarried (state o) (state mine) (state other) p names ↔ AreCarried (state (at_path o p)) (state (at_path mine p)) (state (at_path other p)) [] names
+  carried_there : (mine other : Option Tree) (names : Names) → AreCarried (state o) (state mine) (state other) p names
+      ↔ AreCarried (state (at_path o p)) (state (at_path mine p)) (state (at_path other p)) [] names
   carried_there mine other names = (λ c k. chained (c k) (same k), λ c k. chained (c k) ((same k).1, (same k).0))
     where
-      same : (k : Name) → IsCarried (state o) (state mine) (state other) (p ++ k ∷ []) ↔ IsCarried (state (at_path o p)) (state (at_path mine p)) (state (at_path other p)) (k ∷ [])
+      same : (k : Name) → IsCarried (state o) (state mine) (state other) (p ++ k ∷ [])
+          ↔ IsCarried (state (at_path o p)) (state (at_path mine p)) (state (at_path other p)) (k ∷ [])
       same k =
           let below = carried_along (at_path o p) (at_path mine p) (at_path other p) (k ∷ []) in
           chained (name_carried o mine other p k) (below.1, below.0)
@@ -176,11 +192,13 @@ module _ (s : SchemaValue) (i : NodeId) (o : Archive) (left right : Tree) (p : P
 
       left_there : AreCarried (state o) (state (Some left)) (state (Some right)) p on_left ↔ OnLeft
       left_there = chained (carried_there (Some left) (Some right) on_left)
-          (subst (λ (t : Trio). AreCarried (state t.archive) (state t.left) (state t.right) [] on_left ↔ OnLeft) (λ j. record { archive = known_is j; left = sym mine_is j; right = sym other_is j }) (λ x. x, λ x. x))
+          (subst (λ (t : Trio). AreCarried (state t.archive) (state t.left) (state t.right) [] on_left ↔ OnLeft)
+          (λ j. record { archive = known_is j; left = sym mine_is j; right = sym other_is j }) (λ x. x, λ x. x))
 
       right_there : AreCarried (state o) (state (Some right)) (state (Some left)) p on_right ↔ OnRight
       right_there = chained (carried_there (Some right) (Some left) on_right)
-          (subst (λ (t : Trio). AreCarried (state t.archive) (state t.right) (state t.left) [] on_right ↔ OnRight) (λ j. record { archive = known_is j; left = sym mine_is j; right = sym other_is j }) (λ x. x, λ x. x))
+          (subst (λ (t : Trio). AreCarried (state t.archive) (state t.right) (state t.left) [] on_right ↔ OnRight)
+          (λ j. record { archive = known_is j; left = sym mine_is j; right = sym other_is j }) (λ x. x, λ x. x))
 
       pub not_on_left : (OnLeft → ⊥) → IsTrue false ↔ Refused
       not_on_left n = is_not (λ r. n (left_there.0 r.are_left))
@@ -194,7 +212,8 @@ module _ (s : SchemaValue) (i : NodeId) (o : Archive) (left right : Tree) (p : P
       has_right : Has (state (Some right)) p
       has_right = state_here (Some right) p ∙ ap (λ (x : Option Tree). state x []) other_is ∙ state_root other
 
-      pub names_decide : (b : Bool) → (state known [] ≡ Marked → ⊥) → OnLeft → OnRight → IsTrue b ↔ AreNotPermitted s i p on_left on_right → IsTrue b ↔ Refused
+      pub names_decide : (b : Bool) → (state known [] ≡ Marked → ⊥) → OnLeft → OnRight → IsTrue b ↔ AreNotPermitted s i p on_left on_right
+          → IsTrue b ↔ Refused
       names_decide b unmarked l r h = (
         λ true_is. (let n = h.0 true_is in record {
           has_left = has_left;

@@ -14,6 +14,7 @@ pub tree_child : (t : Tree) (k : Name) (c : Option Tree) → c ≡ below k t →
 tree_child t k c e = e ∙ sym (tree_step t k)
 
 -- what Archive::child found
-pub child_found : (r : Option (Bor Archive)) (x : Archive) → MatchOption r (x ≡ None) (λ c. (c.now ≡ x) × IsTrue (is_some c.now)) → archive_or_none (option_copied r) ≡ x
+pub child_found : (r : Option (Bor Archive)) (x : Archive) → MatchOption r (x ≡ None) (λ c. (c.now ≡ x) × IsTrue (is_some c.now))
+    → archive_or_none (option_copied r) ≡ x
 child_found None x e = sym e
 child_found (Some c) x e = e.0

@@ -15,4 +15,5 @@ IsWithinBefore t o k = (j : Name) (c : Tree) → below j t ≡ Some c → name_c
 
 -- the archive has the root, one side deleted it, and names lead to the other's first news
 abbrev pub LosesHere : Trio → Path → Type 0
-LosesHere t names = (state t.archive [] ≡ Present) × (LosesFirst (state t.archive) (state t.left) (state t.right) [] names ⊎ LosesFirst (state t.archive) (state t.right) (state t.left) [] names)
+LosesHere t names = (state t.archive [] ≡ Present)
+    × (LosesFirst (state t.archive) (state t.left) (state t.right) [] names ⊎ LosesFirst (state t.archive) (state t.right) (state t.left) [] names)

@@ -24,7 +24,8 @@ pub record IsStop (before : Trio) (left right : Option Tree) : Type 0 where
 
 -- present: both sides were there, or one of them alone, unknown to the archive
 abbrev pub MayStand : Trio → Type 0
-MayStand before = (Has (state before.left) [] × Has (state before.right) []) ⊎ ((before.archive ≡ None) × (Has (state before.left) [] ⊎ Has (state before.right) []))
+MayStand before = (Has (state before.left) [] × Has (state before.right) [])
+    ⊎ ((before.archive ≡ None) × (Has (state before.left) [] ⊎ Has (state before.right) []))
 
 -- what stood under a name that the new archive lacks is gone
 abbrev pub GoesUnder : Trio → Archive → Tree → Tree → Name → Type 0

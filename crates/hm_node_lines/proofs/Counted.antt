@@ -29,14 +29,21 @@ one_counted : (p : EntryValue → Bool) (es : List EntryValue) → (count_by p e
 one_counted p es some = let c = counted p es 0 (omega arith) in (c.entry, from_place es c.entry (c.place, c.is), c.counted)
 
 pub has_shape : (es : List EntryValue) → (HasShape es → count_by is_shape es ≡ 0 → ⊥) × ((count_by is_shape es ≡ 0 → ⊥) → HasShape es)
-has_shape es = ((λ h none. none_counted is_shape es none (says (shape h.0)) h.1 refl), (λ some. let f = one_counted is_shape es some in told f.0 f.1 f.2))
+has_shape es = (
+  (λ h none. none_counted is_shape es none (says (shape h.0)) h.1 refl),
+  (λ some. let f = one_counted is_shape es some in told f.0 f.1 f.2),
+)
   where
     told : (e : EntryValue) → Contains es e → is_shape e ≡ true → HasShape es
     told (says (shape s)) there is = (s, there)
     told e there is = let f : ⊥ = cc in absurd f
 
-pub has_others : (es : List EntryValue) → (SpeaksOfOthers es → count_by speaks_of_others es ≡ 0 → ⊥) × ((count_by speaks_of_others es ≡ 0 → ⊥) → SpeaksOfOthers es)
-has_others es = ((λ h none. none_counted speaks_of_others es none (says (other h.0 h.1)) h.2 refl), (λ some. let f = one_counted speaks_of_others es some in told f.0 f.1 f.2))
+pub has_others : (es : List EntryValue) → (SpeaksOfOthers es → count_by speaks_of_others es ≡ 0 → ⊥)
+    × ((count_by speaks_of_others es ≡ 0 → ⊥) → SpeaksOfOthers es)
+has_others es = (
+  (λ h none. none_counted speaks_of_others es none (says (other h.0 h.1)) h.2 refl),
+  (λ some. let f = one_counted speaks_of_others es some in told f.0 f.1 f.2),
+)
   where
     told : (e : EntryValue) → Contains es e → speaks_of_others e ≡ true → SpeaksOfOthers es
     told (says (other c w)) there is = (c, w, there)
@@ -48,10 +55,13 @@ as_byte : (b : Bool) → cond b 1 0 ≡ from_bool b
 as_byte true = refl
 as_byte false = refl
 
-count_more : (p : EntryValue → Bool) (before : List EntryValue) (e : EntryValue) (n : ℕ) → n ≡ count_by p before → n + from_bool (p e) ≡ count_by p (before ++ e ∷ [])
-count_more p before e n told = ap (λ m. m + from_bool (p e)) told ∙ ap (λ m. count_by p before + m) (sym (as_byte (p e))) ∙ sym (sum_by_push (λ x. cond (p x) 1 0) before e)
+count_more : (p : EntryValue → Bool) (before : List EntryValue) (e : EntryValue) (n : ℕ) → n ≡ count_by p before
+    → n + from_bool (p e) ≡ count_by p (before ++ e ∷ [])
+count_more p before e n told = ap (λ m. m + from_bool (p e)) told ∙ ap (λ m. count_by p before + m) (sym (as_byte (p e)))
+    ∙ sym (sum_by_push (λ x. cond (p x) 1 0) before e)
 
-listed_more : (before : List EntryValue) (e : EntryValue) (n : ℕ) → n ≡ length (edge_names before) → n + from_bool (is_some (listed_name e)) ≡ length (edge_names (before ++ e ∷ []))
+listed_more : (before : List EntryValue) (e : EntryValue) (n : ℕ) → n ≡ length (edge_names before)
+    → n + from_bool (is_some (listed_name e)) ≡ length (edge_names (before ++ e ∷ []))
 listed_more before e n told =
     ap (λ m. m + from_bool (is_some (listed_name e))) told
     ∙ ap (λ m. length (edge_names before) + m) (as_byte (listed_name e))

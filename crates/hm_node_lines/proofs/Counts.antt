@@ -26,7 +26,8 @@ no_number text bytes h is n d =
     let r : fault ≡ Ok n = parse-decimal {E = Unit {0}} 64 n text (Err tt) d.fits d.fits (is ∙ d.text) h in
     let f : ⊥ = cc in f
 
-pub no_spelling : (text bytes spelled : List ℕ) (m : ℕ) → ParsesUnsigned {E = Unit {0}} 64 10 text (Ok m) → text ≡ bytes → spelled ≡ decimal m → pointwise eqb spelled text ≡ false → (n : ℕ) → ¬ (IsDecimal bytes n)
+pub no_spelling : (text bytes spelled : List ℕ) (m : ℕ) → ParsesUnsigned {E = Unit {0}} 64 10 text (Ok m) → text ≡ bytes → spelled ≡ decimal m
+    → pointwise eqb spelled text ≡ false → (n : ℕ) → ¬ (IsDecimal bytes n)
 no_spelling text bytes spelled m h is s fails n d =
     let read : Result ℕ (Unit {0}) = Ok m in
     let r : read ≡ Ok n = parse-decimal {E = Unit {0}} 64 n text (Ok m) d.fits d.fits (is ∙ d.text) h in
@@ -53,8 +54,10 @@ drop_front a b n e = grind (arith, common_steps)
 module _ (word : List ℕ) (n : ℕ) (is : n ≡ prefix_len is_digit word) where
   digits_are : (c : Count) → (k : IsCount word c) → n ≡ length k.front
   digits_are c k =
-      let all : list_all is_digit k.front ≡ true = subst (λ (z : List ℕ). list_all is_digit z ≡ true) (sym k.least.text) (digits_decimal own c.least k.least.fits) in
-      is ∙ ap (prefix_len is_digit) k.is ∙ run_is is_digit k.front (46 ∷ 46 ∷ k.rest) all (λ d more e. let byte : 46 ≡ d = cc in ap is_digit (sym byte))
+      let all : list_all is_digit k.front ≡ true = subst (λ (z : List ℕ). list_all is_digit z ≡ true) (sym k.least.text)
+      (digits_decimal own c.least k.least.fits) in
+      is ∙ ap (prefix_len is_digit) k.is ∙ run_is is_digit k.front (46 ∷ 46 ∷ k.rest) all
+      (λ d more e. let byte : 46 ≡ d = cc in ap is_digit (sym byte))
 
   pub within : n ≤ length word
   within = let w = prefix_len-le-length is_digit word in omega arith
@@ -71,6 +74,7 @@ module _ (word : List ℕ) (n : ℕ) (is : n ≡ prefix_len is_digit word) where
   pub no_least : (front : List ℕ) → front ≡ take n word → ((m : ℕ) → ¬ (IsDecimal front m)) → (c : Count) → ¬ (IsCount word c)
   no_least front f none c k = none c.least (subst (λ (z : List ℕ). IsDecimal z c.least) (sym (front_is c k) ∙ sym f) k.least)
 
-  pub no_most : (behind rest : List ℕ) → behind ≡ drop n word → rest ≡ drop 2 behind → ((m : Option ℕ) → ¬ (IsMost rest m)) → (c : Count) → ¬ (IsCount word c)
+  pub no_most : (behind rest : List ℕ) → behind ≡ drop n word → rest ≡ drop 2 behind → ((m : Option ℕ) → ¬ (IsMost rest m)) → (c : Count)
+      → ¬ (IsCount word c)
   no_most behind rest b r none c k =
       none c.most (subst (λ (z : List ℕ). IsMost z c.most) (ap (drop 2) (sym (behind_is c k) ∙ sym b) ∙ sym r) k.most)

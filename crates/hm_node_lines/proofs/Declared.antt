@@ -30,7 +30,8 @@ pub record IsCounted (p : EntryValue → Bool) (es : List EntryValue) (n : ℕ) 
   pub counted : p entry ≡ true
   pub before : count_by p (take place es) ≡ n
 
-pub count_cons : (p : EntryValue → Bool) (e : EntryValue) (es : List EntryValue) (b : Bool) → p e ≡ b → count_by p (e ∷ es) ≡ cond b 1 0 + count_by p es
+pub count_cons : (p : EntryValue → Bool) (e : EntryValue) (es : List EntryValue) (b : Bool) → p e ≡ b
+    → count_by p (e ∷ es) ≡ cond b 1 0 + count_by p es
 count_cons p e es b h = sum_by-cons (λ x. cond (p x) 1 0) e es ∙ ap (λ (z : Bool). cond z 1 0 + count_by p es) h
 
 -- each number below the count is that of a line
@@ -56,7 +57,8 @@ counted p (e ∷ es) n h = go (λ m. counted p es m) (p e) refl n h
     go more false is n h = let c = count_cons p e es false is in further false n n is (omega arith) (more n (omega arith))
 
 -- more are counted before a later line, and in all
-pub more_before : (p : EntryValue → Bool) (es : List EntryValue) (i j : ℕ) (e : EntryValue) → slice_get es i ≡ Some e → p e ≡ true → i < j → count_by p (take i es) < count_by p (take j es)
+pub more_before : (p : EntryValue → Bool) (es : List EntryValue) (i j : ℕ) (e : EntryValue) → slice_get es i ≡ Some e → p e ≡ true → i < j
+    → count_by p (take i es) < count_by p (take j es)
 more_before p [] i j e is told h = let f : ⊥ = cc in absurd f
 more_before p (d ∷ es) i zero e is told h = absurd (omega arith)
 more_before p (d ∷ es) zero (suc j) e is told h =
@@ -69,8 +71,10 @@ more_before p (d ∷ es) (suc i) (suc j) e is told h =
     let there = count_cons p d (take j es) (p d) refl in
     omega arith
 
-pub counted_below : (p : EntryValue → Bool) (es : List EntryValue) (i : ℕ) (e : EntryValue) → slice_get es i ≡ Some e → p e ≡ true → count_by p (take i es) < count_by p es
-counted_below p es i e is told = subst (λ z. count_by p (take i es) < count_by p z) (take_all (length es) es (omega arith)) (more_before p es i (length es) e is told (slice_get_within es i e is))
+pub counted_below : (p : EntryValue → Bool) (es : List EntryValue) (i : ℕ) (e : EntryValue) → slice_get es i ≡ Some e → p e ≡ true
+    → count_by p (take i es) < count_by p es
+counted_below p es i e is told = subst (λ z. count_by p (take i es) < count_by p z) (take_all (length es) es (omega arith))
+    (more_before p es i (length es) e is told (slice_get_within es i e is))
 
 -- ---- the place of a node
 
@@ -103,7 +107,8 @@ same_option (Some x) b f g = sym (f x refl)
 module _ (es lines : List EntryValue) (n m : NodeValue) (h : IsNodeOf es lines n) (k : IsNodeOf es lines m) where
   same_children : n.children ≡ m.children
   same_children = same_entries name_cmp name_total name_one n.children m.children h.ascending k.ascending
-      (λ q. same_option (find name_cmp q n.children) (find name_cmp q m.children) (λ id f. (k.children q id).1 ((h.children q id).0 f)) (λ id f. (h.children q id).1 ((k.children q id).0 f)))
+      (λ q. same_option (find name_cmp q n.children) (find name_cmp q m.children) (λ id f. (k.children q id).1 ((h.children q id).0 f))
+      (λ id f. (h.children q id).1 ((k.children q id).0 f)))
 
   same_other : n.other ≡ m.other
   same_other = same_option n.other m.other (λ o f. (k.other o.0 o.1).1 ((h.other o.0 o.1).0 f)) (λ o f. (h.other o.0 o.1).1 ((k.other o.0 o.1).0 f))
@@ -157,7 +162,8 @@ pub node_line : (es : List EntryValue) (i : ℕ) (e : EntryValue) → slice_get 
 node_line es i (says (node w)) is told = (w, is)
 node_line es i e is told = let f : ⊥ = cc in absurd f
 
-pub one_of : (es : List EntryValue) (own : List Name) (ns : List NodeValue) → AreNodesOf es own ns → (p : ℕ) (n : NodeValue) → slice_get ns p ≡ Some n → IsOneOf es own p n
+pub one_of : (es : List EntryValue) (own : List Name) (ns : List NodeValue) → AreNodesOf es own ns → (p : ℕ) (n : NodeValue)
+    → slice_get ns p ≡ Some n → IsOneOf es own p n
 one_of es own ns h p n is = go (names_empty_or es own) (nat_cases p (count_by begins_node es))
   where
     line : p < count_by begins_node es → IsOneOf es own p n
@@ -210,7 +216,8 @@ module _ (es : List EntryValue) (own : List Name) (ns ms : List NodeValue) (h : 
   pub nodes_once : ns ≡ ms
   nodes_once = same_list ns ms same_length (λ p n is. kept p n (one_of es own ns h p n is))
 
-pub no_twins : (es : List EntryValue) (own : List Name) (ns : List NodeValue) → AreNodesOf es own ns → (p : ℕ) (n : NodeValue) → slice_get ns p ≡ Some n → n.twins ≡ []
+pub no_twins : (es : List EntryValue) (own : List Name) (ns : List NodeValue) → AreNodesOf es own ns → (p : ℕ) (n : NodeValue)
+    → slice_get ns p ≡ Some n → n.twins ≡ []
 no_twins es own ns h p n is = go (one_of es own ns h p n is)
   where
     go : IsOneOf es own p n → n.twins ≡ []

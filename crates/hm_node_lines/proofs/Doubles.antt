@@ -41,7 +41,8 @@ module _ (names : List Name) (table : BTreeMap (String Global) ℕ) (n : ℕ) (h
             (p, n, name, below, sym (taken names n p below) ∙ there, is)
 
     -- one that has none joins those before it
-    pub single_next : is_some (get_by_text table name) ≡ false → (new : BTreeMap (String Global) ℕ) → ((q : Name) → get_by_text new q ≡ kept_first (get_by_text table q) q name n) → AreSingle names new (n + 1)
+    pub single_next : is_some (get_by_text table name) ≡ false → (new : BTreeMap (String Global) ℕ)
+        → ((q : Name) → get_by_text new q ≡ kept_first (get_by_text table q) q name n) → AreSingle names new (n + 1)
     single_next none new kept = record {
       firsts = λ q.
           kept q

@@ -109,19 +109,23 @@ is_node es w some = go (place_in w (node_names es)) refl (empty_or w)
     go : (o : Option ℕ) → place_in w (node_names es) ≡ o → (w ≡ codes "Empty") ⊎ ((w ≡ codes "Empty") → ⊥) → IsNode es w
     go (Some p) e either = inl (declares es w (there w (node_names es) p e))
     go None e (inl same) = inr same
-    go None e (inr differ) = absurd (some (λ n. elim n as (λ _. ⊥) [ inl d ↦ not_there w (node_names es) e (is_declared es w d) | inr same ↦ differ same ]))
+    go None e (inr differ) = absurd
+        (some (λ n. elim n as (λ _. ⊥) [ inl d ↦ not_there w (node_names es) e (is_declared es w d) | inr same ↦ differ same ]))
 
 -- ---- whether a node line is the first of its name
 
 module _ (es : List EntryValue) (i : ℕ) (w : Name) (is : Says es i (node w)) where
   pub all_names : node_names es ≡ node_names (take i es) ++ w ∷ node_names (drop (suc i) es)
-  all_names = ap node_names (sym (take-append-drop i es) ∙ ap (λ z. take i es ++ z) (drop_more es i (says (node w)) is)) ∙ names_around Nodes (take i es) (drop (suc i) es) (says (node w)) w refl
+  all_names = ap node_names (sym (take-append-drop i es) ∙ ap (λ z. take i es ++ z) (drop_more es i (says (node w)) is))
+      ∙ names_around Nodes (take i es) (drop (suc i) es) (says (node w)) w refl
 
   pub declared_first : ¬ (Declares (take i es) w) → place_in w (node_names es) ≡ Some (nodes_before es i)
-  declared_first h = ap (place_in w) all_names ∙ first_at w (node_names (take i es)) (node_names (drop (suc i) es)) (λ c. h (declares (take i es) w c)) ∙ ap Some (length_names (take i es))
+  declared_first h = ap (place_in w) all_names ∙ first_at w (node_names (take i es)) (node_names (drop (suc i) es))
+      (λ c. h (declares (take i es) w c)) ∙ ap Some (length_names (take i es))
 
   pub declared_again : place_in w (node_names es) ≡ Some (nodes_before es i) → ¬ (Declares (take i es) w)
-  declared_again h d = not_before w (node_names (take i es)) (node_names (drop (suc i) es)) (ap (place_in w) (sym all_names) ∙ h ∙ ap Some (sym (length_names (take i es)))) (is_declared (take i es) w d)
+  declared_again h d = not_before w (node_names (take i es)) (node_names (drop (suc i) es))
+      (ap (place_in w) (sym all_names) ∙ h ∙ ap Some (sym (length_names (take i es)))) (is_declared (take i es) w d)
 
   -- else it was declared before
   pub twice_declared : (place_in w (node_names es) ≡ Some (nodes_before es i) → ⊥) → Declares (take i es) w
@@ -140,10 +144,12 @@ module _ (es : List EntryValue) (i : ℕ) (k w : Name) (is : Says es i (edge k w
       ∙ names_around Edges (earlier es i) (up_to_node (drop (suc i) es)) (says (edge k w)) k refl
 
   pub listed_first : ¬ (Lists (earlier es i) k) → place_in k (edge_names (around es (suc i))) ≡ Some (length (edge_names (earlier es i)))
-  listed_first h = ap (place_in k) names_of_node ∙ first_at k (edge_names (earlier es i)) (edge_names (up_to_node (drop (suc i) es))) (λ c. h (lists (earlier es i) k c))
+  listed_first h = ap (place_in k) names_of_node ∙ first_at k (edge_names (earlier es i)) (edge_names (up_to_node (drop (suc i) es)))
+      (λ c. h (lists (earlier es i) k c))
 
   pub listed_again : place_in k (edge_names (around es (suc i))) ≡ Some (length (edge_names (earlier es i))) → ¬ (Lists (earlier es i) k)
-  listed_again h l = not_before k (edge_names (earlier es i)) (edge_names (up_to_node (drop (suc i) es))) (ap (place_in k) (sym names_of_node) ∙ h) (is_listed (earlier es i) k l)
+  listed_again h l = not_before k (edge_names (earlier es i)) (edge_names (up_to_node (drop (suc i) es)))
+      (ap (place_in k) (sym names_of_node) ∙ h) (is_listed (earlier es i) k l)
 
   pub twice_listed : (place_in k (edge_names (around es (suc i))) ≡ Some (length (edge_names (earlier es i))) → ⊥) → Lists (earlier es i) k
   twice_listed h = go (place_in k (edge_names (earlier es i))) refl

@@ -38,7 +38,8 @@ module _ {X : Type 0} (f : EntryValue → Option X) where
       further : IsMade f es x → IsMade f (e ∷ es) x
       further m = record { line = suc m.line; entry = m.entry; is = m.is; made = m.made }
 
-      go : (o : Option X) → f e ≡ o → (At (filter_map f es) x → IsMade f es x) → (m : ℕ) → slice_get (cons_option o (filter_map f es)) m ≡ Some x → IsMade f (e ∷ es) x
+      go : (o : Option X) → f e ≡ o → (At (filter_map f es) x → IsMade f es x) → (m : ℕ)
+          → slice_get (cons_option o (filter_map f es)) m ≡ Some x → IsMade f (e ∷ es) x
       go None is rest m h = further (rest (m, h))
       go (Some y) is rest zero h = record { line = 0; entry = e; is = refl; made = is ∙ h }
       go (Some y) is rest (suc m) h = further (rest (m, h))

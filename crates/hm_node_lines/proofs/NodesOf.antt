@@ -40,12 +40,21 @@ module _ (es : List EntryValue) (none : HasNoBad (IsBadNodeLine es)) (i : ℕ) (
   listed_once : (k v u : Name) (m n : ℕ) → Says (behind es i) m (edge k v) → Says (behind es i) n (edge k u) → ¬ (m < n)
   listed_once k v u m n h l below =
       let f = in_file es i w is n (says (edge k u)) l in
-      none (suc i + n) (listed_twice f.at (v, subst (λ z. Contains z (says (edge k v))) (sym f.earlier_are) (before_it (behind es i) m n (says (edge k v)) h below)))
+      none (suc i + n) (listed_twice f.at (
+        v,
+        subst (λ z. Contains z (says (edge k v))) (sym f.earlier_are)
+            (before_it (behind es i) m n (says (edge k v)) h below),
+      ))
 
   others_once : (c d : Class) (v u : Name) (m n : ℕ) → Says (behind es i) m (other c v) → Says (behind es i) n (other d u) → ¬ (m < n)
   others_once c d v u m n h l below =
       let f = in_file es i w is n (says (other d u)) l in
-      none (suc i + n) (others_twice f.at (c, v, subst (λ z. Contains z (says (other c v))) (sym f.earlier_are) (before_it (behind es i) m n (says (other c v)) h below)))
+      none (suc i + n) (others_twice f.at (
+        c,
+        v,
+        subst (λ z. Contains z (says (other c v))) (sym f.earlier_are)
+            (before_it (behind es i) m n (says (other c v)) h below),
+      ))
 
   module _ (id : Name → NodeId) (placed : ArePlaced es id) where
     has_place : (m : ℕ) (x : NodeLineValue) (v : Name) → Says (behind es i) m x → named x ≡ Some v → IsPlaceOf es v (id v).place
@@ -58,19 +67,25 @@ module _ (es : List EntryValue) (none : HasNoBad (IsBadNodeLine es)) (i : ℕ) (
       once : IsDistinct tied (keys n.children)
       once =
           let made = filter_map (child_of id) (behind es i) in
-          IsDistinct-IsPermutation tied ((eq_by_cmp_equiv name_total).symm) (keys made) (keys n.children) (IsPermutation-map (λ e. e.0) made n.children b.children) (distinct id (behind es i) listed_once)
+          IsDistinct-IsPermutation tied ((eq_by_cmp_equiv name_total).symm) (keys made) (keys n.children)
+          (IsPermutation-map (λ e. e.0) made n.children b.children) (distinct id (behind es i) listed_once)
 
-      child_from : (k : Name) (c : NodeId) → find name_cmp k n.children ≡ Some c → (v : Name) × Contains (behind es i) (says (edge k v)) × IsPlaceOf es v c.place
+      child_from : (k : Name) (c : NodeId) → find name_cmp k n.children ≡ Some c
+          → (v : Name) × Contains (behind es i) (says (edge k v)) × IsPlaceOf es v c.place
       child_from k c f =
           let made = filter_map (child_of id) (behind es i) in
           let there = from_place n.children (k, c) (found_from k c n.children f) in
           let back = at_place made (k, c) (Contains-permutation n.children made (k, c) (IsPermutation-sym made n.children b.children) there) in
           let m = made_from (child_of id) (behind es i) (k, c) back in
           let l = is_child id m.entry k c m.made in
-          let said : Says (behind es i) m.line (edge k l.0) = m.is ∙ ap Some l.1 in
-          (l.0, from_place (behind es i) (says (edge k l.0)) (m.line, said), subst (λ (z : NodeId). IsPlaceOf es l.0 z.place) (sym l.2) (has_place m.line (edge k l.0) l.0 said refl))
+          let said : Says (behind es i) m.line (edge k l.0) = m.is ∙ ap Some l.1 in (
+            l.0,
+            from_place (behind es i) (says (edge k l.0)) (m.line, said),
+            subst (λ (z : NodeId). IsPlaceOf es l.0 z.place) (sym l.2) (has_place m.line (edge k l.0) l.0 said refl),
+          )
 
-      child_to : (k : Name) (c : NodeId) (v : Name) → Contains (behind es i) (says (edge k v)) → IsPlaceOf es v c.place → find name_cmp k n.children ≡ Some c
+      child_to : (k : Name) (c : NodeId) (v : Name) → Contains (behind es i) (says (edge k v)) → IsPlaceOf es v c.place
+          → find name_cmp k n.children ≡ Some c
       child_to k c v h place =
           let made = filter_map (child_of id) (behind es i) in
           let a = at_place (behind es i) (says (edge k v)) h in
@@ -119,7 +134,8 @@ module _ {X : Type 0} (y : X) where
   last : (xs : List X) → slice_get (xs ++ y ∷ []) (length xs) ≡ Some y
   last xs = grind (arith, common_steps, gets)
 
-module _ (id : Name → NodeId) (es : List EntryValue) (ns : List NodeValue) (place : ℕ) (e : EntryValue) (is : slice_get es place ≡ Some e) (b : AreBuilt id es place ns) where
+module _ (id : Name → NodeId) (es : List EntryValue) (ns : List NodeValue) (place : ℕ) (e : EntryValue) (is : slice_get es place ≡ Some e)
+    (b : AreBuilt id es place ns) where
   read : (p : Bool) → begins_node e ≡ p → begins_node (get_or es place e) ≡ p
   read p told = ap begins_node (get_or_from_slice_get es place e e is) ∙ told
 
@@ -143,8 +159,11 @@ module _ (id : Name → NodeId) (es : List EntryValue) (ns : List NodeValue) (pl
     lines = λ j v below said. elim (cases_lt j place) [
       | inl h ↦ (let l = b.lines j v h said in (l.0, kept n ns (nodes_before es j) l.0 l.1, l.2))
       | inr h ↦
-          let here : j ≡ place = omega arith in
-          (n, ap (λ p. slice_get (ns ++ n ∷ []) (nodes_before es p)) here ∙ ap (slice_get (ns ++ n ∷ [])) (sym b.long) ∙ last n ns, subst (λ p. IsBuilt id (behind es p) n) (sym here) built)
+          let here : j ≡ place = omega arith in (
+            n,
+            ap (λ p. slice_get (ns ++ n ∷ []) (nodes_before es p)) here ∙ ap (slice_get (ns ++ n ∷ [])) (sym b.long) ∙ last n ns,
+            subst (λ p. IsBuilt id (behind es p) n) (sym here) built,
+          )
     ];
     long = length_push ns n ∙ ap (λ m. m + 1) b.long ∙ sym (count_by_more_yes begins_node es place e within (read true told));
   }
@@ -157,7 +176,8 @@ behind_is xs i =
 
 -- ---- all nodes
 
-module _ (es : List EntryValue) (none : HasNoBad (IsBadNodeLine es)) (id : Name → NodeId) (placed : ArePlaced es id) (ns : List NodeValue) (n : ℕ) (all : n ≡ length es) (b : AreBuilt id es n ns) (own : List Name) where
+module _ (es : List EntryValue) (none : HasNoBad (IsBadNodeLine es)) (id : Name → NodeId) (placed : ArePlaced es id) (ns : List NodeValue)
+    (n : ℕ) (all : n ≡ length es) (b : AreBuilt id es n ns) (own : List Name) where
   long : length ns ≡ count_by begins_node es
   long = b.long ∙ ap (count_by begins_node) (take_all n es (omega arith))
 

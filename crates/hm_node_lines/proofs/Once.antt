@@ -111,7 +111,8 @@ same_kind ts (edge x w) (other y v) e h k = absurd (omega arith)
 same_kind ts (edge x w) (shape y) e h k = absurd (omega arith)
 same_kind ts (other x w) (node y) e h k = absurd (omega arith)
 same_kind ts (other x w) (edge y v) e h k = absurd (omega arith)
-same_kind ts (other x w) (other y v) e h k = let c : class_word x ≡ class_word y = cc in let f : w ≡ v = cc in ap (λ z. other z w) (class_once x y c) ∙ ap (other y) f
+same_kind ts (other x w) (other y v) e h k = let c : class_word x ≡ class_word y = cc in let f : w ≡ v = cc in
+    ap (λ z. other z w) (class_once x y c) ∙ ap (other y) f
 same_kind ts (other x w) (shape y) e h k = absurd (omega arith)
 same_kind ts (shape x) (node y) e h k = absurd (omega arith)
 same_kind ts (shape x) (edge y v) e h k = absurd (omega arith)
@@ -137,7 +138,8 @@ entry_once line (says i) skipped h k = absurd (h.0 k)
 entry_once line (says i) unknown h k = absurd (k.1 i h.1)
 entry_once line (says i) (says j) h k = ap says (line_once line i j h.1 k.1)
 
-zip_once : {A B : Type 0} (R : A → B → Type 0) → ((x : A) (y z : B) → R x y → R x z → y ≡ z) → (xs : List A) (ys zs : List B) → AllZip R xs ys → AllZip R xs zs → ys ≡ zs
+zip_once : {A B : Type 0} (R : A → B → Type 0) → ((x : A) (y z : B) → R x y → R x z → y ≡ z) → (xs : List A) (ys zs : List B) → AllZip R xs ys
+    → AllZip R xs zs → ys ≡ zs
 zip_once R one [] [] [] h k = refl
 zip_once R one [] [] (z ∷ zs) h k = absurd k
 zip_once R one [] (y ∷ ys) zs h k = absurd h

@@ -28,7 +28,8 @@ place_next q n [] = go (bytes_eq q n) refl
     go false e = ap (λ c. cond c (Some 0) None) e ∙ sym (ap (λ c. cond c (Some 0) None) e)
 place_next q n (m ∷ ns) = go (bytes_eq q m) (place_in q ns) (place_next q n ns)
   where
-    go : (b : Bool) (old : Option ℕ) → place_in q (ns ++ n ∷ []) ≡ kept_first old q n (length ns) → cond b (Some 0) (option_map suc (place_in q (ns ++ n ∷ []))) ≡ kept_first (cond b (Some 0) (option_map suc old)) q n (length (m ∷ ns))
+    go : (b : Bool) (old : Option ℕ) → place_in q (ns ++ n ∷ []) ≡ kept_first old q n (length ns)
+        → cond b (Some 0) (option_map suc (place_in q (ns ++ n ∷ []))) ≡ kept_first (cond b (Some 0) (option_map suc old)) q n (length (m ∷ ns))
     go true old h = refl
     go false (Some p) h = ap (option_map suc) h
     go false None h = ap (option_map suc) h ∙ more (bytes_eq q n)
@@ -47,7 +48,8 @@ names_more : (n : Naming) (es : List EntryValue) (e : EntryValue) → names_by n
 names_more n es e = filter_map-append (name_by n) es (e ∷ [])
 
 module _ (n : Naming) (es : List EntryValue) (e : EntryValue) (old : BTreeMap (String Global) ℕ) (p : ℕ) (h : ArePlaced n es old p) where
-  pub placed_name : (name : Name) → name_by n e ≡ Some name → (new : BTreeMap (String Global) ℕ) → ((q : Name) → get_by_text new q ≡ kept_first (get_by_text old q) q name p) → ArePlaced n (es ++ e ∷ []) new (p + 1)
+  pub placed_name : (name : Name) → name_by n e ≡ Some name → (new : BTreeMap (String Global) ℕ)
+      → ((q : Name) → get_by_text new q ≡ kept_first (get_by_text old q) q name p) → ArePlaced n (es ++ e ∷ []) new (p + 1)
   placed_name name is new kept =
       let names : names_by n (es ++ e ∷ []) ≡ names_by n es ++ name ∷ [] = names_more n es e ∙ ap (λ z. names_by n es ++ cons_option z []) is in
       record {
@@ -63,7 +65,8 @@ module _ (n : Naming) (es : List EntryValue) (e : EntryValue) (old : BTreeMap (S
 
   pub placed_none : name_by n e ≡ None → ArePlaced n (es ++ e ∷ []) old p
   placed_none is =
-      let names : names_by n (es ++ e ∷ []) ≡ names_by n es = names_more n es e ∙ ap (λ z. names_by n es ++ cons_option z []) is ∙ append-nil (names_by n es) in
+      let names : names_by n (es ++ e ∷ []) ≡ names_by n es = names_more n es e ∙ ap (λ z. names_by n es ++ cons_option z []) is
+      ∙ append-nil (names_by n es) in
       record {
         firsts = λ q. h.firsts q ∙ ap (place_in q) (sym names);
         behind = h.behind ∙ ap length (sym names);
@@ -71,7 +74,8 @@ module _ (n : Naming) (es : List EntryValue) (e : EntryValue) (old : BTreeMap (S
       }
 
 -- one line more
-pub one_more : (es : List Entry) (i : ℕ) (e : Entry) → i < length es → e ≡ get_or es i e → entry_values (take (i + 1) es) ≡ entry_values (take i es) ++ entry_value e ∷ []
+pub one_more : (es : List Entry) (i : ℕ) (e : Entry) → i < length es → e ≡ get_or es i e
+    → entry_values (take (i + 1) es) ≡ entry_values (take i es) ++ entry_value e ∷ []
 one_more es i e below is =
     ap (λ z. entry_values (take z es)) (suc_is i)
     ∙ ap entry_values (take-suc es i e below)
@@ -84,7 +88,8 @@ one_more es i e below is =
 pub at_most : (es : List Entry) (i : ℕ) → length (entry_values (take i es)) ≤ i
 at_most es i = let m = length-map (take i es) entry_value in let t = length-take i es in omega arith
 
-pub places_end : (n : Naming) (es : List Entry) (i : ℕ) (table : BTreeMap (String Global) ℕ) (p : ℕ) → ArePlaced n (entry_values (take i es)) table p → length es ≤ i → AreFirsts table (names_by n (entry_values es))
+pub places_end : (n : Naming) (es : List Entry) (i : ℕ) (table : BTreeMap (String Global) ℕ) (p : ℕ)
+    → ArePlaced n (entry_values (take i es)) table p → length es ≤ i → AreFirsts table (names_by n (entry_values es))
 places_end n es i table p h past = subst (λ z. AreFirsts table (names_by n (entry_values z))) (take_all i es past) h.firsts
 
 -- ---- the place of a name that is there
@@ -94,7 +99,8 @@ pub name_at : (q : Name) (ns : List Name) (p : ℕ) → place_in q ns ≡ Some p
 name_at q [] p is = let f : ⊥ = cc in absurd f
 name_at q (n ∷ ns) p is = go (bytes_eq q n) refl (place_in q ns) (name_at q ns) p is
   where
-    go : (b : Bool) → bytes_eq q n ≡ b → (o : Option ℕ) → ((p : ℕ) → o ≡ Some p → slice_get ns p ≡ Some q) → (p : ℕ) → cond b (Some 0) (option_map suc o) ≡ Some p → slice_get (n ∷ ns) p ≡ Some q
+    go : (b : Bool) → bytes_eq q n ≡ b → (o : Option ℕ) → ((p : ℕ) → o ≡ Some p → slice_get ns p ≡ Some q) → (p : ℕ)
+        → cond b (Some 0) (option_map suc o) ≡ Some p → slice_get (n ∷ ns) p ≡ Some q
     go true same o more zero is = ap Some (sym ((bytes_decides q n).0 same))
     go true same o more (suc p) is = let f : ⊥ = cc in absurd f
     go false differ None more p is = let f : ⊥ = cc in absurd f
@@ -106,7 +112,8 @@ pub name_nowhere : (q : Name) (ns : List Name) → place_in q ns ≡ None → (p
 name_nowhere q [] none p is = let f : ⊥ = cc in f
 name_nowhere q (n ∷ ns) none p is = go (bytes_eq q n) refl (place_in q ns) (name_nowhere q ns) none p is
   where
-    go : (b : Bool) → bytes_eq q n ≡ b → (o : Option ℕ) → (o ≡ None → (p : ℕ) → slice_get ns p ≡ Some q → ⊥) → cond b (Some 0) (option_map suc o) ≡ None → (p : ℕ) → slice_get (n ∷ ns) p ≡ Some q → ⊥
+    go : (b : Bool) → bytes_eq q n ≡ b → (o : Option ℕ) → (o ≡ None → (p : ℕ) → slice_get ns p ≡ Some q → ⊥)
+        → cond b (Some 0) (option_map suc o) ≡ None → (p : ℕ) → slice_get (n ∷ ns) p ≡ Some q → ⊥
     go true same o more none p is = let f : ⊥ = cc in f
     go false differ (Some m) more none p is = let f : ⊥ = cc in f
     go false differ None more none zero is = let same : q ≡ n = cc in true≢false (sym ((bytes_decides q n).1 same) ∙ differ)
@@ -134,10 +141,13 @@ not_before q (m ∷ xs) ys h c = go (bytes_eq q m) refl (place_in q (xs ++ q ∷
     rest : Option ℕ
     rest = place_in q (xs ++ q ∷ ys)
 
-    go : (b : Bool) → bytes_eq q m ≡ b → (o : Option ℕ) → rest ≡ o → (rest ≡ Some (length xs) → Contains xs q → ⊥) → (k : ℕ) → k < length (m ∷ xs) → get_or (m ∷ xs) k q ≡ q → ⊥
-    go true e o is more k l at = let first : Some 0 ≡ Some (suc (length xs)) = sym (ap (λ b. cond b (Some 0) (option_map suc rest)) e) ∙ h in let f : ⊥ = cc in f
+    go : (b : Bool) → bytes_eq q m ≡ b → (o : Option ℕ) → rest ≡ o → (rest ≡ Some (length xs) → Contains xs q → ⊥) → (k : ℕ)
+        → k < length (m ∷ xs) → get_or (m ∷ xs) k q ≡ q → ⊥
+    go true e o is more k l at = let first : Some 0 ≡ Some (suc (length xs)) = sym (ap (λ b. cond b (Some 0) (option_map suc rest)) e) ∙ h in
+        let f : ⊥ = cc in f
     go false e o is more zero l at = true≢false (sym ((bytes_decides q m).1 (sym at)) ∙ e)
-    go false e None is more (suc k) l at = let none : None ≡ Some (suc (length xs)) = sym (ap (λ b. cond b (Some 0) (option_map suc rest)) e ∙ ap (option_map suc) is) ∙ h in let f : ⊥ = cc in f
+    go false e None is more (suc k) l at = let none : None ≡ Some (suc (length xs)) =
+        sym (ap (λ b. cond b (Some 0) (option_map suc rest)) e ∙ ap (option_map suc) is) ∙ h in let f : ⊥ = cc in f
     go false e (Some r) is more (suc k) l at =
         let same : Some (suc r) ≡ Some (suc (length xs)) = sym (ap (λ b. cond b (Some 0) (option_map suc rest)) e ∙ ap (option_map suc) is) ∙ h in
         let place : r ≡ length xs = cc in
@@ -145,5 +155,6 @@ not_before q (m ∷ xs) ys h c = go (bytes_eq q m) refl (place_in q (xs ++ q ∷
 
 -- ---- names and the lines that bring them
 
-pub names_around : (n : Naming) (xs ys : List EntryValue) (e : EntryValue) (w : Name) → name_by n e ≡ Some w → names_by n (xs ++ e ∷ ys) ≡ names_by n xs ++ w ∷ names_by n ys
+pub names_around : (n : Naming) (xs ys : List EntryValue) (e : EntryValue) (w : Name) → name_by n e ≡ Some w
+    → names_by n (xs ++ e ∷ ys) ≡ names_by n xs ++ w ∷ names_by n ys
 names_around n xs ys e w is = filter_map-append (name_by n) xs (e ∷ ys) ∙ ap (λ o. names_by n xs ++ cons_option o (names_by n ys)) is

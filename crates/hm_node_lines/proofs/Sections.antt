@@ -14,8 +14,10 @@ use Rattle.hm_node_lines.specs.Entries.{EntryValue, says, entry_value, entry_val
 use Rattle.hm_node_lines.specs.BadLines.{Says, begins_node, up_to_node, since_node, earlier, around, behind}
 
 since_next : (es : List EntryValue) (e : EntryValue) (b : Bool) → begins_node e ≡ b → since_node (es ++ e ∷ []) ≡ cond b [] (since_node es ++ e ∷ [])
-since_next es e true is = ap (λ z. reverse (up_to_node z)) (reverse-append es (e ∷ [])) ∙ ap (λ c. reverse (cond c [] (e ∷ up_to_node (reverse es)))) is
-since_next es e false is = ap (λ z. reverse (up_to_node z)) (reverse-append es (e ∷ [])) ∙ ap (λ c. reverse (cond c [] (e ∷ up_to_node (reverse es)))) is ∙ reverse-append (e ∷ []) (up_to_node (reverse es))
+since_next es e true is = ap (λ z. reverse (up_to_node z)) (reverse-append es (e ∷ []))
+    ∙ ap (λ c. reverse (cond c [] (e ∷ up_to_node (reverse es)))) is
+since_next es e false is = ap (λ z. reverse (up_to_node z)) (reverse-append es (e ∷ []))
+    ∙ ap (λ c. reverse (cond c [] (e ∷ up_to_node (reverse es)))) is ∙ reverse-append (e ∷ []) (up_to_node (reverse es))
 
 pub drop_more : (es : List EntryValue) (i : ℕ) (e : EntryValue) → slice_get es i ≡ Some e → drop i es ≡ e ∷ drop (suc i) es
 drop_more es i e is = drop-cons es i e (slice_get_within es i e is) ∙ ap (λ z. z ∷ drop (suc i) es) (get_or_from_slice_get es i e e is)
@@ -56,7 +58,8 @@ one_further j m = omega arith
 
 -- no line of the node is left, or the next one is
 abbrev GoesOn : List EntryValue → ℕ → List EntryValue → Type 0
-GoesOn es j lines = (lines ≡ []) ⊎ ((d : EntryValue) × (slice_get es j ≡ Some d) × (begins_node d ≡ false) × (lines ≡ d ∷ up_to_node (drop (suc j) es)))
+GoesOn es j lines = (lines ≡ []) ⊎ ((d : EntryValue) × (slice_get es j ≡ Some d) × (begins_node d ≡ false)
+    × (lines ≡ d ∷ up_to_node (drop (suc j) es)))
 
 goes_on : (es : List EntryValue) (j : ℕ) (lines : List EntryValue) → up_to_node (drop j es) ≡ lines → GoesOn es j lines
 goes_on es j lines is = by (slice_get_cases es j).1
@@ -65,7 +68,8 @@ goes_on es j lines is = by (slice_get_cases es j).1
     told d at true h = inl (sym is ∙ from_here es j d at true h)
     told d at false h = inr (d, at, h, sym is ∙ from_here es j d at false h)
 
-    by : ((x : EntryValue) × (j < length es) × (slice_get es j ≡ Some x) × (get_or es j x ≡ x)) ⊎ ((length es ≤ j) × (slice_get es j ≡ None)) → GoesOn es j lines
+    by : ((x : EntryValue) × (j < length es) × (slice_get es j ≡ Some x) × (get_or es j x ≡ x)) ⊎ ((length es ≤ j) × (slice_get es j ≡ None))
+        → GoesOn es j lines
     by (inl f) = told f.0 f.2 (begins_node f.0) refl
     by (inr f) = inl (sym is ∙ ap up_to_node (drop_all j es f.0))
 
@@ -84,7 +88,8 @@ within es zero j e is = by (goes_on es j (up_to_node (drop j es)) refl)
         }
 within es (suc m) j e is = by (within es m (suc j) e) (goes_on es j (up_to_node (drop j es)) refl)
   where
-    further : (d : EntryValue) → slice_get es j ≡ Some d → begins_node d ≡ false → up_to_node (drop j es) ≡ d ∷ up_to_node (drop (suc j) es) → IsWithin es (suc j) m e → IsWithin es j (suc m) e
+    further : (d : EntryValue) → slice_get es j ≡ Some d → begins_node d ≡ false → up_to_node (drop j es) ≡ d ∷ up_to_node (drop (suc j) es)
+        → IsWithin es (suc j) m e → IsWithin es j (suc m) e
     further d at told lines w = record {
       at = ap (slice_get es) (sym (one_further j m)) ∙ w.at;
       earlier_are =
@@ -97,7 +102,8 @@ within es (suc m) j e is = by (within es m (suc j) e) (goes_on es j (up_to_node 
       inside = w.inside;
     }
 
-    by : (slice_get (up_to_node (drop (suc j) es)) m ≡ Some e → IsWithin es (suc j) m e) → GoesOn es j (up_to_node (drop j es)) → IsWithin es j (suc m) e
+    by : (slice_get (up_to_node (drop (suc j) es)) m ≡ Some e → IsWithin es (suc j) m e) → GoesOn es j (up_to_node (drop j es))
+        → IsWithin es j (suc m) e
     by more (inl none) = let no : None ≡ Some e = sym (ap (λ z. slice_get z (suc m)) none) ∙ is in let f : ⊥ = cc in absurd f
     by more (inr f) = further f.0 f.1 f.2 f.3 (more (sym (ap (λ z. slice_get z (suc m)) f.3) ∙ is))
 
@@ -108,7 +114,8 @@ pub record IsInFile (es : List EntryValue) (i m : ℕ) (e : EntryValue) : Type 0
   pub around_is : around es (suc i + m) ≡ behind es i
   pub inside : begins_node e ≡ false
 
-pub in_file : (es : List EntryValue) (i : ℕ) (w : Name) → Says es i (node w) → (m : ℕ) (e : EntryValue) → slice_get (behind es i) m ≡ Some e → IsInFile es i m e
+pub in_file : (es : List EntryValue) (i : ℕ) (w : Name) → Says es i (node w) → (m : ℕ) (e : EntryValue) → slice_get (behind es i) m ≡ Some e
+    → IsInFile es i m e
 in_file es i w is m e there =
     let f = within es m (suc i) e there in record {
       at = f.at;
@@ -129,8 +136,10 @@ inside_lines (e ∷ es) = go (begins_node (entry_value e)) refl (inside_lines es
     inside : Entry → Bool
     inside e = not (begins_node (entry_value e))
 
-    go : (b : Bool) → begins_node (entry_value e) ≡ b → entry_values (take (prefix_len inside es) es) ≡ up_to_node (entry_values es) → entry_values (take (prefix_len inside (e ∷ es)) (e ∷ es)) ≡ up_to_node (entry_values (e ∷ es))
-    go true is more = ap (λ b. entry_values (take (cond (not b) (1 + prefix_len inside es) 0) (e ∷ es))) is ∙ sym (ap (λ b. cond b [] (entry_value e ∷ up_to_node (entry_values es))) is)
+    go : (b : Bool) → begins_node (entry_value e) ≡ b → entry_values (take (prefix_len inside es) es) ≡ up_to_node (entry_values es)
+        → entry_values (take (prefix_len inside (e ∷ es)) (e ∷ es)) ≡ up_to_node (entry_values (e ∷ es))
+    go true is more = ap (λ b. entry_values (take (cond (not b) (1 + prefix_len inside es) 0) (e ∷ es))) is
+        ∙ sym (ap (λ b. cond b [] (entry_value e ∷ up_to_node (entry_values es))) is)
     go false is more =
         ap (λ b. entry_values (take (cond (not b) (1 + prefix_len inside es) 0) (e ∷ es))) is
         ∙ ap (λ n. entry_values (take n (e ∷ es))) (one_on (prefix_len inside es))

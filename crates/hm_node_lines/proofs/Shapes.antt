@@ -25,12 +25,15 @@ optionally (Plus ∷ ts) = ([], refl, refl)
 
 -- ---- the parts are what is found
 
-found_names : (front : List Token) (ks : List Name) (rest : List Token) → AreNames front ks → names_at rest ≡ ([], rest) → names_at (front ++ rest) ≡ (ks, rest)
+found_names : (front : List Token) (ks : List Name) (rest : List Token) → AreNames front ks → names_at rest ≡ ([], rest)
+    → names_at (front ++ rest) ≡ (ks, rest)
 found_names [] [] rest n ends = ends
 found_names [] (k ∷ ks) rest n ends = absurd n
 found_names (t ∷ front) [] rest n ends = absurd n
-found_names (Word w ∷ front) (k ∷ ks) rest n ends = let same : w ≡ k = cc in ap (and_name w) (found_names front ks rest n.1 ends) ∙ ap (λ (z : Name). (z ∷ ks, rest)) same
-found_names (Quoted w ∷ front) (k ∷ ks) rest n ends = let same : w ≡ k = cc in ap (and_name w) (found_names front ks rest n.1 ends) ∙ ap (λ (z : Name). (z ∷ ks, rest)) same
+found_names (Word w ∷ front) (k ∷ ks) rest n ends = let same : w ≡ k = cc in
+    ap (and_name w) (found_names front ks rest n.1 ends) ∙ ap (λ (z : Name). (z ∷ ks, rest)) same
+found_names (Quoted w ∷ front) (k ∷ ks) rest n ends = let same : w ≡ k = cc in
+    ap (and_name w) (found_names front ks rest n.1 ends) ∙ ap (λ (z : Name). (z ∷ ks, rest)) same
 found_names (Question ∷ front) (k ∷ ks) rest n ends = let no : ⊥ = cc in absurd no
 found_names (Plus ∷ front) (k ∷ ks) rest n ends = let no : ⊥ = cc in absurd no
 
@@ -45,7 +48,8 @@ no_optional (t ∷ ts) c h = let plus : t ≡ Plus = cc in subst (λ (z : Token)
 module _ (tail : List Token) (c : Count) (count : IsTail tail c) where
   found_optional : (middle : List Token) (ks : List Name) → AreOptional middle ks → optional_at (middle ++ tail) ≡ (ks, tail)
   found_optional [] ks o = no_optional tail c count ∙ ap (λ (z : List Name). (z, tail)) (sym o)
-  found_optional (t ∷ middle) ks o = ap (λ (z : Token). optional_at (z ∷ (middle ++ tail))) o.0 ∙ found_names middle ks tail o.1 (ends_names tail c count)
+  found_optional (t ∷ middle) ks o = ap (λ (z : Token). optional_at (z ∷ (middle ++ tail))) o.0
+      ∙ found_names middle ks tail o.1 (ends_names tail c count)
 
   ends_required : (middle : List Token) (ks : List Name) → AreOptional middle ks → names_at (middle ++ tail) ≡ ([], middle ++ tail)
   ends_required [] ks o = ends_names tail c count
@@ -75,8 +79,10 @@ is_shape ts s h =
 
 pub has_parts : (ts : List Token) (s : ShapeValue) → IsShape ts s → HasParts ts s
 has_parts ts s h =
-    let n : names_at ts ≡ (s.required, h.middle ++ h.tail) = ap names_at h.is ∙ found_names h.front s.required (h.middle ++ h.tail) h.required (ends_required h.tail s.count h.count h.middle s.optional h.optional) in
-    let o : optional_at (names_at ts).1 ≡ (s.optional, h.tail) = ap (λ (z : Read). optional_at z.1) n ∙ found_optional h.tail s.count h.count h.middle s.optional h.optional in
+    let n : names_at ts ≡ (s.required, h.middle ++ h.tail) = ap names_at h.is
+    ∙ found_names h.front s.required (h.middle ++ h.tail) h.required (ends_required h.tail s.count h.count h.middle s.optional h.optional) in
+    let o : optional_at (names_at ts).1 ≡ (s.optional, h.tail) = ap (λ (z : Read). optional_at z.1) n
+    ∙ found_optional h.tail s.count h.count h.middle s.optional h.optional in
     record {
       required = ap (λ (z : Read). z.0) (sym n);
       optional = ap (λ (z : Read). z.0) (sym o);

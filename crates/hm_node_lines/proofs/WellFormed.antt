@@ -30,9 +30,11 @@ use Rattle.hm_node_lines.specs.FirstBad.{HasNoBad}
 -- ---- shapes
 
 -- what holds of each shape that a line says holds of the shapes of the lines
-all_shapes : (P : ShapeValue → Type 0) (lines : List EntryValue) → ((s : ShapeValue) → Contains lines (says (shape s)) → P s) → All P (shapes_in lines)
+all_shapes : (P : ShapeValue → Type 0) (lines : List EntryValue) → ((s : ShapeValue) → Contains lines (says (shape s)) → P s)
+    → All P (shapes_in lines)
 all_shapes P [] f = All-nil P
-all_shapes P (says (shape s) ∷ lines) f = All-cons P s (shapes_in lines) (f s (0, omega arith, refl)) (all_shapes P lines (λ t c. f t (suc c.0, omega (arith, c.1), c.2)))
+all_shapes P (says (shape s) ∷ lines) f = All-cons P s (shapes_in lines) (f s (0, omega arith, refl))
+    (all_shapes P lines (λ t c. f t (suc c.0, omega (arith, c.1), c.2)))
 all_shapes P (e ∷ lines) f = all_shapes P lines (λ t c. f t (suc c.0, omega (arith, c.1), c.2))
 
 some_shape_in : (lines : List EntryValue) (k : ℕ) (s : ShapeValue) → slice_get lines k ≡ Some (says (shape s)) → 0 < length (shapes_in lines)
@@ -60,11 +62,24 @@ module _ (n : NodeValue) (s : ShapeValue) where
       let le = a.1 in
       let lt = b.1 in
       let first : get_or (names_of_shape s) a.0 k ≡ k = get_or_append_left s.required s.optional k a.0 a.1 ∙ a.2 in
-      let second : get_or (names_of_shape s) (length s.required + b.0) k ≡ k = get_or-append-add s.required s.optional b.0 k ∙ b.2 in
-      (a.0, length s.required + b.0, k, omega arith, slice_get_read (names_of_shape s) _ a.0 k refl (omega arith) (sym first), slice_get_read (names_of_shape s) _ (length s.required + b.0) k refl (omega arith) (sym second))
+      let second : get_or (names_of_shape s) (length s.required + b.0) k ≡ k = get_or-append-add s.required s.optional b.0 k ∙ b.2 in (
+        a.0,
+        length s.required + b.0,
+        k,
+        omega arith,
+        slice_get_read (names_of_shape s) _ a.0 k refl (omega arith) (sym first),
+        slice_get_read (names_of_shape s) _ (length s.required + b.0) k refl (omega arith) (sym second),
+      )
 
-  shape_formed : ((k : Name) → Contains (names_of_shape s) k → IsTrue (is_listed n k)) → ¬ (HasDouble (names_of_shape s)) → IfSome s.count.most (λ most. s.count.least ≤ most) → (n.other ≡ None → IsNoneCounted s.count) → IsWellFormedShape n (as_shape s)
-  shape_formed listed once ordered none = record { listed = λ k h. listed k (names k (or_cases (contains (as_shape s).required k) (contains (as_shape s).optional k) h)); apart = λ k h. apart k h (contains (from_list s.optional) k) refl; ordered = ordered; none = none }
+  shape_formed : ((k : Name) → Contains (names_of_shape s) k → IsTrue (is_listed n k)) → ¬ (HasDouble (names_of_shape s))
+      → IfSome s.count.most (λ most. s.count.least ≤ most) → (n.other ≡ None → IsNoneCounted s.count) → IsWellFormedShape n (as_shape s)
+  shape_formed listed once ordered none =
+      record {
+        listed = λ k h. listed k (names k (or_cases (contains (as_shape s).required k) (contains (as_shape s).optional k) h));
+        apart = λ k h. apart k h (contains (from_list s.optional) k) refl;
+        ordered = ordered;
+        none = none;
+      }
     where
       names : (k : Name) → IsTrue (contains (as_shape s).required k) ⊎ IsTrue (contains (as_shape s).optional k) → Contains (names_of_shape s) k
       names k (inl h) = Contains-append_left s.required s.optional k (is_in s.required k h)
@@ -88,7 +103,8 @@ empty_formed count = record {
     none = record { required = []; optional = []; count = record { least = 0; most = Some 0 } }
 
     formed : IsWellFormedShape empty_node (as_shape none)
-    formed = shape_formed empty_node none (λ k c. absurd (omega (arith, c.1))) (λ d. let f = d.4 in let g : ⊥ = cc in g) (omega arith) (λ e. (refl, refl))
+    formed = shape_formed empty_node none (λ k c. absurd (omega (arith, c.1))) (λ d. let f = d.4 in let g : ⊥ = cc in g) (omega arith)
+        (λ e. (refl, refl))
 
 -- ---- places of nodes
 
@@ -111,7 +127,8 @@ module _ (es : List EntryValue) (own : List Name) (nodes : List NodeValue) (are 
   in_range _ _ named empty = let long = are.long (named refl) in omega arith
 
   line_in_range : (j : ℕ) (x : NodeLineValue) (w : Name) (p : ℕ) → Says es j x → named x ≡ Some w → IsPlaceOf es w p → p < length nodes
-  line_in_range j x w p is name = in_range w p (λ same. inl (brought named_by es (says x) (codes "Empty") (name ∙ ap Some same) (from_place es (says x) (j, is))))
+  line_in_range j x w p is name =
+      in_range w p (λ same. inl (brought named_by es (says x) (codes "Empty") (name ∙ ap Some same) (from_place es (says x) (j, is))))
 
   pub own_in_range : (w : Name) (p : ℕ) → Contains own w → IsPlaceOf es w p → p < length nodes
   own_in_range w p there = in_range w p (λ same. inr (subst (Contains own) same there))
@@ -187,7 +204,8 @@ module _ (es : List EntryValue) (none : HasNoBad (IsBadNodeLine es)) (i : ℕ) (
       where
         go : (0 < length (shapes_in (behind es i))) ⊎ (length (shapes_in (behind es i)) ≤ 0) → 0 < length n.shapes
         go (inl h) = let same = ap length one.shapes ∙ length-map (shapes_in (behind es i)) as_shape in omega arith
-        go (inr h) = absurd (none i (no_shape begun (λ has. let m = at_place (behind es i) (says (shape has.0)) has.1 in omega (arith, some_shape_in (behind es i) m.0 has.0 m.1))))
+        go (inr h) = absurd (none i (no_shape begun (λ has. let m = at_place (behind es i) (says (shape has.0)) has.1 in
+            omega (arith, some_shape_in (behind es i) m.0 has.0 m.1))))
 
     module _ (own : List Name) (nodes : List NodeValue) (are : AreNodesOf es own nodes) where
       child_in_range : (k : Name) (id : NodeId) → find name_cmp k n.children ≡ Some id → id.place < length nodes
@@ -199,7 +217,8 @@ module _ (es : List EntryValue) (none : HasNoBad (IsBadNodeLine es)) (i : ℕ) (
       children_in_range : All (λ c. c.1.place < length nodes) n.children
       children_in_range j d lt =
           let k = (get_or n.children j d).0 in
-          let found = (searched k n.children one.ascending (Ok j) lt (λ e. ap (λ (x : Name × NodeId). name_cmp x.0 k) (get_or_default n.children j e d lt) ∙ tied_itself name_total k)).found in
+          let found = (searched k n.children one.ascending (Ok j) lt
+          (λ e. ap (λ (x : Name × NodeId). name_cmp x.0 k) (get_or_default n.children j e d lt) ∙ tied_itself name_total k)).found in
           child_in_range k (get_or n.children j d).1 (found.found d)
 
       other_in_range : IfSome n.other (λ o. o.1.place < length nodes)
@@ -222,7 +241,8 @@ module _ (es : List EntryValue) (none : HasNoBad (IsBadNodeLine es)) (i : ℕ) (
         twins = subst (All (λ t. IsTrue (is_listed n t.0) × IsTrue (is_listed n t.1))) (sym one.twins) (All-nil _);
       }
 
-pub nodes_formed : (es : List EntryValue) (own : List Name) (nodes : List NodeValue) → HasNoBad (IsBadNodeLine es) → AreNodesOf es own nodes → All (IsWellFormedNode (length nodes)) nodes
+pub nodes_formed : (es : List EntryValue) (own : List Name) (nodes : List NodeValue) → HasNoBad (IsBadNodeLine es) → AreNodesOf es own nodes
+    → All (IsWellFormedNode (length nodes)) nodes
 nodes_formed es own nodes none h p d lt = go p (get_or nodes p d) (one_of es own nodes h p (get_or nodes p d) (slice_get-get_or nodes p d lt))
   where
     go : (p : ℕ) (n : NodeValue) → IsOneOf es own p n → IsWellFormedNode (length nodes) n

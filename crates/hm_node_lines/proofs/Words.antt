@@ -33,15 +33,18 @@ module _ (p : ℕ → Bool) where
     where
       go : (t : Bool) → p b ≡ t → (drop (prefix_len p bs) bs ≡ c ∷ rest → p c ≡ false) → p c ≡ false
       go true q f = f (sym (ap (λ n. drop n (b ∷ bs)) (run_at b bs true q)) ∙ e)
-      go false q f = let same : b ∷ bs ≡ c ∷ rest = sym (ap (λ n. drop n (b ∷ bs)) (run_at b bs false q)) ∙ e in let byte : b ≡ c = cc in ap p (sym byte) ∙ q
+      go false q f = let same : b ∷ bs ≡ c ∷ rest = sym (ap (λ n. drop n (b ∷ bs)) (run_at b bs false q)) ∙ e in let byte : b ≡ c = cc in
+          ap p (sym byte) ∙ q
 
   -- a run that is followed by what doesn't pass is the whole run
-  pub run_is : (word rest : List ℕ) → list_all p word ≡ true → ((c : ℕ) (more : List ℕ) → rest ≡ c ∷ more → p c ≡ false) → prefix_len p (word ++ rest) ≡ length word
+  pub run_is : (word rest : List ℕ) → list_all p word ≡ true → ((c : ℕ) (more : List ℕ) → rest ≡ c ∷ more → p c ≡ false)
+      → prefix_len p (word ++ rest) ≡ length word
   run_is [] [] a stop = refl
   run_is [] (c ∷ rest) a stop = run_at c rest false (stop c rest refl)
   run_is (b ∷ word) rest a stop = go (p b) refl (λ h. run_is word rest h stop)
     where
-      go : (t : Bool) → p b ≡ t → (list_all p word ≡ true → prefix_len p (word ++ rest) ≡ length word) → prefix_len p ((b ∷ word) ++ rest) ≡ length (b ∷ word)
+      go : (t : Bool) → p b ≡ t → (list_all p word ≡ true → prefix_len p (word ++ rest) ≡ length word)
+          → prefix_len p ((b ∷ word) ++ rest) ≡ length (b ∷ word)
       go true q f = run_at b (word ++ rest) true q ∙ ap suc (f (sym (ap (λ t. t && list_all p word) q) ∙ a))
       go false q f = let no : false ≡ true = sym (ap (λ t. t && list_all p word) q) ∙ a in absurd (true≢false (sym no))
 
@@ -75,7 +78,8 @@ pub spaces_are : (gap : List ℕ) → 0 < length gap → list_all (λ b. b == 32
 spaces_are [] l h = absurd (omega arith)
 spaces_are (b ∷ []) l h = subst (λ (c : ℕ). AreSpaces (c ∷ [])) (sym (space_is b ((and_parts (b == 32) _ h).0))) one
 spaces_are (b ∷ c ∷ gap) l h =
-    subst (λ (d : ℕ). AreSpaces (d ∷ c ∷ gap)) (sym (space_is b ((and_parts (b == 32) _ h).0))) (more (spaces_are (c ∷ gap) (omega arith) ((and_parts (b == 32) _ h).1)))
+    subst (λ (d : ℕ). AreSpaces (d ∷ c ∷ gap)) (sym (space_is b ((and_parts (b == 32) _ h).0)))
+    (more (spaces_are (c ∷ gap) (omega arith) ((and_parts (b == 32) _ h).1)))
 
 -- all bytes of a gap are spaces
 pub spaces_all : (gap : List ℕ) → AreSpaces gap → list_all (λ b. b == 32) gap ≡ true

@@ -44,5 +44,6 @@ pub record IsBuilt (id : Name → NodeId) (lines : List EntryValue) (n : NodeVal
 
 -- a node for each node line before a place, in their order
 pub record AreBuilt (id : Name → NodeId) (es : List EntryValue) (place : ℕ) (nodes : List NodeValue) : Type 0 where
-  pub lines : (i : ℕ) (w : Name) → i < place → Says es i (node w) → (n : NodeValue) × (slice_get nodes (nodes_before es i) ≡ Some n) × IsBuilt id (behind es i) n
+  pub lines : (i : ℕ) (w : Name) → i < place → Says es i (node w)
+      → (n : NodeValue) × (slice_get nodes (nodes_before es i) ≡ Some n) × IsBuilt id (behind es i) n
   pub long : length nodes ≡ nodes_before es place

@@ -29,7 +29,8 @@ as_shape s = record { required = from_list s.required; optional = from_list s.op
 pub record IsNodeOf (es lines : List EntryValue) (n : NodeValue) : Type 0 where
   pub shapes : n.shapes ≡ map as_shape (shapes_in lines)
   pub ascending : T (is_sorted name_cmp n.children)
-  pub children : (k : Name) (id : NodeId) → (find name_cmp k n.children ≡ Some id) ↔ ((w : Name) × Contains lines (says (edge k w)) × IsPlaceOf es w id.place)
+  pub children : (k : Name) (id : NodeId) → (find name_cmp k n.children ≡ Some id)
+      ↔ ((w : Name) × Contains lines (says (edge k w)) × IsPlaceOf es w id.place)
   pub other : (c : Class) (id : NodeId) → (n.other ≡ Some (c, id)) ↔ ((w : Name) × Contains lines (says (other c w)) × IsPlaceOf es w id.place)
   pub twins : n.twins ≡ []
 

@@ -9,12 +9,14 @@ use Rattle.hm_node_lines.specs.Tokens.{token_text, IsToken, Stops, begins_word}
 -- the word at the front of bytes, and its length; none where no byte of a word stands there
 abbrev pub IsFirstWord : List ℕ → Option (Token × ℕ) → Type 0
 IsFirstWord bytes None = begins_word bytes ≡ false
-IsFirstWord bytes (Some found) = IsToken found.0 × (found.1 ≤ length bytes) × (take found.1 bytes ≡ token_text found.0) × Stops found.0 (drop found.1 bytes)
+IsFirstWord bytes (Some found) = IsToken found.0 × (found.1 ≤ length bytes) × (take found.1 bytes ≡ token_text found.0)
+    × Stops found.0 (drop found.1 bytes)
 
 -- the name between quotes at the front of bytes, and the length of its spelling; none where no spelling stands there
 abbrev pub IsFirstQuoted : List ℕ → Option (Token × ℕ) → Type 0
 IsFirstQuoted bytes None = (name : Name) (rest : List ℕ) → IsUtf8 name → bytes ≢ spelled name ++ rest
-IsFirstQuoted bytes (Some found) = IsToken found.0 × (found.1 ≤ length bytes) × (take found.1 bytes ≡ token_text found.0) × Stops found.0 (drop found.1 bytes)
+IsFirstQuoted bytes (Some found) = IsToken found.0 × (found.1 ≤ length bytes) × (take found.1 bytes ≡ token_text found.0)
+    × Stops found.0 (drop found.1 bytes)
 
 -- ---- the parts of a shape
 

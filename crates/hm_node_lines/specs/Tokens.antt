@@ -37,7 +37,8 @@ pub data AreSpaces : List ℕ → Type 0 where
 -- tokens, with spaces between two of them
 pub data Spaced : List Token → List ℕ → Type 0 where
   alone : {t : Token} → IsToken t → Spaced (t ∷ []) (token_text t)
-  before : {t : Token} {ts : List Token} {gap rest : List ℕ} → IsToken t → AreSpaces gap → Spaced ts rest → Spaced (t ∷ ts) (token_text t ++ (gap ++ rest))
+  before : {t : Token} {ts : List Token} {gap rest : List ℕ} → IsToken t → AreSpaces gap → Spaced ts rest
+      → Spaced (t ∷ ts) (token_text t ++ (gap ++ rest))
 
 -- what may stand behind a token: nothing, or a space
 abbrev pub EndsToken : List ℕ → Type 0
@@ -58,7 +59,8 @@ Stops Plus rest = Unit {0}
 -- the token at the front of bytes, and its length; none where no token stands there with nothing or a space behind it
 abbrev pub IsFirstToken : List ℕ → Option (Token × ℕ) → Type 0
 IsFirstToken bytes None = (t : Token) (rest : List ℕ) → IsToken t → EndsToken rest → bytes ≢ token_text t ++ rest
-IsFirstToken bytes (Some found) = IsToken found.0 × (found.1 ≤ length bytes) × (take found.1 bytes ≡ token_text found.0) × Stops found.0 (drop found.1 bytes)
+IsFirstToken bytes (Some found) = IsToken found.0 × (found.1 ≤ length bytes) × (take found.1 bytes ≡ token_text found.0)
+    × Stops found.0 (drop found.1 bytes)
 
 -- the tokens of some bytes; none where they are no tokens
 abbrev pub AreTokens : List ℕ → Option (Vec Token Global) → Type 0

@@ -28,7 +28,8 @@ pub missing_member : (s : SchemaValue) (i : NodeId) → IsMember s i (state {m =
 missing_member s i p h = absurd (has_and_lacks h refl)
 
 -- what one side alone has, the archive knows and doesn't hold is lost on the other side
-pub news_lost : (o : Archive) (t : Tree) → state o [] ≢ Missing → ¬ (IsWithin (Some t) o) → IsLost (state o) (state (Some t)) (state {m = false} None) []
+pub news_lost : (o : Archive) (t : Tree) → state o [] ≢ Missing → ¬ (IsWithin (Some t) o)
+    → IsLost (state o) (state (Some t)) (state {m = false} None) []
 news_lost o t known apart = elim (within_or_news t o) [
   | inl within ↦ absurd (apart within)
   | inr news ↦ record { has = state_root t; lacks = refl; known = known; news = news }

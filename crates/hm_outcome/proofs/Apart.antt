@@ -36,8 +36,12 @@ module _ (s : SchemaValue) (i : NodeId) (before : Trio) (members : AreMembers s 
     where
       alike : ((r : Path) → state before.left (p ++ r) ≡ state before.right (p ++ r)) → ⊥
       alike same = elim x.refused [
-        | inl n ↦ n (permits_own s i (state before.left) p x.node left members.left x.has_left x.is (λ k. chained (x.are_left k) (carried_same (state before.archive) (state before.left) (state before.right) (p ++ k ∷ []) (same (k ∷ [])))))
-        | inr n ↦ n (permits_own s i (state before.right) p x.node right members.right x.has_right x.is (λ k. chained (x.are_right k) (carried_same (state before.archive) (state before.right) (state before.left) (p ++ k ∷ []) (sym (same (k ∷ []))))))
+        | inl n ↦ n (permits_own s i (state before.left) p x.node left members.left x.has_left x.is
+            (λ k. chained (x.are_left k) (carried_same (state before.archive) (state before.left) (state before.right) (p ++ k ∷ [])
+            (same (k ∷ [])))))
+        | inr n ↦ n (permits_own s i (state before.right) p x.node right members.right x.has_right x.is
+            (λ k. chained (x.are_right k) (carried_same (state before.archive) (state before.right) (state before.left) (p ++ k ∷ [])
+            (sym (same (k ∷ []))))))
       ]
 
       gone : (a : Option Tree) → Has (state a) p → at_path a p ≡ None → ⊥
@@ -47,21 +51,28 @@ module _ (s : SchemaValue) (i : NodeId) (before : Trio) (members : AreMembers s 
       go None b here there = absurd (gone before.left x.has_left here)
       go (Some t) None here there = absurd (gone before.right x.has_right there)
       go (Some t) (Some u) here there = elim (same_or_differ t u) [
-        | inl same ↦ absurd (alike (λ r. state_at before.left p r ∙ ap (λ z. state z r) (here ∙ ap Some same ∙ sym there) ∙ sym (state_at before.right p r)))
+        | inl same ↦ absurd (alike (λ r. state_at before.left p r ∙ ap (λ z. state z r) (here ∙ ap Some same ∙ sym there)
+            ∙ sym (state_at before.right p r)))
         | inr differ ↦ (
           differ.0,
-          λ agree. differ.1 (subst₂ Agree (state_at before.left p differ.0 ∙ ap (λ z. state z differ.0) here) (state_at before.right p differ.0 ∙ ap (λ z. state z differ.0) there) agree),
+          λ agree. differ.1 (subst₂ Agree (state_at before.left p differ.0 ∙ ap (λ z. state z differ.0) here)
+              (state_at before.right p differ.0 ∙ ap (λ z. state z differ.0) there) agree),
         )
       ]
 
   pub contested_differ : IsContested s i (views before) p → Differ (views before) p
   contested_differ (earlier m differ) = differ
   contested_differ (lost present (inl l)) = ([], differ_here before.left before.right p l.has l.lacks)
-  contested_differ (lost present (inr l)) = ([], λ agree. has_and_lacks (agree_same agree ∙ ap (state before.right) (append-nil p) ∙ l.has) (ap (state before.left) (append-nil p) ∙ l.lacks))
+  contested_differ (lost present (inr l)) = (
+    [],
+    λ agree. has_and_lacks (agree_same agree ∙ ap (state before.right) (append-nil p) ∙ l.has)
+        (ap (state before.left) (append-nil p) ∙ l.lacks),
+  )
   contested_differ (refused {left} {right} x) = refused_differ left right x
 
 -- at a topmost mark of an outcome its two sides differ
-pub marks_differ : (s : SchemaValue) (i : NodeId) (before after : Trio) → AreMembers s i (views before) → IsOutcome s i before after → (p : Path) → IsTopmostMark (state after.archive) p → Differ (views after) p
+pub marks_differ : (s : SchemaValue) (i : NodeId) (before after : Trio) → AreMembers s i (views before) → IsOutcome s i before after
+    → (p : Path) → IsTopmostMark (state after.archive) p → Differ (views after) p
 marks_differ s i before after members outcome p mark =
     let contested = ((outcome.marks p).0 mark).contested in
     let differ = contested_differ s i before members p contested in

@@ -17,12 +17,14 @@ use Rattle.hm_outcome.proofs.Forced.{StayAt, alike_stays, contested_stays}
 abbrev pub MarksContested : SchemaValue → NodeId → Trio → Trio → Type 0
 MarksContested s i before after = (p : Path) → IsTopmostMark (state after.archive) p → IsContested s i (views before) p
 
-module _ (s : SchemaValue) (i : NodeId) (before after other : Trio) (this : IsSafeUnder s i (views before) (views after)) (contested : MarksContested s i before after) (safe : IsSafeUnder s i (views before) (views other)) where
+module _ (s : SchemaValue) (i : NodeId) (before after other : Trio) (this : IsSafeUnder s i (views before) (views after))
+    (contested : MarksContested s i before after) (safe : IsSafeUnder s i (views before) (views other)) where
   -- where the result is marked each safe result leaves both sides
   stays : (p : Path) → state after.archive p ≡ Marked → StayAt before other p
   stays p m =
       let under = topmost_above (state after.archive) p m in
-      subst (StayAt before other) (sym under.is) (contested_stays s i before other safe.safe safe.members under.top under.rest (contested under.top under.mark))
+      subst (StayAt before other) (sym under.is) (contested_stays s i before other safe.safe safe.members under.top under.rest
+      (contested under.top under.mark))
 
   agrees_too : AgreesWherever other after
   agrees_too p agree = agree_of alike (state_unmarked after.left p)
@@ -34,12 +36,14 @@ module _ (s : SchemaValue) (i : NodeId) (before after other : Trio) (this : IsSa
       ]
 
   -- where the sides of both agree: if a side has changed both are as that side, else both sides were alike
-  agreed_left : (p : Path) → state after.left p ≡ state after.right p → state other.left p ≡ state other.right p → state other.left p ≡ state after.left p
+  agreed_left : (p : Path) → state after.left p ≡ state after.right p → state other.left p ≡ state other.right p
+      → state other.left p ≡ state after.left p
   agreed_left p here there = elim (agrees (state before.archive p) (state before.left p)) [
     | inr changed ↦ safe.safe.keeps_left p changed ∙ sym (this.safe.keeps_left p changed)
     | inl left ↦ elim (agrees (state before.archive p) (state before.right p)) [
       | inr changed ↦ there ∙ safe.safe.keeps_right p changed ∙ sym (this.safe.keeps_right p changed) ∙ sym here
-      | inl right ↦ (let alike = sym (agree_same left) ∙ agree_same right in alike_stays before other safe.safe p alike ∙ sym (alike_stays before after this.safe p alike))
+      | inl right ↦ (let alike = sym (agree_same left) ∙ agree_same right in
+          alike_stays before other safe.safe p alike ∙ sym (alike_stays before after this.safe p alike))
     ]
   ]
 
@@ -76,7 +80,8 @@ module _ (s : SchemaValue) (i : NodeId) (before after : Trio) where
 -- ---- there is one outcome
 
 -- the topmost marks are the same, and each reaches down
-marked_too : (s : SchemaValue) (i : NodeId) (before one other : Trio) → IsOutcome s i before one → IsOutcome s i before other → (p : Path) → state one.archive p ≡ Marked → state other.archive p ≡ Marked
+marked_too : (s : SchemaValue) (i : NodeId) (before one other : Trio) → IsOutcome s i before one → IsOutcome s i before other → (p : Path)
+    → state one.archive p ≡ Marked → state other.archive p ≡ Marked
 marked_too s i before one other first second p m =
     let under = topmost_above (state one.archive) p m in
     let mark = (second.marks under.top).1 ((first.marks under.top).0 under.mark) in

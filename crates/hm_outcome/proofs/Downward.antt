@@ -56,7 +56,9 @@ views_below k v = record { archive = down (k ∷ []) v.archive; left = down (k �
 
 pub state_under : {m : Bool} (o : Option (Node m)) (k : Name) (p : Path) → state o [] ≢ Marked → state o (k ∷ p) ≡ state (under k o) p
 state_under None k p n = refl
-state_under (Some t) k p n = elim (is_marked t) as (λ b. cond b Marked Present ≢ Marked → cond b Marked (state (below k t) p) ≡ state (below k t) p) [ true ↦ λ n. absurd (n refl) | false ↦ λ n. refl ] n
+state_under (Some t) k p n =
+    elim (is_marked t) as (λ b. cond b Marked Present ≢ Marked → cond b Marked (state (below k t) p) ≡ state (below k t) p)
+    [ true ↦ λ n. absurd (n refl) | false ↦ λ n. refl ] n
 
 pub views_child : (k : Name) (t : Trio) → state t.archive [] ≢ Marked → views (child k t) ≡ views_below k (views t)
 views_child k t n = λ i. record {
@@ -65,10 +67,15 @@ views_child k t n = λ i. record {
   right = λ p. sym (state_under t.right k p (state_unmarked t.right [])) i;
 }
 
-pub lost_below : (k : Name) (archive keeper other : View) (p : Path) → IsLost archive keeper other (k ∷ p) ↔ IsLost (down (k ∷ []) archive) (down (k ∷ []) keeper) (down (k ∷ []) other) p
-lost_below k archive keeper other p = (λ l. record { has = l.has; lacks = l.lacks; known = l.known; news = l.news }, λ l. record { has = l.has; lacks = l.lacks; known = l.known; news = l.news })
+pub lost_below : (k : Name) (archive keeper other : View) (p : Path)
+    → IsLost archive keeper other (k ∷ p) ↔ IsLost (down (k ∷ []) archive) (down (k ∷ []) keeper) (down (k ∷ []) other) p
+lost_below k archive keeper other p = (
+  λ l. record { has = l.has; lacks = l.lacks; known = l.known; news = l.news },
+  λ l. record { has = l.has; lacks = l.lacks; known = l.known; news = l.news },
+)
 
-pub carried_below : (k : Name) (archive mine other : View) (p : Path) → IsCarried archive mine other (k ∷ p) ↔ IsCarried (down (k ∷ []) archive) (down (k ∷ []) mine) (down (k ∷ []) other) p
+pub carried_below : (k : Name) (archive mine other : View) (p : Path)
+    → IsCarried archive mine other (k ∷ p) ↔ IsCarried (down (k ∷ []) archive) (down (k ∷ []) mine) (down (k ∷ []) other) p
 carried_below k archive mine other p = (to, from)
   where
     mine_lost : IsLost archive mine other (k ∷ p) ↔ IsLost (down (k ∷ []) archive) (down (k ∷ []) mine) (down (k ∷ []) other) p
@@ -92,10 +99,12 @@ carried_below k archive mine other p = (to, from)
 -- ---- contested below a name
 
 module _ (s : SchemaValue) (i j : NodeId) (k : Name) (v : Views) (leads : (p : Path) → node_of s i (k ∷ p) ≡ node_of s j p) where
-  are_carried_below : (archive mine other : View) (p : Path) (names : Names) → AreCarried archive mine other (k ∷ p) names ↔ AreCarried (down (k ∷ []) archive) (down (k ∷ []) mine) (down (k ∷ []) other) p names
+  are_carried_below : (archive mine other : View) (p : Path) (names : Names)
+      → AreCarried archive mine other (k ∷ p) names ↔ AreCarried (down (k ∷ []) archive) (down (k ∷ []) mine) (down (k ∷ []) other) p names
   are_carried_below archive mine other p names = (λ c x. chained (c x) (at x), λ c x. chained (c x) ((at x).1, (at x).0))
     where
-      at : (x : Name) → IsCarried archive mine other (k ∷ (p ++ x ∷ [])) ↔ IsCarried (down (k ∷ []) archive) (down (k ∷ []) mine) (down (k ∷ []) other) (p ++ x ∷ [])
+      at : (x : Name) → IsCarried archive mine other (k ∷ (p ++ x ∷ []))
+          ↔ IsCarried (down (k ∷ []) archive) (down (k ∷ []) mine) (down (k ∷ []) other) (p ++ x ∷ [])
       at x = carried_below k archive mine other (p ++ x ∷ [])
 
   contested_below : (p : Path) → IsContested s i v (k ∷ p) ↔ IsContested s j (views_below k v) p
@@ -167,7 +176,8 @@ record IsSettledBelow (s : SchemaValue) (i : NodeId) (k : Name) (v w : Views) : 
   marks : (p : Path) → IsTopmostMark (down (k ∷ []) w.archive) p ↔ IsTopmostContested s place (views_below k v) p
 
 module _ (s : SchemaValue) (i : NodeId) where
-  node_below : (k : Name) (x : Option NodeId) (p : Path) → child_at s i k ≡ x → node_of s i (k ∷ p) ≡ option_and_then (node_at s) (option_and_then (λ j. reached s j p) x)
+  node_below : (k : Name) (x : Option NodeId) (p : Path) → child_at s i k ≡ x
+      → node_of s i (k ∷ p) ≡ option_and_then (node_at s) (option_and_then (λ j. reached s j p) x)
   node_below k x p e = ap (λ y. option_and_then (node_at s) (option_and_then (λ j. reached s j p) y)) e
 
   -- the place past the last has no node, and leads nowhere
@@ -202,20 +212,27 @@ module _ (s : SchemaValue) (i : NodeId) where
 
     -- where a name has no node nothing stands under it, before or after: its sides are alike
     outcome_nowhere : (k : Name) → child_at s i k ≡ None → IsOutcome s nowhere (child k before) (child k after)
-    outcome_nowhere k e = subst₂ (IsOutcome s nowhere) none_before (sym (h.unplaced k e)) (equal_sides s nowhere (under k before.archive) None (λ p has. absurd (has_and_lacks has refl)))
+    outcome_nowhere k e = subst₂ (IsOutcome s nowhere) none_before (sym (h.unplaced k e))
+        (equal_sides s nowhere (under k before.archive) None (λ p has. absurd (has_and_lacks has refl)))
       where
         none_before : record { archive = under k before.archive; left = None; right = None } ≡ child k before
-        none_before x = record { archive = under k before.archive; left = sym (unplaced_side before.left k members.left e) x; right = sym (unplaced_side before.right k members.right e) x }
+        none_before x = record {
+          archive = under k before.archive;
+          left = sym (unplaced_side before.left k members.left e) x;
+          right = sym (unplaced_side before.right k members.right e) x;
+        }
 
     settled_below : (k : Name) → IsSettledBelow s i k v w
     settled_below k = go (child_at s i k) refl
       where
-        settled : (j : NodeId) → ((p : Path) → node_of s i (k ∷ p) ≡ node_of s j p) → IsOutcome s j (child k before) (child k after) → IsSettledBelow s i k v w
+        settled : (j : NodeId) → ((p : Path) → node_of s i (k ∷ p) ≡ node_of s j p) → IsOutcome s j (child k before) (child k after)
+            → IsSettledBelow s i k v w
         settled j leads o = record {
           place = j;
           leads = leads;
           safe = subst₂ (IsSafeUnder s j) (views_child k before h.unmarked) (views_child k after unmarked_after) o.safe;
-          marks = subst₂ (λ (x y : Views). (p : Path) → IsTopmostMark y.archive p ↔ IsTopmostContested s j x p) (views_child k before h.unmarked) (views_child k after unmarked_after) o.marks;
+          marks = subst₂ (λ (x y : Views). (p : Path) → IsTopmostMark y.archive p ↔ IsTopmostContested s j x p)
+              (views_child k before h.unmarked) (views_child k after unmarked_after) o.marks;
         }
 
         go : (x : Option NodeId) → child_at s i k ≡ x → IsSettledBelow s i k v w
@@ -223,8 +240,10 @@ module _ (s : SchemaValue) (i : NodeId) where
         go None e = settled nowhere (λ p. node_below k None p e ∙ sym (node_of-nowhere p)) (outcome_nowhere k e)
 
     -- what a side is to have at the root is permitted there
-    takes_permitted : {archive mine other result : View} (n : NodeValue) (names : Names) → TakesNames h.node archive mine other result → AreCarried archive mine other [] names → node_of s i [] ≡ Some n → Permits n names
-    takes_permitted n names takes carried is = subst₂ Permits (same_Some h.node n (sym h.is ∙ is)) (one_set takes.names names takes.carried carried) takes.permitted
+    takes_permitted : {archive mine other result : View} (n : NodeValue) (names : Names) → TakesNames h.node archive mine other result
+        → AreCarried archive mine other [] names → node_of s i [] ≡ Some n → Permits n names
+    takes_permitted n names takes carried is = subst₂ Permits (same_Some h.node n (sym h.is ∙ is))
+        (one_set takes.names names takes.carried carried) takes.permitted
 
     uncontested_root : ¬ (IsContested s i v [])
     uncontested_root (earlier m d) = h.unmarked m
@@ -282,11 +301,17 @@ module _ (s : SchemaValue) (i : NodeId) where
       stops_at = stops;
     }
 
-    member_here : {archive mine other result : View} → TakesNames h.node archive mine other result → ((k : Name) → IsMember s (settled_below k).place (down (k ∷ []) result)) → IsMember s i result
+    member_here : {archive mine other result : View} → TakesNames h.node archive mine other result
+        → ((k : Name) → IsMember s (settled_below k).place (down (k ∷ []) result)) → IsMember s i result
     member_here {result = a} takes below_names [] has = record {
       node = h.node;
       is = h.is;
-      allowed = record { names = takes.names; has = takes.has; permitted = takes.permitted; twins = subst (All (λ t. IsTwin a t.0 t.1)) (sym (no_twins i h.node h.is)) (All-nil _) };
+      allowed = record {
+        names = takes.names;
+        has = takes.has;
+        permitted = takes.permitted;
+        twins = subst (All (λ t. IsTwin a t.0 t.1)) (sym (no_twins i h.node h.is)) (All-nil _);
+      };
     }
     member_here takes below_names (k ∷ p) has =
         let x = below_names k p has in
@@ -296,7 +321,10 @@ module _ (s : SchemaValue) (i : NodeId) where
     downward = record {
       safe = record {
         safe = safe;
-        members = record { left = member_here h.left_names (λ k. (settled_below k).safe.members.left); right = member_here h.right_names (λ k. (settled_below k).safe.members.right) };
+        members = record {
+          left = member_here h.left_names (λ k. (settled_below k).safe.members.left);
+          right = member_here h.right_names (λ k. (settled_below k).safe.members.right);
+        };
       };
       marks = marks;
     }

@@ -80,7 +80,10 @@ abbrev holds_bob : Archive
 holds_bob = holds bob bob_text
 
 abbrev bob_has_tel : Tree
-bob_has_tel = record { shape = edge bob (edge tel bare bare) bare; sound = both _ _ (both _ _ bob_text tt) (both _ _ (leaf_sound false tel tel_text) tt) }
+bob_has_tel = record {
+  shape = edge bob (edge tel bare bare) bare;
+  sound = both _ _ (both _ _ bob_text tt) (both _ _ (leaf_sound false tel tel_text) tt);
+}
 
 disagree : Agree Missing Present → ⊥
 disagree h = elim h [ ]
@@ -114,7 +117,12 @@ clash = views (given holds_bob nothing bob_has_tel)
 
 is_lost : IsLost clash.archive clash.right clash.left (bob ∷ [])
 unfolding edges edges_of is_marked name_cmp
-is_lost = record { has = refl; lacks = refl; known = λ e. (let f : Present ≡ Missing = e in let no : ⊥ = cc in no); news = (tel ∷ [], refl, λ e. (let f : Missing ≡ Present = e in let no : ⊥ = cc in no)) }
+is_lost = record {
+  has = refl;
+  lacks = refl;
+  known = λ e. (let f : Present ≡ Missing = e in let no : ⊥ = cc in no);
+  news = (tel ∷ [], refl, λ e. (let f : Missing ≡ Present = e in let no : ⊥ = cc in no));
+}
 
 -- he stays where he is
 clashing_stays : IsCarried clash.archive clash.right clash.left (bob ∷ [])
@@ -188,7 +196,8 @@ still_contested s i = record { contested = earlier refl (bob ∷ [], λ a. agree
 -- and goes where they don't
 no_longer_contested : (s : SchemaValue) (i : NodeId) (t : Tree) → ¬ (IsContested s i (stopped t t) [])
 unfolding is_marked marked
-no_longer_contested s i t (earlier m d) = d.1 (elim (has_or_lacks (Some t) d.0) [ inl h ↦ subst₂ Agree (sym h) (sym h) both_present | inr l ↦ subst₂ Agree (sym l) (sym l) both_missing ])
+no_longer_contested s i t (earlier m d) =
+    d.1 (elim (has_or_lacks (Some t) d.0) [ inl h ↦ subst₂ Agree (sym h) (sym h) both_present | inr l ↦ subst₂ Agree (sym l) (sym l) both_missing ])
 no_longer_contested s i t (lost e c) = let f : Marked ≡ Present = e in let no : ⊥ = cc in no
 no_longer_contested s i t (refused r) = r.unmarked refl
 
@@ -212,7 +221,9 @@ only_refused s i (lost e (inr l)) = let f : Present ≡ Missing = l.lacks in let
 only_refused s i (refused {left} {right} r) = (left, right, r)
 
 -- a mark without a reason: nothing has changed, and no names are refused
-not_an_outcome : (s : SchemaValue) (i : NodeId) → ((left right : Names) → ¬ (AreRefused s i (views (given holds_nothing nothing nothing)) [] left right)) → ¬ (IsOutcome s i (given holds_nothing nothing nothing) (given (Some marked) nothing nothing))
+not_an_outcome : (s : SchemaValue) (i : NodeId)
+    → ((left right : Names) → ¬ (AreRefused s i (views (given holds_nothing nothing nothing)) [] left right))
+    → ¬ (IsOutcome s i (given holds_nothing nothing nothing) (given (Some marked) nothing nothing))
 unfolding edges edges_of is_marked marked
 not_an_outcome s i allowed o = reasons (((o.marks []).0 (record { marked = refl; topmost = above })).contested)
   where

@@ -50,10 +50,12 @@ missing_or_not Present = inr (λ e. let f : ⊥ = cc in f)
 missing_or_not Marked = inr (λ e. let f : ⊥ = cc in f)
 
 -- a member's names at a path are permitted by the node there
-permits : (s : SchemaValue) (i : NodeId) (a : View) (p : Path) → IsMember s i a → Has a p → (names : Names) → HasNames (down p a) names → (node : NodeValue) → node_of s i p ≡ Some node → Permits node names
+permits : (s : SchemaValue) (i : NodeId) (a : View) (p : Path) → IsMember s i a → Has a p → (names : Names) → HasNames (down p a) names
+    → (node : NodeValue) → node_of s i p ≡ Some node → Permits node names
 permits s i a p member has names are node is =
     let at = member p has in
-    let same = same_names at.allowed.names names (λ k. same_bool _ _ (λ there. (are k).1 ((at.allowed.has k).0 there)) (λ there. (at.allowed.has k).1 ((are k).0 there))) in
+    let same = same_names at.allowed.names names
+    (λ k. same_bool _ _ (λ there. (are k).1 ((at.allowed.has k).0 there)) (λ there. (at.allowed.has k).1 ((are k).0 there))) in
     subst (λ n. Permits n names) (same_Some at.node node (sym at.is ∙ is)) (subst (Permits at.node) same at.allowed.permitted)
 
 -- both sides have at a path what they had
@@ -80,21 +82,25 @@ module _ (before after : Trio) (h : IsSafe (views before) (views after)) where
 
   -- where the two sides are alike they stay so
   pub alike_stays : (p : Path) → state before.left p ≡ state before.right p → state after.left p ≡ state before.left p
-  alike_stays p alike = elim (agrees (state after.left p) (state before.left p)) [ inl a ↦ agree_same a | inr n ↦ h.left_from_right p (λ e. n (agree_of e (state_unmarked after.left p))) ∙ sym alike ]
+  alike_stays p alike = elim (agrees (state after.left p) (state before.left p))
+      [ inl a ↦ agree_same a | inr n ↦ h.left_from_right p (λ e. n (agree_of e (state_unmarked after.left p))) ∙ sym alike ]
 
   both_has : (p : Path) → Has (state before.left) p → Has (state before.right) p → Has (state after.left) p
   both_has p mine other = alike_stays p (mine ∙ sym other) ∙ mine
 
   -- a path at which a mark could only be a topmost one
-  module _ (q : Path) (stops : state after.archive q ≡ Marked → (Has (state before.left) q × Has (state before.right) q) ⊎ Clash (views before) q) where
-    left_alone : Has (state before.left) q → Lacks (state before.right) q → state after.left q ≢ state after.right q → IsLost (state before.archive) (state before.left) (state before.right) q
+  module _ (q : Path) (stops : state after.archive q ≡ Marked → (Has (state before.left) q × Has (state before.right) q)
+      ⊎ Clash (views before) q) where
+    left_alone : Has (state before.left) q → Lacks (state before.right) q → state after.left q ≢ state after.right q
+        → IsLost (state before.archive) (state before.left) (state before.right) q
     left_alone has lacks n = elim (stops (differ_marked q n)) [
       | inl both ↦ absurd (has_and_lacks both.1 lacks)
       | inr (inl l) ↦ l
       | inr (inr l) ↦ absurd (has_and_lacks l.has lacks)
     ]
 
-    right_alone : Lacks (state before.left) q → Has (state before.right) q → state after.left q ≢ state after.right q → IsLost (state before.archive) (state before.right) (state before.left) q
+    right_alone : Lacks (state before.left) q → Has (state before.right) q → state after.left q ≢ state after.right q
+        → IsLost (state before.archive) (state before.right) (state before.left) q
     right_alone lacks has n = elim (stops (differ_marked q n)) [
       | inl both ↦ absurd (has_and_lacks both.0 lacks)
       | inr (inl l) ↦ absurd (has_and_lacks l.has lacks)
@@ -112,7 +118,9 @@ module _ (before after : Trio) (h : IsSafe (views before) (views after)) where
     pub carried_has : Has (state after.left) q → IsCarried (state before.archive) (state before.left) (state before.right) q
     carried_has there = go (has_or_lacks before.left q) (has_or_lacks before.right q) (missing_or_not (state before.archive q))
       where
-        go : Has (state before.left) q ⊎ Lacks (state before.left) q → Has (state before.right) q ⊎ Lacks (state before.right) q → (state before.archive q ≡ Missing) ⊎ (state before.archive q ≢ Missing) → IsCarried (state before.archive) (state before.left) (state before.right) q
+        go : Has (state before.left) q ⊎ Lacks (state before.left) q → Has (state before.right) q ⊎ Lacks (state before.right) q
+            → (state before.archive q ≡ Missing) ⊎ (state before.archive q ≢ Missing)
+            → IsCarried (state before.archive) (state before.left) (state before.right) q
         go (inl mine) (inl other) _ = on_both mine other
         go (inl mine) (inr lacks) (inl new) = kept mine lacks (λ l. l.known new) (λ a. has_and_lacks (agree_same a ∙ mine) new)
         go (inl mine) (inr lacks) (inr known) =
@@ -122,11 +130,16 @@ module _ (before after : Trio) (h : IsSafe (views before) (views after)) where
         go (inr lacks) (inl other) (inr known) = absurd (has_and_lacks there (h.keeps_left q (λ a. known (agree_same a ∙ lacks)) ∙ lacks))
         go (inr lacks) (inr none) _ = absurd (has_and_lacks there (h.left_from_right q (λ e. has_and_lacks (sym e ∙ there) lacks) ∙ none))
 
-  permitted_left : (s : SchemaValue) (i : NodeId) → IsMember s i (state after.left) → (p : Path) → Has (state before.left) p → Has (state before.right) p → state after.archive p ≢ Marked → (names : Names) → AreCarried (state before.archive) (state before.left) (state before.right) p names → (node : NodeValue) → node_of s i p ≡ Some node → Permits node names
+  permitted_left : (s : SchemaValue) (i : NodeId) → IsMember s i (state after.left) → (p : Path) → Has (state before.left) p
+      → Has (state before.right) p → state after.archive p ≢ Marked → (names : Names)
+      → AreCarried (state before.archive) (state before.left) (state before.right) p names → (node : NodeValue) → node_of s i p ≡ Some node
+      → Permits node names
   permitted_left s i member p mine other unmarked names are node is =
-      permits s i (state after.left) p member (both_has p mine other) names (λ k. (λ c. has_carried (p ++ k ∷ []) (stops k) ((are k).0 c), λ there. (are k).1 (carried_has (p ++ k ∷ []) (stops k) there))) node is
+      permits s i (state after.left) p member (both_has p mine other) names
+      (λ k. (λ c. has_carried (p ++ k ∷ []) (stops k) ((are k).0 c), λ there. (are k).1 (carried_has (p ++ k ∷ []) (stops k) there))) node is
     where
-      stops : (k : Name) → state after.archive (p ++ k ∷ []) ≡ Marked → (Has (state before.left) (p ++ k ∷ []) × Has (state before.right) (p ++ k ∷ [])) ⊎ Clash (views before) (p ++ k ∷ [])
+      stops : (k : Name) → state after.archive (p ++ k ∷ []) ≡ Marked
+          → (Has (state before.left) (p ++ k ∷ []) × Has (state before.right) (p ++ k ∷ [])) ⊎ Clash (views before) (p ++ k ∷ [])
       stops k m = h.stops_at (p ++ k ∷ []) (topmost_below after.archive p k unmarked m)
 
 -- ---- both sides of a safe result
@@ -141,13 +154,16 @@ module _ (s : SchemaValue) (i : NodeId) (before after : Trio) (h : IsSafe (views
     where
       permitted : state after.archive p ≢ Marked → ¬ (Permits x.node left) ⊎ ¬ (Permits x.node right) → ⊥
       permitted n (inl not_left) = not_left (permitted_left before after h s i members.left p x.has_left x.has_right n left x.are_left x.node x.is)
-      permitted n (inr not_right) = not_right (permitted_left (turned before) (turned after) (safe_turned before after h) s i members.right p x.has_right x.has_left n right x.are_right x.node x.is)
+      permitted n (inr not_right) =
+          not_right (permitted_left (turned before) (turned after) (safe_turned before after h) s i members.right p x.has_right x.has_left n
+          right x.are_right x.node x.is)
 
   under_mark : (t q : Path) → state after.archive t ≡ Marked → StayAt before after (t ++ q)
   under_mark t q m = let below = state_reaches after.archive t q m in (h.stop_leaves_left (t ++ q) below, h.stop_leaves_right (t ++ q) below)
 
   -- at and below what is contested a safe result leaves both sides
   pub contested_stays : (t q : Path) → IsContested s i (views before) t → StayAt before after (t ++ q)
-  contested_stays t q (earlier m differ) = (earlier_left before after h t q m, earlier_left (turned before) (turned after) (safe_turned before after h) t q m)
+  contested_stays t q (earlier m differ) =
+      (earlier_left before after h t q m, earlier_left (turned before) (turned after) (safe_turned before after h) t q m)
   contested_stays t q (lost present clash) = under_mark t q (clash_marked t clash)
   contested_stays t q (refused {left} {right} x) = under_mark t q (refused_marked t left right x)

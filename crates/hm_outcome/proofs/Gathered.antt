@@ -87,7 +87,8 @@ still_present k c None present = present
 still_present k None (Some t) present = present
 still_present k (Some c) (Some t) present = ap (λ m. cond m Marked Present) (is_marked-node (put name_cmp k c (edges t)))
 
-module _ (s : SchemaValue) (i : NodeId) (before : Trio) (passed : Name → Type 0) (o : Archive) (a b : Tree) (h : IsGathered s i before passed (given o a b)) (k : Name) (text : IsUtf8 k) (fresh : ¬ (passed k)) (here : Trio) where
+module _ (s : SchemaValue) (i : NodeId) (before : Trio) (passed : Name → Type 0) (o : Archive) (a b : Tree)
+    (h : IsGathered s i before passed (given o a b)) (k : Name) (text : IsUtf8 k) (fresh : ¬ (passed k)) (here : Trio) where
   abbrev pub made : Trio
   made = with_trio k here o a b
 
@@ -106,17 +107,20 @@ module _ (s : SchemaValue) (i : NodeId) (before : Trio) (passed : Name → Type 
     right = side_there k text q apart here.right b x;
   }
 
-  pub gathered_next : (now : Name → Type 0) → ((q : Name) → now q ↔ (passed q ⊎ (q ≡ k))) → ((j : NodeId) → child_at s i k ≡ Some j → IsOutcome s j (child k before) here) → IsGathered s i before now made
+  pub gathered_next : (now : Name → Type 0) → ((q : Name) → now q ↔ (passed q ⊎ (q ≡ k)))
+      → ((j : NodeId) → child_at s i k ≡ Some j → IsOutcome s j (child k before) here) → IsGathered s i before now made
   gathered_next now grows settled = record {
     archive = still_present k here.archive o h.archive;
     settled = λ q was j leads. go q j leads ((grows q).0 was) (eq_by_cmp name_cmp q k) refl;
     rest = λ q not_now. untouched q not_now (eq_by_cmp name_cmp q k) refl;
   }
     where
-      go : (q : Name) (j : NodeId) → child_at s i q ≡ Some j → passed q ⊎ (q ≡ k) → (t : Bool) → eq_by_cmp name_cmp q k ≡ t → IsOutcome s j (child q before) (child q made)
+      go : (q : Name) (j : NodeId) → child_at s i q ≡ Some j → passed q ⊎ (q ≡ k) → (t : Bool) → eq_by_cmp name_cmp q k ≡ t
+          → IsOutcome s j (child q before) (child q made)
       go q j leads was true tied =
           let same : q ≡ k = tie_one q k tied in
-          subst (λ z. IsOutcome s j (child z before) (child z made)) (sym same) (subst (IsOutcome s j (child k before)) (sym made_here) (settled j (sym (ap (child_at s i) same) ∙ leads)))
+          subst (λ z. IsOutcome s j (child z before) (child z made)) (sym same)
+          (subst (IsOutcome s j (child k before)) (sym made_here) (settled j (sym (ap (child_at s i) same) ∙ leads)))
       go q j leads (inl was) false apart = subst (IsOutcome s j (child q before)) (sym (made_there q apart)) (h.settled q was j leads)
       go q j leads (inr same) false apart = absurd (true≢false (sym (ap (λ z. eq_by_cmp name_cmp z k) same ∙ tied_same k) ∙ apart))
 
@@ -127,7 +131,8 @@ module _ (s : SchemaValue) (i : NodeId) (before : Trio) (passed : Name → Type 
 -- ---- the names that the result has
 
 -- the root of a safe result is there just where it is carried
-root_carried : (before after : Trio) → IsSafe (views before) (views after) → IsCarried (state before.archive) (state before.left) (state before.right) [] ↔ Has (state after.left) []
+root_carried : (before after : Trio) → IsSafe (views before) (views after)
+    → IsCarried (state before.archive) (state before.left) (state before.right) [] ↔ Has (state after.left) []
 root_carried before after safe = (has_carried before after safe [] stops, carried_has before after safe [] stops)
   where
     stops : state after.archive [] ≡ Marked → (Has (state before.left) [] × Has (state before.right) []) ⊎ Clash (views before) []
@@ -155,7 +160,9 @@ tree_names : (t : Tree) → HasNames (state (Some t)) (names_of t)
 tree_names t k = (λ there. (there_is t k).0 (sym (names_of-below t k) ∙ there), λ has. names_of-below t k ∙ (there_is t k).1 has)
 
 -- what is carried under a name is so by what stands there
-pub carried_under : (o : Archive) (mine other : Tree) (k : Name) → state o [] ≢ Marked → IsCarried (state o) (state (Some mine)) (state (Some other)) (k ∷ []) ↔ IsCarried (state (under k o)) (state (below k mine)) (state (below k other)) []
+pub carried_under : (o : Archive) (mine other : Tree) (k : Name) → state o [] ≢ Marked
+    → IsCarried (state o) (state (Some mine)) (state (Some other)) (k ∷ [])
+    ↔ IsCarried (state (under k o)) (state (below k mine)) (state (below k other)) []
 carried_under o mine other k unmarked = (
   λ c. subst (λ v. IsCarried v.archive v.left v.right []) (sym views_here) (lower.0 c),
   λ c. lower.1 (subst (λ v. IsCarried v.archive v.left v.right []) views_here c),
@@ -164,7 +171,8 @@ carried_under o mine other k unmarked = (
     views_here : views (child k (given o mine other)) ≡ views_below k (views (given o mine other))
     views_here = views_child k (given o mine other) unmarked
 
-    lower : IsCarried (state o) (state (Some mine)) (state (Some other)) (k ∷ []) ↔ IsCarried (down (k ∷ []) (state o)) (down (k ∷ []) (state (Some mine))) (down (k ∷ []) (state (Some other))) []
+    lower : IsCarried (state o) (state (Some mine)) (state (Some other)) (k ∷ [])
+        ↔ IsCarried (down (k ∷ []) (state o)) (down (k ∷ []) (state (Some mine))) (down (k ∷ []) (state (Some other))) []
     lower = carried_below k (state o) (state (Some mine)) (state (Some other)) []
 
 -- a name is carried to a side just where the result has it, if that is so below the name
@@ -172,10 +180,13 @@ module _ (s : SchemaValue) (i : NodeId) (o : Archive) (unmarked : state o [] ≢
   no_side : (t : Tree) → below k t ≡ None → ¬ (Has (state (Some t)) (k ∷ []))
   no_side t none has = true≢false (sym ((there_is t k).1 has) ∙ ap is_some none)
 
-  name_carried : (child_at s i k ≡ None → (below k mine ≡ None) × (below k other ≡ None) × (below k result ≡ None)) → ((j : NodeId) → child_at s i k ≡ Some j → IsCarried (state (under k o)) (state (below k mine)) (state (below k other)) [] ↔ Has (state (below k result)) []) → IsCarried (state o) (state (Some mine)) (state (Some other)) (k ∷ []) ↔ Has (state (Some result)) (k ∷ [])
+  name_carried : (child_at s i k ≡ None → (below k mine ≡ None) × (below k other ≡ None) × (below k result ≡ None))
+      → ((j : NodeId) → child_at s i k ≡ Some j → IsCarried (state (under k o)) (state (below k mine)) (state (below k other)) []
+      ↔ Has (state (below k result)) []) → IsCarried (state o) (state (Some mine)) (state (Some other)) (k ∷ []) ↔ Has (state (Some result)) (k ∷ [])
   name_carried nothing_there root = go (child_at s i k) refl
     where
-      here : IsCarried (state o) (state (Some mine)) (state (Some other)) (k ∷ []) ↔ IsCarried (state (under k o)) (state (below k mine)) (state (below k other)) []
+      here : IsCarried (state o) (state (Some mine)) (state (Some other)) (k ∷ [])
+          ↔ IsCarried (state (under k o)) (state (below k mine)) (state (below k other)) []
       here = carried_under o mine other k unmarked
 
       nowhere : child_at s i k ≡ None → IsCarried (state o) (state (Some mine)) (state (Some other)) (k ∷ []) → ⊥
@@ -184,7 +195,8 @@ module _ (s : SchemaValue) (i : NodeId) (o : Archive) (unmarked : state o [] ≢
       nowhere none (kept has_mine lacks alone changed) = no_side mine (nothing_there none).0 has_mine
       nowhere none (brought lacks has_other alone changed) = no_side other (nothing_there none).1 has_other
 
-      go : (c : Option NodeId) → child_at s i k ≡ c → IsCarried (state o) (state (Some mine)) (state (Some other)) (k ∷ []) ↔ Has (state (Some result)) (k ∷ [])
+      go : (c : Option NodeId) → child_at s i k ≡ c → IsCarried (state o) (state (Some mine)) (state (Some other)) (k ∷ [])
+          ↔ Has (state (Some result)) (k ∷ [])
       go (Some j) leads = (
         λ c. state_down result k [] ∙ (root j leads).0 (here.0 c),
         λ has. here.1 ((root j leads).1 (sym (state_down result k []) ∙ has)),
@@ -215,7 +227,9 @@ member_at s i j t k member leads p has =
 
 -- ---- all names
 
-module _ (s : SchemaValue) (i : NodeId) (o : Archive) (a b : Tree) (members : AreMembers s i (views (given o a b))) (unmarked : state o [] ≢ Marked) (passed : Name → Type 0) (all : (k : Name) → passed k ↔ IsInEither (below k a) (below k b)) (made_archive : Archive) (made_left made_right : Tree) (h : IsGathered s i (given o a b) passed (given made_archive made_left made_right)) where
+module _ (s : SchemaValue) (i : NodeId) (o : Archive) (a b : Tree) (members : AreMembers s i (views (given o a b)))
+    (unmarked : state o [] ≢ Marked) (passed : Name → Type 0) (all : (k : Name) → passed k ↔ IsInEither (below k a) (below k b))
+    (made_archive : Archive) (made_left made_right : Tree) (h : IsGathered s i (given o a b) passed (given made_archive made_left made_right)) where
   abbrev pub before : Trio
   before = given o a b
 
@@ -241,7 +255,8 @@ module _ (s : SchemaValue) (i : NodeId) (o : Archive) (a b : Tree) (members : Ar
       neither : below k a ≡ None → below k b ≡ None → IsOutcome s j (child k before) (child k after)
       neither one two =
           subst (IsOutcome s j (child k before)) (sym (h.rest k (not_passed k one two)))
-          (subst (λ (z : Option Tree × Option Tree). IsOutcome s j (record { archive = under k o; left = z.0; right = z.1 }) nothing) (λ x. (sym one x, sym two x))
+          (subst (λ (z : Option Tree × Option Tree). IsOutcome s j (record { archive = under k o; left = z.0; right = z.1 }) nothing)
+          (λ x. (sym one x, sym two x))
           (equal_sides s j (under k o) None (λ p has. let no : ⊥ = cc in absurd no)))
 
       go : (x y : Option Tree) → below k a ≡ x → below k b ≡ y → IsOutcome s j (child k before) (child k after)
@@ -260,9 +275,11 @@ module _ (s : SchemaValue) (i : NodeId) (o : Archive) (a b : Tree) (members : Ar
   pub carried_right : AreCarried (state o) (state (Some b)) (state (Some a)) [] (names_of made_right)
   carried_right k = chained (tree_names made_right k) (turned_round (name_carried s i o unmarked b a made_right k
       (λ none. (no_node s i b members.right k none, no_node s i a members.left k none, ap (λ (t : Trio). t.right) (unplaced k none)))
-      (λ j leads. root_carried (turned (child k before)) (turned (child k after)) (safe_turned (child k before) (child k after) (under_it k j leads).safe.safe))))
+      (λ j leads. root_carried (turned (child k before)) (turned (child k after))
+      (safe_turned (child k before) (child k after) (under_it k j leads).safe.safe))))
 
-  takes : (node : NodeValue) → node_at s i ≡ Some node → (t : Tree) (archive mine other : View) → AreCarried archive mine other [] (names_of t) → PermitsAt s i (names_of t) → TakesNames node archive mine other (state (Some t))
+  takes : (node : NodeValue) → node_at s i ≡ Some node → (t : Tree) (archive mine other : View) → AreCarried archive mine other [] (names_of t)
+      → PermitsAt s i (names_of t) → TakesNames node archive mine other (state (Some t))
   takes node is t archive mine other carried at = record {
     names = names_of t;
     carried = carried;

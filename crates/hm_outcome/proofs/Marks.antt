@@ -64,7 +64,8 @@ module _ {m : Bool} where
       go false is = refl
   state_above (Some t) (k ∷ p) q e = go (is_marked t) e (state_above (below k t) p q)
     where
-      go : (b : Bool) → cond b Marked (state (below k t) (p ++ q)) ≡ Present → (state (below k t) (p ++ q) ≡ Present → state (below k t) p ≡ Present) → cond b Marked (state (below k t) p) ≡ Present
+      go : (b : Bool) → cond b Marked (state (below k t) (p ++ q)) ≡ Present
+          → (state (below k t) (p ++ q) ≡ Present → state (below k t) p ≡ Present) → cond b Marked (state (below k t) p) ≡ Present
       go true e up = e
       go false e up = up e
 
@@ -78,7 +79,8 @@ module _ {m : Bool} where
       go false is e = let f : ⊥ = cc in absurd f
   state_reaches (Some t) (k ∷ p) q e = go (is_marked t) e (state_reaches (below k t) p q)
     where
-      go : (b : Bool) → cond b Marked (state (below k t) p) ≡ Marked → (state (below k t) p ≡ Marked → state (below k t) (p ++ q) ≡ Marked) → cond b Marked (state (below k t) (p ++ q)) ≡ Marked
+      go : (b : Bool) → cond b Marked (state (below k t) p) ≡ Marked → (state (below k t) p ≡ Marked → state (below k t) (p ++ q) ≡ Marked)
+          → cond b Marked (state (below k t) (p ++ q)) ≡ Marked
       go true e on = e
       go false e on = on e
 

@@ -66,14 +66,17 @@ pub chained : {A B C : Type 0} → A ↔ B → B ↔ C → A ↔ C
 chained f g = (λ x. g.0 (f.0 x), λ x. f.1 (g.1 x))
 
 -- there is one set of the names of which something holds
-pub one_set : {P : Name → Type 0} (xs ys : Names) → ((k : Name) → IsTrue (contains xs k) ↔ P k) → ((k : Name) → IsTrue (contains ys k) ↔ P k) → xs ≡ ys
+pub one_set : {P : Name → Type 0} (xs ys : Names) → ((k : Name) → IsTrue (contains xs k) ↔ P k) → ((k : Name) → IsTrue (contains ys k) ↔ P k)
+    → xs ≡ ys
 one_set xs ys f g = same_names xs ys (λ k. both_ways _ _ (λ h. (g k).1 ((f k).0 h)) (λ h. (f k).1 ((g k).0 h)))
 
 -- the node of a path that a member has permits its names there
-pub permits_own : (s : SchemaValue) (i : NodeId) (a : View) (p : Path) (n : NodeValue) (names : Names) → IsMember s i a → Has a p → node_of s i p ≡ Some n → HasNames (down p a) names → Permits n names
+pub permits_own : (s : SchemaValue) (i : NodeId) (a : View) (p : Path) (n : NodeValue) (names : Names) → IsMember s i a → Has a p
+    → node_of s i p ≡ Some n → HasNames (down p a) names → Permits n names
 permits_own s i a p n names m h is has =
     let x = m p h in
-    subst (λ n. Permits n names) (same_Some x.node n (sym x.is ∙ is)) (subst (Permits x.node) (one_set x.allowed.names names x.allowed.has has) x.allowed.permitted)
+    subst (λ n. Permits n names) (same_Some x.node n (sym x.is ∙ is))
+    (subst (Permits x.node) (one_set x.allowed.names names x.allowed.has has) x.allowed.permitted)
 
 -- ---- nothing stands above the root
 
@@ -91,10 +94,23 @@ module _ (s : SchemaValue) (i : NodeId) where
   contested_turned t p (earlier m d) = earlier m (d.0, λ a. d.1 (agree_back _ _ a))
   contested_turned t p (lost h (inl l)) = lost h (inr l)
   contested_turned t p (lost h (inr l)) = lost h (inl l)
-  contested_turned t p (refused r) = refused (record { has_left = r.has_right; has_right = r.has_left; unmarked = r.unmarked; are_left = r.are_right; are_right = r.are_left; node = r.node; is = r.is; refused = elim r.refused [ inl n ↦ inr n | inr n ↦ inl n ] })
+  contested_turned t p (refused r) =
+      refused (record {
+        has_left = r.has_right;
+        has_right = r.has_left;
+        unmarked = r.unmarked;
+        are_left = r.are_right;
+        are_right = r.are_left;
+        node = r.node;
+        is = r.is;
+        refused = elim r.refused [ inl n ↦ inr n | inr n ↦ inl n ];
+      })
 
   topmost_turned : (t : Trio) (p : Path) → IsTopmostContested s i (views t) p → IsTopmostContested s i (views (turned t)) p
-  topmost_turned t p top = record { contested = contested_turned t p top.contested; topmost = λ q r e n c. top.topmost q r e n (contested_turned (turned t) q c) }
+  topmost_turned t p top = record {
+    contested = contested_turned t p top.contested;
+    topmost = λ q r e n c. top.topmost q r e n (contested_turned (turned t) q c);
+  }
 
   pub outcome_turned : (before after : Trio) → IsOutcome s i before after → IsOutcome s i (turned before) (turned after)
   outcome_turned before after h = record {
@@ -103,7 +119,8 @@ module _ (s : SchemaValue) (i : NodeId) where
   }
 
   -- without marks, and where nothing is contested, topmost marks stand where they have to
-  no_marks : (before : Trio) (archive : View) → ((p : Path) → archive p ≢ Marked) → ((p : Path) → ¬ (IsContested s i (views before) p)) → (p : Path) → IsTopmostMark archive p ↔ IsTopmostContested s i (views before) p
+  no_marks : (before : Trio) (archive : View) → ((p : Path) → archive p ≢ Marked) → ((p : Path) → ¬ (IsContested s i (views before) p))
+      → (p : Path) → IsTopmostMark archive p ↔ IsTopmostContested s i (views before) p
   no_marks before archive unmarked none p = (λ m. absurd (unmarked p m.marked), λ c. absurd (none p c.contested))
 
   -- ---- the left side is as the right one, or the archive is as the left side: both come to be as the right one
@@ -151,10 +168,16 @@ module _ (s : SchemaValue) (i : NodeId) where
 
     module _ (member : IsMember s i (state b)) where
       uncontested : (p : Path) → ¬ (IsContested s i (views here) p)
-      uncontested p (earlier m d) = elim same [ inl e ↦ d.1 (subst (Agree (state a (p ++ d.0))) (e (p ++ d.0)) (agree_itself _ (state_unmarked a (p ++ d.0)))) | inr r ↦ marked_apart m (r p) ]
+      uncontested p (earlier m d) =
+          elim same [
+            | inl e ↦ d.1 (subst (Agree (state a (p ++ d.0))) (e (p ++ d.0)) (agree_itself _ (state_unmarked a (p ++ d.0))))
+            | inr r ↦
+                marked_apart m (r p)
+          ]
       uncontested p (lost h c) = no_clash p c
       uncontested p (refused {left} {right} r) =
-          let permits = λ (names : Names) (has : HasNames (down p (state b)) names). permits_own s i (state b) p r.node names member r.has_right r.is has in
+          let permits = λ (names : Names) (has : HasNames (down p (state b)) names).
+          permits_own s i (state b) p r.node names member r.has_right r.is has in
           elim r.refused [
             | inl n ↦ n (permits left (λ k. chained (r.are_left k) (left_names (p ++ k ∷ []))))
             | inr n ↦ n (permits right (λ k. chained (r.are_right k) (right_names (p ++ k ∷ []))))
@@ -182,14 +205,18 @@ module _ (s : SchemaValue) (i : NodeId) where
           unmarked p m = state_unmarked b p (sym (state-recorded_side b p) ∙ m)
 
   -- sides that are alike stay, and the archive comes to be as they are
-  pub equal_sides : (o : Archive) (a : Option Tree) → IsMember s i (state a) → IsOutcome s i (record { archive = o; left = a; right = a }) (record { archive = recorded_side a; left = a; right = a })
+  pub equal_sides : (o : Archive) (a : Option Tree) → IsMember s i (state a)
+      → IsOutcome s i (record { archive = o; left = a; right = a }) (record { archive = recorded_side a; left = a; right = a })
   equal_sides o a = settled_right o a a (inl (λ p. refl))
 
   -- where the archive is as one side, both come to be as the other
-  pub left_unchanged : (a b : Option Tree) → IsMember s i (state b) → IsOutcome s i (record { archive = recorded_side a; left = a; right = b }) (record { archive = recorded_side b; left = b; right = b })
-  left_unchanged a b = settled_right (recorded_side a) a b (inr (λ p. subst (λ x. Agree x (state a p)) (sym (state-recorded_side a p)) (agree_itself _ (state_unmarked a p))))
+  pub left_unchanged : (a b : Option Tree) → IsMember s i (state b)
+      → IsOutcome s i (record { archive = recorded_side a; left = a; right = b }) (record { archive = recorded_side b; left = b; right = b })
+  left_unchanged a b = settled_right (recorded_side a) a b
+      (inr (λ p. subst (λ x. Agree x (state a p)) (sym (state-recorded_side a p)) (agree_itself _ (state_unmarked a p))))
 
-  pub right_unchanged : (a b : Option Tree) → IsMember s i (state a) → IsOutcome s i (record { archive = recorded_side b; left = a; right = b }) (record { archive = recorded_side a; left = a; right = a })
+  pub right_unchanged : (a b : Option Tree) → IsMember s i (state a)
+      → IsOutcome s i (record { archive = recorded_side b; left = a; right = b }) (record { archive = recorded_side a; left = a; right = a })
   right_unchanged a b m = outcome_turned _ _ (left_unchanged b a m)
 
   -- ---- one side is missing, and the other lies within the archive
@@ -233,7 +260,8 @@ module _ (s : SchemaValue) (i : NodeId) where
 
   module _ (before : Trio) (contested : IsContested s i (views before) []) (members : AreMembers s i (views before)) where
     -- an earlier mark where one side alone is left is news of that side
-    alone : (mine other : Option Tree) → state before.archive [] ≡ Marked → Has (state mine) [] → Lacks (state other) [] → IsLost (state before.archive) (state mine) (state other) []
+    alone : (mine other : Option Tree) → state before.archive [] ≡ Marked → Has (state mine) [] → Lacks (state other) []
+        → IsLost (state before.archive) (state mine) (state other) []
     alone mine other m h l = record { has = h; lacks = l; known = λ e. (let f : ⊥ = cc in f); news = ([], h, λ e. (let f : ⊥ = cc in f)) }
 
     stops_here : IsContested s i (views before) [] → (Has (state before.left) [] × Has (state before.right) []) ⊎ Clash (views before) []
@@ -248,8 +276,14 @@ module _ (s : SchemaValue) (i : NodeId) where
     stops_here (refused r) = inl (r.has_left, r.has_right)
 
     marks_root : (p : Path) → IsTopmostMark (state (Some marked)) p ↔ IsTopmostContested s i (views before) p
-    marks_root [] = (λ m. record { contested = contested; topmost = λ q r e n. absurd (none_above q r e n) }, λ c. record { marked = state_marked []; topmost = λ q r e n. absurd (none_above q r e n) })
-    marks_root (k ∷ p) = (λ m. absurd (m.topmost [] (k ∷ p) refl not_root (state_marked [])), λ c. absurd (c.topmost [] (k ∷ p) refl not_root contested))
+    marks_root [] = (
+      λ m. record { contested = contested; topmost = λ q r e n. absurd (none_above q r e n) },
+      λ c. record { marked = state_marked []; topmost = λ q r e n. absurd (none_above q r e n) },
+    )
+    marks_root (k ∷ p) = (
+      λ m. absurd (m.topmost [] (k ∷ p) refl not_root (state_marked [])),
+      λ c. absurd (c.topmost [] (k ∷ p) refl not_root contested),
+    )
 
     -- both sides stay, and the root is marked
     pub stopped : IsOutcome s i before (record { archive = Some marked; left = before.left; right = before.right })
@@ -270,6 +304,7 @@ module _ (s : SchemaValue) (i : NodeId) where
       marks = marks_root;
     }
       where
-        only_root : (p : Path) → IsTopmostMark (state (Some marked)) p → (Has (state before.left) p × Has (state before.right) p) ⊎ Clash (views before) p
+        only_root : (p : Path) → IsTopmostMark (state (Some marked)) p
+            → (Has (state before.left) p × Has (state before.right) p) ⊎ Clash (views before) p
         only_root [] top = stops_here contested
         only_root (k ∷ p) top = absurd (top.topmost [] (k ∷ p) refl not_root (state_marked []))

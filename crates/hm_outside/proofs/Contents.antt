@@ -28,17 +28,22 @@ pub held-nothing_held : (name : Name) → held nothing_held name ≡ None
 unfolding held nothing_held
 held-nothing_held name = get-empty name_cmp name
 
-pub held-replaced : (contents : Contents) (name : Name) (bytes : List ℕ) (other : Name) → held (replaced contents name bytes) other ≡ cond (bytes_eq other name) (Some bytes) (held contents other)
+pub held-replaced : (contents : Contents) (name : Name) (bytes : List ℕ) (other : Name)
+    → held (replaced contents name bytes) other ≡ cond (bytes_eq other name) (Some bytes) (held contents other)
 unfolding held replaced
-held-replaced contents name bytes other = get-insert name_cmp_total contents name bytes other ∙ ap (λ b. cond b (Some bytes) (get contents other)) (eq_by_cmp-name_cmp other name)
+held-replaced contents name bytes other = get-insert name_cmp_total contents name bytes other
+    ∙ ap (λ b. cond b (Some bytes) (get contents other)) (eq_by_cmp-name_cmp other name)
 
 -- the name has the new bytes after a replace
 pub held-replaced_same : (contents : Contents) (name : Name) (bytes : List ℕ) → held (replaced contents name bytes) name ≡ Some bytes
-held-replaced_same contents name bytes = held-replaced contents name bytes name ∙ ap (λ b. cond b (Some bytes) (held contents name)) ((bytes_eq-Decides name name).1 refl)
+held-replaced_same contents name bytes = held-replaced contents name bytes name
+    ∙ ap (λ b. cond b (Some bytes) (held contents name)) ((bytes_eq-Decides name name).1 refl)
 
 -- another name has what it had
-pub held-replaced_other : (contents : Contents) (name : Name) (bytes : List ℕ) (other : Name) → other ≢ name → held (replaced contents name bytes) other ≡ held contents other
-held-replaced_other contents name bytes other apart = held-replaced contents name bytes other ∙ ap (λ b. cond b (Some bytes) (held contents other)) (false_from_ne_true _ (λ same. apart ((bytes_eq-Decides other name).0 same)))
+pub held-replaced_other : (contents : Contents) (name : Name) (bytes : List ℕ) (other : Name) → other ≢ name
+    → held (replaced contents name bytes) other ≡ held contents other
+held-replaced_other contents name bytes other apart = held-replaced contents name bytes other
+    ∙ ap (λ b. cond b (Some bytes) (held contents other)) (false_from_ne_true _ (λ same. apart ((bytes_eq-Decides other name).0 same)))
 
 -- contents in which each name has the same bytes are equal
 pub same_contents : (a b : Contents) → ((name : Name) → held a name ≡ held b name) → a ≡ b

@@ -21,20 +21,26 @@ option_map-cond : {A B : Type 0} (f : A → B) (b : Bool) (x y : Option A) → o
 option_map-cond f true x y = refl
 option_map-cond f false x y = refl
 
-find-bytes : (name : Name) (es : List (String Global × Vec ℕ Global)) → find name_cmp name (map (λ e. (string_bytes e.0, e.1.items)) es) ≡ option_map (λ v. v.items) (lookup (λ k. is_eq (slice_cmp nat_cmp name (string_bytes k))) es)
+find-bytes : (name : Name) (es : List (String Global × Vec ℕ Global))
+    → find name_cmp name (map (λ e. (string_bytes e.0, e.1.items)) es) ≡ option_map (λ v. v.items)
+    (lookup (λ k. is_eq (slice_cmp nat_cmp name (string_bytes k))) es)
 unfolding name_cmp
 find-bytes name [] = refl
 find-bytes name (e ∷ es) =
-    ap (cond (is_eq (slice_cmp nat_cmp name (string_bytes e.0))) (Some e.1.items)) (find-bytes name es) ∙ sym (option_map-cond (λ v. v.items) (is_eq (slice_cmp nat_cmp name (string_bytes e.0))) (Some e.1) (lookup (λ k. is_eq (slice_cmp nat_cmp name (string_bytes k))) es))
+    ap (cond (is_eq (slice_cmp nat_cmp name (string_bytes e.0))) (Some e.1.items)) (find-bytes name es)
+    ∙ sym (option_map-cond (λ v. v.items) (is_eq (slice_cmp nat_cmp name (string_bytes e.0))) (Some e.1)
+    (lookup (λ k. is_eq (slice_cmp nat_cmp name (string_bytes k))) es))
 
 -- a name has the bytes of the file of its text
 pub held-contents_of : (files : Files) (name : Name) → held (contents_of files) name ≡ option_map (λ v. v.items) (get_by_text files name)
 unfolding held contents_of
-held-contents_of files name = get-from_entries name_cmp_total (map (λ e. (string_bytes e.0, e.1.items)) files.entries) name ∙ find-bytes name files.entries
+held-contents_of files name = get-from_entries name_cmp_total (map (λ e. (string_bytes e.0, e.1.items)) files.entries) name
+    ∙ find-bytes name files.entries
 
 pub contents_of-empty : (files : Files) → files.entries ≡ [] → contents_of files ≡ nothing_held
 contents_of-empty files none = same_contents _ _ (λ name.
-    held-contents_of files name ∙ ap (λ es. option_map (λ v. v.items) (lookup (λ k. is_eq (slice_cmp nat_cmp name (string_bytes k))) es)) none ∙ sym (held-nothing_held name))
+    held-contents_of files name ∙ ap (λ es. option_map (λ v. v.items) (lookup (λ k. is_eq (slice_cmp nat_cmp name (string_bytes k))) es)) none
+    ∙ sym (held-nothing_held name))
 
 -- equal entries stand for equal contents
 pub contents_of-same : (old new : Files) → new.entries ≡ old.entries → contents_of new ≡ contents_of old
@@ -42,10 +48,12 @@ unfolding contents_of
 contents_of-same old new same = ap (λ es. from_entries (map (λ e. (string_bytes e.0, e.1.items)) es)) same
 
 bytes_eq_symm : (a b : List ℕ) → bytes_eq a b ≡ bytes_eq b a
-bytes_eq_symm a b = both_ways _ _ (λ h. (bytes_eq-Decides b a).1 (sym ((bytes_eq-Decides a b).0 h))) (λ h. (bytes_eq-Decides a b).1 (sym ((bytes_eq-Decides b a).0 h)))
+bytes_eq_symm a b = both_ways _ _ (λ h. (bytes_eq-Decides b a).1 (sym ((bytes_eq-Decides a b).0 h)))
+    (λ h. (bytes_eq-Decides a b).1 (sym ((bytes_eq-Decides b a).0 h)))
 
 -- an insertion of a text and bytes replaces what the name has
-pub contents_of-insert : (old new : Files) (key : String Global) (value : Vec ℕ Global) (name : Name) (bytes : List ℕ) → string_bytes key ≡ name → value.items ≡ bytes → Updates string_cmp old new key (Some value) → contents_of new ≡ replaced (contents_of old) name bytes
+pub contents_of-insert : (old new : Files) (key : String Global) (value : Vec ℕ Global) (name : Name) (bytes : List ℕ) → string_bytes key ≡ name
+    → value.items ≡ bytes → Updates string_cmp old new key (Some value) → contents_of new ≡ replaced (contents_of old) name bytes
 contents_of-insert old new key value name bytes same_name same_bytes updates =
     let items : Vec ℕ Global → List ℕ = λ v. v.items in
     let at : (other : Name) → held (contents_of new) other ≡ held (replaced (contents_of old) (string_bytes key) value.items) other = λ other.

@@ -15,7 +15,8 @@ pub extends_refl : (failed : List Failure) → Extends failed failed
 extends_refl failed = record { more = []; is = search rules }
 
 pub extends_trans : {old mid new : List Failure} → Extends old mid → Extends mid new → Extends old new
-extends_trans {old} {mid} {new} e f = record { more = e.more ++ f.more; is = f.is ∙ ap (λ (l : List Failure). l ++ f.more) e.is ∙ append_assoc old e.more f.more }
+extends_trans {old} {mid} {new} e f =
+    record { more = e.more ++ f.more; is = f.is ∙ ap (λ (l : List Failure). l ++ f.more) e.is ∙ append_assoc old e.more f.more }
 
 -- no count falls
 pub count_of-extends : (kind : Kind) (name : Name) {old new : List Failure} → Extends old new → count_of kind name old ≤ count_of kind name new
@@ -41,9 +42,11 @@ count_by-snoc p xs x h =
     omega (arith, sum_by-append (λ y. cond (p y) 1 0) xs (x ∷ []), one)
 
 -- one more entry of this kind and name
-pub risen_by_entry : (kind : Kind) (name : Name) (old mid new : List Failure) (entry : Failure) → mid ≡ old → new ≡ mid ++ entry ∷ [] → entry.kind ≡ kind → entry.name ≡ name → HasRisen kind name old new
+pub risen_by_entry : (kind : Kind) (name : Name) (old mid new : List Failure) (entry : Failure) → mid ≡ old → new ≡ mid ++ entry ∷ []
+    → entry.kind ≡ kind → entry.name ≡ name → HasRisen kind name old new
 risen_by_entry kind name old mid new entry same noted same_kind same_name =
-    let passes : is_same_kind kind entry.kind && bytes_eq name entry.name ≡ true = rw (same_kind, same_name, is_same_kind_refl kind, (bytes_eq-Decides name name).1 refl) in
+    let passes : is_same_kind kind entry.kind && bytes_eq name entry.name ≡ true =
+    rw (same_kind, same_name, is_same_kind_refl kind, (bytes_eq-Decides name name).1 refl) in
     let more = count_by-snoc (λ f. is_same_kind kind f.kind && bytes_eq name f.name) old entry passes in
     let lists : new ≡ old ++ entry ∷ [] = noted ∙ ap (λ (l : List Failure). l ++ entry ∷ []) same in
     let counts : count_of kind name new ≡ count_of kind name old + 1 = ap (count_of kind name) lists ∙ more in

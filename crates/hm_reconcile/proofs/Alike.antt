@@ -73,7 +73,8 @@ module _ (p : Path) (v w : Views) (alike : AreAlikeFrom p v w) where
   names_left : (names : Names) → AreCarried v.archive v.left v.right p names → AreCarried w.archive w.left w.right p names
   names_left names are =
       carried_up p w.archive w.left w.right names
-      (subst (λ (z : Views). AreCarried z.archive z.left z.right [] names) same_from (λ k. chained (are k) (carried_down p v.archive v.left v.right (k ∷ []))))
+      (subst (λ (z : Views). AreCarried z.archive z.left z.right [] names) same_from
+      (λ k. chained (are k) (carried_down p v.archive v.left v.right (k ∷ []))))
 
   news_left : (r : Path) → IsNews v.archive v.left (p ++ r) ↔ IsNews w.archive w.left (p ++ r)
   news_left r = (
@@ -131,7 +132,8 @@ module _ (s : SchemaValue) (i : NodeId) (p : Path) (v w : Views) (alike : AreAli
 
 -- ---- what is held where the archive of an outcome is marked
 
-module _ (s : SchemaValue) (i : NodeId) (before after : Trio) (held : Archive) (outcome : IsOutcome s i before after) (holds : Holds before.archive after.archive held) where
+module _ (s : SchemaValue) (i : NodeId) (before after : Trio) (held : Archive) (outcome : IsOutcome s i before after)
+    (holds : Holds before.archive after.archive held) where
   -- the sides of the outcome, and what is held
   abbrev pub seen : Views
   seen = views (record { archive = held; left = after.left; right = after.right })
@@ -152,7 +154,8 @@ module _ (s : SchemaValue) (i : NodeId) (before after : Trio) (held : Archive) (
   held_contested p mark = record { schema = s; node = i; contested = contested_seen p mark }
 
   -- the conflicts there are those of the outcome
-  pub held_conflicts : (conflicts : List Conflict) → ShowConflicts seen (state after.archive) conflicts → AreConflicts s i (views before) (state after.archive) conflicts
+  pub held_conflicts : (conflicts : List Conflict) → ShowConflicts seen (state after.archive) conflicts
+      → AreConflicts s i (views before) (state after.archive) conflicts
   held_conflicts conflicts shown = record {
     at_marks = shown.at_marks;
     each = λ k d lt.

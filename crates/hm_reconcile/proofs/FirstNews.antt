@@ -24,7 +24,8 @@ news_at_root o t p root news = subst (IsFirst (NewsOf o t)) (sym root) (first.ne
 
 -- the archive has nothing under a name
 pub news_missing : (o : Archive) (k : Name) (t : Tree) (p : Path) → p ≡ [] → under k o ≡ None → IsFirst (NewsOf (under k o) t) p
-news_missing o k t p root gone = news_at_root (under k o) t p root (λ present. let f : Missing ≡ Present = sym (ap (λ a. state a []) gone) ∙ present in let no : ⊥ = cc in no)
+news_missing o k t p root gone = news_at_root (under k o) t p root
+    (λ present. let f : Missing ≡ Present = sym (ap (λ a. state a []) gone) ∙ present in let no : ⊥ = cc in no)
 
 -- the first edge below which there is news
 pub news_below : (o : Archive) (t : Tree) → state o [] ≡ Present → (place : ℕ) (k : Name) (c : Tree) → slice_get (edges t) place ≡ Some (k, c) →

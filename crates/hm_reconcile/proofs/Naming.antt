@@ -38,13 +38,16 @@ same_states a b same k = elim (has_or_lacks (Some a) (k ∷ [])) [
 ]
 
 -- each side is to have its own names, which the node of a member permits
-own_permitted : (s : SchemaValue) (i : NodeId) (archive : View) (a b : Tree) → names_of a ≡ names_of b → IsMember s i (state (Some a)) → (names : Names) → AreCarried archive (state (Some a)) (state (Some b)) [] names → PermitsAt s i names
+own_permitted : (s : SchemaValue) (i : NodeId) (archive : View) (a b : Tree) → names_of a ≡ names_of b → IsMember s i (state (Some a))
+    → (names : Names) → AreCarried archive (state (Some a)) (state (Some b)) [] names → PermitsAt s i names
 own_permitted s i archive a b same member names are =
     subst (PermitsAt s i)
-    (one_set (names_of a) names (has_names a) (λ k. chained (are k) (carried_same archive (state (Some a)) (state (Some b)) (k ∷ []) (same_states a b same k))))
+    (one_set (names_of a) names (has_names a)
+    (λ k. chained (are k) (carried_same archive (state (Some a)) (state (Some b)) (k ∷ []) (same_states a b same k))))
     (permits_root s i a (member_root s i a member))
 
-pub same_names_permitted : (s : SchemaValue) (i : NodeId) (o : Archive) (a b : Tree) → AreMembers s i (views (given o a b)) → names_of a ≡ names_of b → ArePermitted s i (views (given o a b))
+pub same_names_permitted : (s : SchemaValue) (i : NodeId) (o : Archive) (a b : Tree) → AreMembers s i (views (given o a b))
+    → names_of a ≡ names_of b → ArePermitted s i (views (given o a b))
 same_names_permitted s i o a b members same = record {
   left = own_permitted s i (state o) a b same members.left;
   right = own_permitted s i (state o) b a (sym same) members.right;
@@ -52,14 +55,17 @@ same_names_permitted s i o a b members same = record {
 
 -- ---- the sets of names that the two sides are to have
 
-module _ (s : SchemaValue) (i : NodeId) (o : Archive) (a b : Tree) (left right : Names) (are_left : AreCarried (state o) (state (Some a)) (state (Some b)) [] left) (are_right : AreCarried (state o) (state (Some b)) (state (Some a)) [] right) where
+module _ (s : SchemaValue) (i : NodeId) (o : Archive) (a b : Tree) (left right : Names)
+    (are_left : AreCarried (state o) (state (Some a)) (state (Some b)) [] left)
+    (are_right : AreCarried (state o) (state (Some b)) (state (Some a)) [] right) where
   pub sets_permitted : PermitsAt s i left → PermitsAt s i right → ArePermitted s i (views (given o a b))
   sets_permitted permits_left permits_right = record {
     left = λ names are. subst (PermitsAt s i) (one_set left names are_left are) permits_left;
     right = λ names are. subst (PermitsAt s i) (one_set right names are_right are) permits_right;
   }
 
-  pub sets_refused : i.place < length s.nodes → state o [] ≢ Marked → ¬ (PermitsAt s i left) ⊎ ¬ (PermitsAt s i right) → IsContested s i (views (given o a b)) []
+  pub sets_refused : i.place < length s.nodes → state o [] ≢ Marked → ¬ (PermitsAt s i left) ⊎ ¬ (PermitsAt s i right)
+      → IsContested s i (views (given o a b)) []
   sets_refused in_range unmarked not_permitted =
       let node = node_in_range s i in_range in
       refused {left = left} {right = right} (record {

@@ -27,7 +27,8 @@ use Rattle.hm_outcome.proofs.Gathered.{no_node, member_at}
 
 -- ---- what is given, by what is known of it
 
-pub comes_to : (s : SchemaValue) (i : NodeId) (before after : Trio) (r : Result Trees Memory) → IfOk r (λ o. outcome_of o ≡ after) → IsOutcome s i before after → IfOk r (λ o. IsOutcome s i before (outcome_of o))
+pub comes_to : (s : SchemaValue) (i : NodeId) (before after : Trio) (r : Result Trees Memory) → IfOk r (λ o. outcome_of o ≡ after)
+    → IsOutcome s i before after → IfOk r (λ o. IsOutcome s i before (outcome_of o))
 comes_to s i before after (Ok o) is outcome = subst (IsOutcome s i before) (sym is) outcome
 comes_to s i before after (Err e) is outcome = tt
 
@@ -47,10 +48,14 @@ module _ (s : SchemaValue) (i : NodeId) (o : Archive) (a b : Tree) (members : Ar
     where
       go : (c : Option NodeId) → child_at s i k ≡ c → IsSome (child_at s i k)
       go (Some j) leads = ap is_some leads
-      go None none = absurd (true≢false (sym (subst (λ (z : Option Tree × Option Tree). IsInEither z.0 z.1) (λ x. (no_node s i a members.left k none x, no_node s i b members.right k none x)) there)))
+      go None none = absurd (true≢false
+          (sym (subst (λ (z : Option Tree × Option Tree). IsInEither z.0 z.1)
+          (λ x. (no_node s i a members.left k none x, no_node s i b members.right k none x)) there)))
 
 -- both sides are members below a name
-pub members_at : (s : SchemaValue) (i j : NodeId) (o c : Archive) (a b : Tree) (k : Name) (one two : Option Tree) → AreMembers s i (views (given o a b)) → child_at s i k ≡ Some j → one ≡ below k a → two ≡ below k b → AreMembers s j (views (record { archive = c; left = one; right = two }))
+pub members_at : (s : SchemaValue) (i j : NodeId) (o c : Archive) (a b : Tree) (k : Name) (one two : Option Tree)
+    → AreMembers s i (views (given o a b)) → child_at s i k ≡ Some j → one ≡ below k a → two ≡ below k b
+    → AreMembers s j (views (record { archive = c; left = one; right = two }))
 members_at s i j o c a b k one two members leads left right = record {
   left = subst (λ z. IsMember s j (state z)) (sym left) (member_at s i j a k members.left leads);
   right = subst (λ z. IsMember s j (state z)) (sym right) (member_at s i j b k members.right leads);
@@ -65,7 +70,8 @@ size_falls a k (Some c) work is small = let less = depth_below k a c (sym is) in
 pub node_in_range : (s : SchemaValue) (i : NodeId) → i.place < length s.nodes → (n : NodeValue) × (node_at s i ≡ Some n)
 node_in_range s i below = go (slice_get_cases s.nodes i.place).1
   where
-    go : ((x : NodeValue) × (i.place < length s.nodes) × (slice_get s.nodes i.place ≡ Some x) × (get_or s.nodes i.place x ≡ x)) ⊎ ((length s.nodes ≤ i.place) × (slice_get s.nodes i.place ≡ None)) → (n : NodeValue) × (node_at s i ≡ Some n)
+    go : ((x : NodeValue) × (i.place < length s.nodes) × (slice_get s.nodes i.place ≡ Some x) × (get_or s.nodes i.place x ≡ x))
+        ⊎ ((length s.nodes ≤ i.place) × (slice_get s.nodes i.place ≡ None)) → (n : NodeValue) × (node_at s i ≡ Some n)
     go (inl there) = (there.0, there.2)
     go (inr past) = let l = past.0 in absurd (omega arith)
 
@@ -73,7 +79,11 @@ pub refuted : IsTrue false → ⊥
 refuted f = true≢false (sym f)
 
 -- what was settled at the node of a name is settled under the name
-pub settled_here : (s : SchemaValue) (i j : NodeId) (o c : Archive) (a b : Tree) (k : Name) (one two : Option Tree) (here : Trio) → child_at s i k ≡ Some j → c ≡ under k o → one ≡ below k a → two ≡ below k b → IsOutcome s j (record { archive = c; left = one; right = two }) here → (l : NodeId) → child_at s i k ≡ Some l → IsOutcome s l (child k (given o a b)) here
+pub settled_here : (s : SchemaValue) (i j : NodeId) (o c : Archive) (a b : Tree) (k : Name) (one two : Option Tree) (here : Trio)
+    → child_at s i k ≡ Some j → c ≡ under k o → one ≡ below k a → two ≡ below k b
+    → IsOutcome s j (record { archive = c; left = one; right = two }) here → (l : NodeId) → child_at s i k ≡ Some l
+    → IsOutcome s l (child k (given o a b)) here
 settled_here s i j o c a b k one two here leads at left right outcome l leads_too =
     subst (λ z. IsOutcome s z (child k (given o a b)) here) (same_Some j l (sym leads ∙ leads_too))
-    (subst (λ (z : Archive × Option Tree × Option Tree). IsOutcome s j (record { archive = z.0; left = z.1; right = z.2 }) here) (λ x. (at x, left x, right x)) outcome)
+    (subst (λ (z : Archive × Option Tree × Option Tree). IsOutcome s j (record { archive = z.0; left = z.1; right = z.2 }) here)
+    (λ x. (at x, left x, right x)) outcome)

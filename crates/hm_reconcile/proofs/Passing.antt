@@ -23,7 +23,8 @@ Edges = List (Name × Tree)
 before_all : (k n : Name) (es : Edges) → name_cmp k n ≡ Less → T (below_all n es) → T (below_all k es)
 before_all k n [] less h = tt
 before_all k n (e ∷ es) less h =
-    both _ _ (subst (λ o. T (is_lt o)) (sym (name_total.trans k n e.0 less (is_less (name_cmp n e.0) (first _ _ h)))) tt) (before_all k n es less (second (is_lt (name_cmp n e.0)) _ h))
+    both _ _ (subst (λ o. T (is_lt o)) (sym (name_total.trans k n e.0 less (is_less (name_cmp n e.0) (first _ _ h)))) tt)
+    (before_all k n es less (second (is_lt (name_cmp n e.0)) _ h))
 
 -- a name less than the first one is less than each
 all_behind : (k : Name) (es : Edges) → T (is_sorted name_cmp es) → IsBeforeFirst k es → T (below_all k es)
@@ -34,7 +35,8 @@ greater : (k q : Name) (d : Tree) (es : Edges) → T (below_all k es) → find n
 greater k q d [] h is = absurd (none-some d is)
 greater k q d (e ∷ es) h is = go (eq_by_cmp name_cmp q e.0) refl is (greater k q d es (second (is_lt (name_cmp k e.0)) _ h))
   where
-    go : (b : Bool) → eq_by_cmp name_cmp q e.0 ≡ b → cond b (Some e.1) (find name_cmp q es) ≡ Some d → (find name_cmp q es ≡ Some d → name_cmp k q ≡ Less) → name_cmp k q ≡ Less
+    go : (b : Bool) → eq_by_cmp name_cmp q e.0 ≡ b → cond b (Some e.1) (find name_cmp q es) ≡ Some d
+        → (find name_cmp q es ≡ Some d → name_cmp k q ≡ Less) → name_cmp k q ≡ Less
     go true tie is rest = ap (name_cmp k) (tie_one q e.0 tie) ∙ is_less (name_cmp k e.0) (first _ _ h)
     go false tie is rest = rest is
 
@@ -62,7 +64,8 @@ module _ (k : Name) (es rest : Edges) where
   taken_there (Some d) t rises = ap (find name_cmp k) t.is ∙ rw (tied_same k) refl
 
   -- what is left has stood there
-  still : (c : Option Tree) → IsTakenOff es rest k c → T (is_sorted name_cmp es) → (q : Name) (d : Tree) → find name_cmp q rest ≡ Some d → find name_cmp q es ≡ Some d
+  still : (c : Option Tree) → IsTakenOff es rest k c → T (is_sorted name_cmp es) → (q : Name) (d : Tree) → find name_cmp q rest ≡ Some d
+      → find name_cmp q es ≡ Some d
   still None t rises q d is = ap (find name_cmp q) t.is ∙ is
   still (Some e) t rises q d is = ap (find name_cmp q) t.is ∙ rw (back_less q k (greater k q d rest (behind (Some e) t rises) is)) is
 
@@ -109,7 +112,8 @@ all_left a b = record {
 }
 
 -- what is under a name that was not passed is what is left there
-here : (t : Tree) (rest : Edges) (passed : Name → Type 0) (k : Name) (c : Option Tree) → IsRest t rest passed → find name_cmp k rest ≡ c → ¬ (IsGone t rest k) → c ≡ below k t
+here : (t : Tree) (rest : Edges) (passed : Name → Type 0) (k : Name) (c : Option Tree) → IsRest t rest passed → find name_cmp k rest ≡ c
+    → ¬ (IsGone t rest k) → c ≡ below k t
 here t rest passed k (Some d) r is fresh = sym (r.is k d is)
 here t rest passed k None r is fresh = go (below k t) refl
   where
@@ -119,7 +123,8 @@ here t rest passed k None r is fresh = go (below k t) refl
 
 -- ---- the next name
 
-module _ {a b : Tree} {es fs es_rest fs_rest : Edges} {k : Name} {one two : Option Tree} (l : AreLeft a b es fs) (t : IsTaken es fs es_rest fs_rest k one two) where
+module _ {a b : Tree} {es fs es_rest fs_rest : Edges} {k : Name} {one two : Option Tree} (l : AreLeft a b es fs)
+    (t : IsTaken es fs es_rest fs_rest k one two) where
   pub fresh : ¬ (Passed a b es fs k)
   fresh was = go one two (taken_there k es es_rest one t.left l.left.rises) (taken_there k fs fs_rest two t.right l.right.rises) t.there
     where
@@ -137,7 +142,8 @@ module _ {a b : Tree} {es fs es_rest fs_rest : Edges} {k : Name} {one two : Opti
   pub in_either : IsInEither (below k a) (below k b)
   in_either = subst (λ (z : Option Tree × Option Tree). IsInEither z.0 z.1) (λ x. (left_here x, right_here x)) t.there
 
-  gone_too : (x : Tree) (rest rest_now : Edges) (c : Option Tree) → IsTakenOff rest rest_now k c → T (is_sorted name_cmp rest) → (q : Name) → IsGone x rest q → IsGone x rest_now q
+  gone_too : (x : Tree) (rest rest_now : Edges) (c : Option Tree) → IsTakenOff rest rest_now k c → T (is_sorted name_cmp rest) → (q : Name)
+      → IsGone x rest q → IsGone x rest_now q
   gone_too x rest rest_now c taken rises q g = go (find name_cmp q rest_now) refl
     where
       go : (d : Option Tree) → find name_cmp q rest_now ≡ d → IsGone x rest_now q
@@ -150,22 +156,31 @@ module _ {a b : Tree} {es fs es_rest fs_rest : Edges} {k : Name} {one two : Opti
     where
       forth : Passed a b es_rest fs_rest q → Passed a b es fs q ⊎ (q ≡ k)
       forth p = elim p [
-        | inl g ↦ elim (gone k es es_rest one t.left q g.gone) [ inl same ↦ inr same | inr e ↦ inl (inl (record { child = g.child; was = g.was; gone = e })) ]
-        | inr g ↦ elim (gone k fs fs_rest two t.right q g.gone) [ inl same ↦ inr same | inr e ↦ inl (inr (record { child = g.child; was = g.was; gone = e })) ]
+        | inl g ↦ elim (gone k es es_rest one t.left q g.gone)
+            [ inl same ↦ inr same | inr e ↦ inl (inl (record { child = g.child; was = g.was; gone = e })) ]
+        | inr g ↦ elim (gone k fs fs_rest two t.right q g.gone)
+            [ inl same ↦ inr same | inr e ↦ inl (inr (record { child = g.child; was = g.was; gone = e })) ]
       ]
 
       taken : (x y : Option Tree) → one ≡ x → two ≡ y → IsInEither x y → Passed a b es_rest fs_rest k
-      taken (Some c) y e f h = inl (record { child = c; was = sym left_here ∙ e; gone = absent k es_rest (behind k es es_rest one t.left l.left.rises) })
-      taken None (Some d) e f h = inr (record { child = d; was = sym right_here ∙ f; gone = absent k fs_rest (behind k fs fs_rest two t.right l.right.rises) })
+      taken (Some c) y e f h = inl
+          (record { child = c; was = sym left_here ∙ e; gone = absent k es_rest (behind k es es_rest one t.left l.left.rises) })
+      taken None (Some d) e f h =
+          inr (record { child = d; was = sym right_here ∙ f; gone = absent k fs_rest (behind k fs fs_rest two t.right l.right.rises) })
       taken None None e f h = let no : ⊥ = cc in absurd no
 
       back : Passed a b es fs q ⊎ (q ≡ k) → Passed a b es_rest fs_rest q
       back s = elim s [
-        | inl p ↦ elim p [ inl g ↦ inl (gone_too a es es_rest one t.left l.left.rises q g) | inr g ↦ inr (gone_too b fs fs_rest two t.right l.right.rises q g) ]
+        | inl p ↦ elim p [
+          | inl g ↦ inl (gone_too a es es_rest one t.left l.left.rises q g)
+          | inr g ↦ inr
+              (gone_too b fs fs_rest two t.right l.right.rises q g)
+        ]
         | inr same ↦ subst (Passed a b es_rest fs_rest) (sym same) (taken one two refl refl t.there)
       ]
 
-  next_rest : (x : Tree) (rest rest_now : Edges) (c : Option Tree) → IsTakenOff rest rest_now k c → IsRest x rest (Passed a b es fs) → IsRest x rest_now (Passed a b es_rest fs_rest)
+  next_rest : (x : Tree) (rest rest_now : Edges) (c : Option Tree) → IsTakenOff rest rest_now k c → IsRest x rest (Passed a b es fs)
+      → IsRest x rest_now (Passed a b es_rest fs_rest)
   next_rest x rest rest_now c taken r = record {
     rises = rest_rises k rest rest_now c taken r.rises;
     is = λ q d is. r.is q d (still k rest rest_now c taken r.rises q d is);
@@ -200,7 +215,8 @@ module _ {a b : Tree} {es fs : Edges} where
       back None None e f h = let no : ⊥ = cc in absurd no
 
   -- a name that was passed is less than each that wasn't
-  pub passed_before : AreLeft a b es fs → (k q : Name) → Passed a b es fs k → ¬ (Passed a b es fs q) → IsInEither (below q a) (below q b) → name_cmp k q ≡ Less
+  pub passed_before : AreLeft a b es fs → (k q : Name) → Passed a b es fs k → ¬ (Passed a b es fs q) → IsInEither (below q a) (below q b)
+      → name_cmp k q ≡ Less
   passed_before l k q was not_yet there = go (below q a) (below q b) refl refl there
     where
       go : (x y : Option Tree) → below q a ≡ x → below q b ≡ y → IsInEither (below q a) (below q b) → name_cmp k q ≡ Less

@@ -28,7 +28,8 @@ use Rattle.hm_outcome.proofs.Gathered.{nothing, IsGathered, gathered_none, gathe
 use Rattle.hm_reconcile.proofs.Held.{IsHeld, held_none, held_next, held_all}
 
 -- what is left of the three, and what was made of the names that were passed
-pub record IsUnderWay (s : SchemaValue) (i : NodeId) (o : Archive) (a b : Tree) (old : List (Name × Archive)) (es fs : List (Name × Tree)) (made : Trio) (aside : Archive) : Type 0 where
+pub record IsUnderWay (s : SchemaValue) (i : NodeId) (o : Archive) (a b : Tree) (old : List (Name × Archive)) (es fs : List (Name × Tree))
+    (made : Trio) (aside : Archive) : Type 0 where
   pub left : AreLeft a b es fs
   pub sorted : T (is_sorted name_cmp old)
   pub old_is : (k : Name) → ¬ (Passed a b es fs k) → IsInEither (below k a) (below k b) → found k old ≡ under k o
@@ -43,7 +44,10 @@ found_here (Some t) k = by (edges t)
   where
     by : (es : List (Name × Node true)) → found k (map {B = Name × Archive} (λ (e : Name × Node true). (e.0, Some e.1)) es) ≡ find name_cmp k es
     by [] = refl
-    by (e ∷ es) = elim (eq_by_cmp name_cmp k e.0) as (λ t. nothing_or (cond t (Some (Some e.1)) (find name_cmp k (map {B = Name × Archive} (λ (x : Name × Node true). (x.0, Some x.1)) es))) ≡ cond t (Some e.1) (find name_cmp k es)) [ true ↦ refl | false ↦ by es ]
+    by (e ∷ es) = elim (eq_by_cmp name_cmp k e.0)
+        as (λ t. nothing_or (cond t (Some (Some e.1))
+        (find name_cmp k (map {B = Name × Archive} (λ (x : Name × Node true). (x.0, Some x.1)) es))) ≡ cond t (Some e.1) (find name_cmp k es))
+        [ true ↦ refl | false ↦ by es ]
 
 here_rises : (o : Archive) → T (is_sorted name_cmp (edges_here o))
 here_rises None = tt
@@ -60,9 +64,12 @@ here_rises (Some t) = subst T (sym (same (edges t))) (edges_sorted t)
     same [] = refl
     same (e ∷ es) = λ j. above e.0 es j && same es j
 
-pub under_way_start : (s : SchemaValue) (i : NodeId) (o : Archive) (a b : Tree) (old : List (Name × Archive)) (es fs : List (Name × Tree)) (made : Trio) (held : Archive) → old ≡ edges_here o → es ≡ edges a → fs ≡ edges b → made ≡ given (Some empty) empty empty → held ≡ Some empty → IsUnderWay s i o a b old es fs made held
+pub under_way_start : (s : SchemaValue) (i : NodeId) (o : Archive) (a b : Tree) (old : List (Name × Archive)) (es fs : List (Name × Tree))
+    (made : Trio) (held : Archive) → old ≡ edges_here o → es ≡ edges a → fs ≡ edges b → made ≡ given (Some empty) empty empty
+    → held ≡ Some empty → IsUnderWay s i o a b old es fs made held
 under_way_start s i o a b old es fs made held old_is left_is right_is made_is held_is =
-    subst (λ (z : List (Name × Archive) × List (Name × Tree) × List (Name × Tree) × Trio × Archive). IsUnderWay s i o a b z.0 z.1 z.2 z.3 z.4) (λ j. (sym old_is j, sym left_is j, sym right_is j, sym made_is j, sym held_is j)) (record {
+    subst (λ (z : List (Name × Archive) × List (Name × Tree) × List (Name × Tree) × Trio × Archive). IsUnderWay s i o a b z.0 z.1 z.2 z.3 z.4)
+    (λ j. (sym old_is j, sym left_is j, sym right_is j, sym made_is j, sym held_is j)) (record {
       left = all_left a b;
       sorted = here_rises o;
       old_is = λ k fresh there. found_here o k;
@@ -81,7 +88,9 @@ either_utf8 a b k h = go (below k a) (below k b) refl refl h
     go None (Some d) e f there = below_utf8 b k d f
     go None None e f there = absurd (true≢false (sym there))
 
-module _ {s : SchemaValue} {i : NodeId} {o : Archive} {a b : Tree} {old : List (Name × Archive)} {es fs es_rest fs_rest : List (Name × Tree)} {made_o : Archive} {made_a made_b : Tree} {aside : Archive} {k : Name} {one two : Option Tree} (w : IsUnderWay s i o a b old es fs (given made_o made_a made_b) aside) (t : IsTaken es fs es_rest fs_rest k one two) where
+module _ {s : SchemaValue} {i : NodeId} {o : Archive} {a b : Tree} {old : List (Name × Archive)} {es fs es_rest fs_rest : List (Name × Tree)}
+    {made_o : Archive} {made_a made_b : Tree} {aside : Archive} {k : Name} {one two : Option Tree}
+    (w : IsUnderWay s i o a b old es fs (given made_o made_a made_b) aside) (t : IsTaken es fs es_rest fs_rest k one two) where
   -- what stood under the name in the archive
   pub old_here : found k old ≡ under k o
   old_here = w.old_is k (fresh w.left t) (in_either w.left t)
@@ -96,20 +105,29 @@ module _ {s : SchemaValue} {i : NodeId} {o : Archive} {a b : Tree} {old : List (
   pub nothing_held : under k aside ≡ None
   nothing_held = w.held.rest k (fresh w.left t)
 
-  pub under_way_next : (old_rest : List (Name × Archive)) (here : Trio) (aside_here : Archive) (made_now : Trio) (aside_now : Archive) → T (is_sorted name_cmp old_rest) → ((q : Name) → name_cmp k q ≡ Less → found q old_rest ≡ found q old) → ((j : NodeId) → child_at s i k ≡ Some j → IsOutcome s j (child k (given o a b)) here) → Holds (under k o) here.archive aside_here → made_now ≡ with_trio k here made_o made_a made_b → aside_now ≡ with_archive k aside_here aside → IsUnderWay s i o a b old_rest es_rest fs_rest made_now aside_now
+  pub under_way_next : (old_rest : List (Name × Archive)) (here : Trio) (aside_here : Archive) (made_now : Trio) (aside_now : Archive)
+      → T (is_sorted name_cmp old_rest) → ((q : Name) → name_cmp k q ≡ Less → found q old_rest ≡ found q old)
+      → ((j : NodeId) → child_at s i k ≡ Some j → IsOutcome s j (child k (given o a b)) here) → Holds (under k o) here.archive aside_here
+      → made_now ≡ with_trio k here made_o made_a made_b → aside_now ≡ with_archive k aside_here aside
+      → IsUnderWay s i o a b old_rest es_rest fs_rest made_now aside_now
   under_way_next old_rest here aside_here made_now aside_now sorted later settled holds made_is aside_is =
       subst (λ (z : Trio × Archive). IsUnderWay s i o a b old_rest es_rest fs_rest z.0 z.1) (λ j. (sym made_is j, sym aside_is j)) (record {
         left = next_left w.left t;
         sorted = sorted;
-        old_is = λ q not_yet there. later q (passed_before (next_left w.left t) k q ((passes w.left t k).1 (inr refl)) not_yet there) ∙ w.old_is q (λ was. not_yet ((passes w.left t q).1 (inl was))) there;
-        gathered = gathered_next s i (given o a b) (Passed a b es fs) made_o made_a made_b w.gathered k name_text (fresh w.left t) here (Passed a b es_rest fs_rest) (passes w.left t) settled;
-        held = held_next o (Passed a b es fs) (Passed a b es_rest fs_rest) made_o aside k name_text here.archive aside_here w.held (fresh w.left t) w.gathered.archive (ap (λ (x : Trio). x.archive) nothing_made) (passes w.left t) holds;
+        old_is = λ q not_yet there. later q (passed_before (next_left w.left t) k q ((passes w.left t k).1 (inr refl)) not_yet there)
+            ∙ w.old_is q (λ was. not_yet ((passes w.left t q).1 (inl was))) there;
+        gathered = gathered_next s i (given o a b) (Passed a b es fs) made_o made_a made_b w.gathered k name_text (fresh w.left t) here
+            (Passed a b es_rest fs_rest) (passes w.left t) settled;
+        held = held_next o (Passed a b es fs) (Passed a b es_rest fs_rest) made_o aside k name_text here.archive aside_here w.held
+            (fresh w.left t) w.gathered.archive (ap (λ (x : Trio). x.archive) nothing_made) (passes w.left t) holds;
       })
 
 -- ---- at the end
 
-module _ {s : SchemaValue} {i : NodeId} {o : Archive} {a b : Tree} {old : List (Name × Archive)} {es fs : List (Name × Tree)} {made_o : Archive} {made_a made_b : Tree} {aside : Archive} (w : IsUnderWay s i o a b old es fs (given made_o made_a made_b) aside) (over : AreOver es fs) where
-  pub outcome_whole : AreMembers s i (views (given o a b)) → state o [] ≢ Marked → HasNoTwins s → ArePermitted s i (views (given o a b)) → IsOutcome s i (given o a b) (given made_o made_a made_b)
+module _ {s : SchemaValue} {i : NodeId} {o : Archive} {a b : Tree} {old : List (Name × Archive)} {es fs : List (Name × Tree)} {made_o : Archive}
+    {made_a made_b : Tree} {aside : Archive} (w : IsUnderWay s i o a b old es fs (given made_o made_a made_b) aside) (over : AreOver es fs) where
+  pub outcome_whole : AreMembers s i (views (given o a b)) → state o [] ≢ Marked → HasNoTwins s → ArePermitted s i (views (given o a b))
+      → IsOutcome s i (given o a b) (given made_o made_a made_b)
   outcome_whole members unmarked no_twins permitted =
       let all = all_passed over in
       gathered s i o a b members unmarked (Passed a b es fs) all made_o made_a made_b w.gathered no_twins
@@ -122,4 +140,5 @@ module _ {s : SchemaValue} {i : NodeId} {o : Archive} {a b : Tree} {old : List (
       go : (k : Name) (x y : Option Tree) → below k a ≡ x → below k b ≡ y → Passed a b es fs k ⊎ (under k made_o ≡ None)
       go k (Some c) y e f = inl ((all_passed over k).1 (rw e refl))
       go k None (Some d) e f = inl ((all_passed over k).1 (rw (e, f) refl))
-      go k None None e f = inr (ap (λ (x : Trio). x.archive) (w.gathered.rest k (λ was. let bad : false ≡ true = rw (e, f) at ((all_passed over k).0 was) in true≢false (sym bad))))
+      go k None None e f = inr (ap (λ (x : Trio). x.archive)
+          (w.gathered.rest k (λ was. let bad : false ≡ true = rw (e, f) at ((all_passed over k).0 was) in true≢false (sym bad))))

@@ -42,7 +42,8 @@ module _ (n : Name) (es rest : Edges) (e : Name × Archive) (sorted : T (is_sort
   later_too k before after = name_total.trans e.0 n k before after
 
 -- the first name is greater already
-pub not_there : (n : Name) (es : Edges) (e : Name × Archive) → T (is_sorted name_cmp es) → 0 < length es → e ≡ slice_index_or es 0 e → name_cmp e.0 n ≡ Greater → None ≡ found n es
+pub not_there : (n : Name) (es : Edges) (e : Name × Archive) → T (is_sorted name_cmp es) → 0 < length es → e ≡ slice_index_or es 0 e
+    → name_cmp e.0 n ≡ Greater → None ≡ found n es
 not_there n es e sorted some is greater = sym (ap nothing_or (not_found n es apart))
   where
     first : name_cmp n e.0 ≡ Less
@@ -57,7 +58,8 @@ not_there n es e sorted some is greater = sym (ap nothing_or (not_found n es apa
 
     apart : (j : ℕ) (d : Name × Archive) → j < length es → is_eq (name_cmp n (get_or es j d).0) ≡ false
     apart zero d lt = ap is_eq (ap (λ (x : Name × Archive). name_cmp n x.0) (at_first d) ∙ first)
-    apart (suc j) d lt = ap is_eq (name_total.trans n e.0 (get_or es (suc j) d).0 first (ap (λ (x : Name × Archive). name_cmp x.0 (get_or es (suc j) d).0) (sym (at_first d)) ∙ rises es sorted 0 (suc j) d (omega arith) lt))
+    apart (suc j) d lt = ap is_eq (name_total.trans n e.0 (get_or es (suc j) d).0 first
+        (ap (λ (x : Name × Archive). name_cmp x.0 (get_or es (suc j) d).0) (sym (at_first d)) ∙ rises es sorted 0 (suc j) d (omega arith) lt))
 
 pub tied_later : (m n k : Name) → name_cmp m n ≡ Equal → name_cmp n k ≡ Less → name_cmp m k ≡ Less
 tied_later m n k tie less = ap (λ x. name_cmp x k) (name_one m n tie) ∙ less

@@ -25,14 +25,16 @@ news_once : (archive keeper : View) (p q r : Path) → IsFirstNews archive keepe
 news_once archive keeper p q r one other =
     one.is ∙ ap (λ z. p ++ z) (first_once (λ z. IsNews archive keeper (p ++ z)) one.below other.below one.first other.first) ∙ sym other.is
 
-lost_once : (v : Views) (p q r : Path) → LosesFirst v.archive v.left v.right p q ⊎ LosesFirst v.archive v.right v.left p q → LosesFirst v.archive v.left v.right p r ⊎ LosesFirst v.archive v.right v.left p r → q ≡ r
+lost_once : (v : Views) (p q r : Path) → LosesFirst v.archive v.left v.right p q ⊎ LosesFirst v.archive v.right v.left p q
+    → LosesFirst v.archive v.left v.right p r ⊎ LosesFirst v.archive v.right v.left p r → q ≡ r
 lost_once v p q r (inl one) (inl other) = news_once v.archive v.left p q r one.first other.first
 lost_once v p q r (inl one) (inr other) = absurd (not_both one.lost.has other.lost.lacks (λ e. let f : ⊥ = cc in f))
 lost_once v p q r (inr one) (inl other) = absurd (not_both one.lost.has other.lost.lacks (λ e. let f : ⊥ = cc in f))
 lost_once v p q r (inr one) (inr other) = news_once v.archive v.right p q r one.first other.first
 
 module _ (s : SchemaValue) (i : NodeId) (v : Views) (p : Path) where
-  lacks_one : (q : Path) → v.left p ≡ Present → v.right p ≡ Present → LosesFirst v.archive v.left v.right p q ⊎ LosesFirst v.archive v.right v.left p q → ⊥
+  lacks_one : (q : Path) → v.left p ≡ Present → v.right p ≡ Present
+      → LosesFirst v.archive v.left v.right p q ⊎ LosesFirst v.archive v.right v.left p q → ⊥
   lacks_one q left right (inl l) = not_both right l.lost.lacks (λ e. let f : ⊥ = cc in f)
   lacks_one q left right (inr l) = not_both left l.lost.lacks (λ e. let f : ⊥ = cc in f)
 
@@ -62,13 +64,18 @@ module _ (s : SchemaValue) (i : NodeId) (v : Views) where
       let first : c.path ≡ d.path = cc in
       let rest : map (λ (c : Conflict). c.path) cs ≡ map (λ (c : Conflict). c.path) ds = cc in
       let reason = reason_once s i v d.path c.why d.why (subst (λ p. ShowsWhy s i v p c.why) first (f 0 c (omega arith))) (g 0 d (omega arith)) in
-      λ x. record { path = first x; why = reason x } ∷ list_once cs ds rest (λ n y lt. f (suc n) y (omega (arith, lt))) (λ n y lt. g (suc n) y (omega (arith, lt))) x
+      λ x. record { path = first x; why = reason x } ∷ list_once cs ds rest (λ n y lt. f (suc n) y (omega (arith, lt)))
+      (λ n y lt. g (suc n) y (omega (arith, lt))) x
 
   pub conflicts_once : (archive : View) (cs ds : List Conflict) → AreConflicts s i v archive cs → AreConflicts s i v archive ds → cs ≡ ds
   conflicts_once archive cs ds one other = list_once cs ds (marks_once archive _ _ one.at_marks other.at_marks) one.each other.each
 
 -- there is one outcome with its conflicts
-pub once_with : (s : SchemaValue) (i : NodeId) (before one other : Trio) (cs ds : List Conflict) → IsOutcomeWith s i before one cs → IsOutcomeWith s i before other ds → (one ≡ other) × (cs ≡ ds)
+pub once_with : (s : SchemaValue) (i : NodeId) (before one other : Trio) (cs ds : List Conflict) → IsOutcomeWith s i before one cs
+    → IsOutcomeWith s i before other ds → (one ≡ other) × (cs ≡ ds)
 once_with s i before one other cs ds first second =
-    let same = outcome_once s i before one other first.outcome second.outcome in
-    (same, conflicts_once s i (views before) (views other).archive cs ds (subst (λ (t : Trio). AreConflicts s i (views before) (views t).archive cs) same first.remain) second.remain)
+    let same = outcome_once s i before one other first.outcome second.outcome in (
+      same,
+      conflicts_once s i (views before) (views other).archive cs ds
+          (subst (λ (t : Trio). AreConflicts s i (views before) (views t).archive cs) same first.remain) second.remain,
+    )

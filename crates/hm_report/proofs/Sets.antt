@@ -38,7 +38,8 @@ names_behind (k ∷ names) =
     ap (λ l. 44 ∷ (spelled k ++ l)) (names_behind names)
     ∙ sym (append_assoc (44 ∷ spelled k) (flat_map (λ n. 44 ∷ spelled n) names) (125 ∷ []))
 
-pub names_done : (old new : List ℕ) (k : Name) (names : List Name) (i : ℕ) → length names ≤ i → new ≡ old ++ (123 ∷ spelled k) ++ flat_map (λ n. 44 ∷ spelled n) (take i names) → new ++ 125 ∷ [] ≡ old ++ names_text (k ∷ names)
+pub names_done : (old new : List ℕ) (k : Name) (names : List Name) (i : ℕ) → length names ≤ i
+    → new ≡ old ++ (123 ∷ spelled k) ++ flat_map (λ n. 44 ∷ spelled n) (take i names) → new ++ 125 ∷ [] ≡ old ++ names_text (k ∷ names)
 names_done old new k names i le e =
     let more = flat_map (λ n. 44 ∷ spelled n) names in
     ap (λ l. l ++ 125 ∷ []) (e ∙ ap (λ l. old ++ (123 ∷ spelled k) ++ flat_map (λ n. 44 ∷ spelled n) l) (take_all i names le))

@@ -32,6 +32,7 @@ pub data ShowsWhy (s : SchemaValue) (i : NodeId) (v : Views) (p : Path) : Why �
   -- an earlier mark, where the sides still differ
   earlier : v.archive p ≡ Marked → Differ v p → ShowsWhy s i v p why.Earlier
   -- one side deleted it, and the other has changed it
-  lost : {q : Path} → v.archive p ≡ Present → LosesFirst v.archive v.left v.right p q ⊎ LosesFirst v.archive v.right v.left p q → ShowsWhy s i v p (why.Lost q)
+  lost : {q : Path} → v.archive p ≡ Present → LosesFirst v.archive v.left v.right p q ⊎ LosesFirst v.archive v.right v.left p q
+      → ShowsWhy s i v p (why.Lost q)
   -- names that can't stand together
   refused : {left right : Names} → AreRefused s i v p left right → ShowsWhy s i v p (why.Names left right)

@@ -14,8 +14,11 @@ use Rattle.hm_run.specs.Verdict.{Synced, Becomes, HasConflicts, Tells, texts_of}
 use Rattle.hm_run.specs.Making.{new_texts, all_as, IsMade}
 use Rattle.hm_run.specs.Reads.{Trees}
 
-pub made : {E : Type 0} (r : Result NewTexts E) (before : Trees) (after : Synced) (conflicts : List Conflict) → Becomes before after → HasConflicts before after conflicts → IfOk r (λ f. new_texts f ≡ texts_of after) → IfOk r (λ f. Tells conflicts f.output) → IfOk r (IsMade before)
-made (Ok f) before after conflicts becomes remain texts tells = record { after = after; becomes = becomes; texts = texts; tells = record { conflicts = conflicts; remain = remain; tells = tells } }
+pub made : {E : Type 0} (r : Result NewTexts E) (before : Trees) (after : Synced) (conflicts : List Conflict) → Becomes before after
+    → HasConflicts before after conflicts → IfOk r (λ f. new_texts f ≡ texts_of after) → IfOk r (λ f. Tells conflicts f.output)
+    → IfOk r (IsMade before)
+made (Ok f) before after conflicts becomes remain texts tells =
+    record { after = after; becomes = becomes; texts = texts; tells = record { conflicts = conflicts; remain = remain; tells = tells } }
 made (Err e) before after conflicts becomes remain texts tells = tt
 
 -- ---- where all three become as one tree
@@ -25,7 +28,8 @@ text-recorded : (t : Tree) → tree_text t ≡ archive_text (Some (recorded t))
 unfolding recorded
 text-recorded t = refl
 
-pub for_all : (t : Tree) (made : NewTexts) → made.archive.items ≡ made.right.items → made.left.items ≡ made.right.items → made.right.items ≡ tree_text t → new_texts made ≡ texts_of (all_as t)
+pub for_all : (t : Tree) (made : NewTexts) → made.archive.items ≡ made.right.items → made.left.items ≡ made.right.items
+    → made.right.items ≡ tree_text t → new_texts made ≡ texts_of (all_as t)
 for_all t made archive left right = λ x. record {
   archive = (archive ∙ right ∙ text-recorded t) x;
   left = (left ∙ right) x;

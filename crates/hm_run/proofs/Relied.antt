@@ -52,7 +52,8 @@ planned_founded files before plan _ of e (goes_on h (stops k)) = absurd (let no 
 planned_founded files before plan r of e (goes_on {x = after} h (goes_on k is)) =
     subst IsFounded (plan_is (record { files = files; before = before; after = after }) plan (sym is ∙ e)) (record { outcome = h; of_schema = of })
 
-founded : (c : Contents) (meant : Result FileNames Refusal) (plan : Plan) (r : Result Plan Refusal) → r ≡ Ok plan → VerdictOf c meant r → IsFounded plan
+founded : (c : Contents) (meant : Result FileNames Refusal) (plan : Plan) (r : Result Plan Refusal) → r ≡ Ok plan → VerdictOf c meant r
+    → IsFounded plan
 unfolding VerdictOf PlansFrom
 founded c meant plan _ e (stops h) = absurd (let no : ⊥ = cc in no)
 founded c meant plan _ e (goes_on h (stops k)) = absurd (let no : ⊥ = cc in no)
@@ -237,7 +238,8 @@ module _ (words : List Name) (before after : Outside) where
   refused_by (Err (Fault kind at)) answer s h c told = absurd (omega (arith, fault_high kind at answer))
   refused_by (Err Memory) answer s h c told = absurd (omega (arith, spent answer))
 
-  module _ (same_failed : after.failed ≡ before.failed) (same_faults : after.faults ≡ before.faults) (c : Contents) (told : before.contents ≡ Some c) where
+  module _ (same_failed : after.failed ≡ before.failed) (same_faults : after.faults ≡ before.faults) (c : Contents)
+      (told : before.contents ≡ Some c) where
     -- no output was put out in part
     put_whole : (work : Result Output Stop) (answer : Put) → HasPut work answer before after
         → (put_status work answer ≡ 5) ⊎ (put_status work answer ≡ work_status work)
@@ -263,14 +265,19 @@ module _ (words : List Name) (before after : Outside) where
         let refused = is_refused h c told in record {
           carried_out = λ plan k. absurd (let e = verdict_once c (meaning words) (Ok plan) (Err refusal) k refused.first in let no : ⊥ = cc in no);
           refused = λ other k. ⊎_elim (λ five. inl five)
-              (λ whole. inr (whole ∙ ap refusal_status (same_refusal refusal other (verdict_once c (meaning words) (Err refusal) (Err other) refused.first k)), refused.same))
+              (λ whole. inr (
+                whole ∙ ap refusal_status
+                    (same_refusal refusal other (verdict_once c (meaning words) (Err refusal) (Err other) refused.first k)),
+                refused.same,
+              ))
               (put_whole (Err (Refused refusal)) answer h.1);
         }
     complete_by (Err (Fault kind at)) answer h =
         absurd (worked_fault (meaning words) before.contents after.contents before.failed after.failed kind at same_failed h.0)
     complete_by (Err Memory) answer h = record { carried_out = λ plan k. inl (spent answer); refused = λ other k. inl (spent answer) }
 
-module _ (ending : Ending) (words : List Name) (before after : Outside) (status : ℕ) (is : status ≡ status_of ending) (h : EndsAs ending words before after) where
+module _ (ending : Ending) (words : List Name) (before after : Outside) (status : ℕ) (is : status ≡ status_of ending)
+    (h : EndsAs ending words before after) where
   abbrev ended : Ended words before after ending.work ending.put
   ended = (h.works, h.puts)
 

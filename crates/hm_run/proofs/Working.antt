@@ -95,7 +95,8 @@ module _ (files : FileNames) (all : List (List ℕ)) where
 
     pub measures_stop : (stop : Stop) (r : Result (List NewFile × Output) Stop) → r ≡ Err stop
         → Computes (itself {A = Unit {0}}) (λ found. measures news ≡ found) (Err stop) → Computes itself (Makes files all) r
-    measures_stop stop r is h = computes_stop (itself {A = Unit {0}}) itself (λ found. measures news ≡ found) (Makes files all) stop r is measures_first h
+    measures_stop stop r is h = computes_stop (itself {A = Unit {0}}) itself (λ found. measures news ≡ found) (Makes files all) stop r is
+        measures_first h
 
     pub planned : (output : Output) → measures news ≡ Ok tt → IsReport before after output → IsPlanned files all news output
     unfolding PlansFrom Plans
@@ -140,7 +141,8 @@ module _ (files : FileNames) where
     pub plan_stop : (stop : Stop) (r : Result Output Stop) → r ≡ Err stop → Computes itself (Makes files all) (Err stop)
         → Did itself (Synchronises (Ok files) told left) (IsFault files told left old mid) old mid r
     plan_stop stop r is h =
-        did_stop itself itself (Makes files all) (Synchronises (Ok files) told left) (λ kind at. ⊥) (IsFault files told left old mid) old mid mid stop r is calm
+        did_stop itself itself (Makes files all) (Synchronises (Ok files) told left) (λ kind at. ⊥) (IsFault files told left old mid) old mid
+        mid stop r is calm
         (λ refusal k c is_told. record { first = verdict (Err refusal) c is_told k; same = same ∙ is_told })
         (λ kind at no. absurd no) (at_rest itself (Makes files all) mid stop h)
 

@@ -145,11 +145,19 @@ not_held_back h = elim (h.stops_at (bob ∷ []) topmost) [
 
 -- the left side deleted Bob, and the right side gave him a number
 abbrev bob_has_tel : Tree
-bob_has_tel = record { shape = edge bob (edge tel bare bare) bare; sound = both _ _ (both _ _ bob_text tt) (both _ _ (leaf_sound false tel tel_text) tt) }
+bob_has_tel = record {
+  shape = edge bob (edge tel bare bare) bare;
+  sound = both _ _ (both _ _ bob_text tt) (both _ _ (leaf_sound false tel tel_text) tt);
+}
 
 clashes : Clash (before holds_bob nothing bob_has_tel) (bob ∷ [])
 unfolding edges edges_of is_marked name_cmp
-clashes = inr (record { has = refl; lacks = refl; known = λ e. (let f : Present ≡ Missing = e in let no : ⊥ = cc in no); news = (tel ∷ [], refl, λ e. (let f : Missing ≡ Present = e in let no : ⊥ = cc in no)) })
+clashes = inr (record {
+  has = refl;
+  lacks = refl;
+  known = λ e. (let f : Present ≡ Missing = e in let no : ⊥ = cc in no);
+  news = (tel ∷ [], refl, λ e. (let f : Missing ≡ Present = e in let no : ⊥ = cc in no));
+})
 
 -- a side that still has Bob as he was clashes with no deletion
 clashes_not : ¬ (Clash (before holds_bob nothing has_bob) (bob ∷ []))

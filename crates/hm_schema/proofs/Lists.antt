@@ -25,8 +25,11 @@ module _ {X : Type 0} (P : X → Type 0) where
   none_is xs all (i, x, lt, e, p) = all i x lt (subst P (sym e) p)
 
 module _ {X : Type 0} (p : X → Bool) where
-  pub count_next_yes : (xs : List X) (i : ℕ) (x : X) (n : ℕ) → slice_get xs i ≡ Some x → p x ≡ true → n ≡ count_by p (take i xs) → n + 1 ≡ count_by p (take (i + 1) xs)
-  count_next_yes xs i x n e y c = ap (λ k. k + 1) c ∙ sym (count_by_more_yes p xs i x (slice_get_within xs i x e) (ap p (get_or_from_slice_get xs i x x e) ∙ y))
+  pub count_next_yes : (xs : List X) (i : ℕ) (x : X) (n : ℕ) → slice_get xs i ≡ Some x → p x ≡ true → n ≡ count_by p (take i xs)
+      → n + 1 ≡ count_by p (take (i + 1) xs)
+  count_next_yes xs i x n e y c = ap (λ k. k + 1) c
+      ∙ sym (count_by_more_yes p xs i x (slice_get_within xs i x e) (ap p (get_or_from_slice_get xs i x x e) ∙ y))
 
-  pub count_next_no : (xs : List X) (i : ℕ) (x : X) (n : ℕ) → slice_get xs i ≡ Some x → p x ≡ false → n ≡ count_by p (take i xs) → n ≡ count_by p (take (i + 1) xs)
+  pub count_next_no : (xs : List X) (i : ℕ) (x : X) (n : ℕ) → slice_get xs i ≡ Some x → p x ≡ false → n ≡ count_by p (take i xs)
+      → n ≡ count_by p (take (i + 1) xs)
   count_next_no xs i x n e y c = c ∙ sym (count_by_more_no p xs i x (slice_get_within xs i x e) (ap p (get_or_from_slice_get xs i x x e) ∙ y))

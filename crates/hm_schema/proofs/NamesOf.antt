@@ -40,7 +40,8 @@ module _ (p : Name → Bool) where
   kept : (s : Names) (q : Name) → contains (retain s p) q ≡ (contains s q && p q)
   kept s q = contains-retain s p q (λ x t. ap p (sym (name_one q x t)))
 
-  by_name : (s : Names) (k q : Name) (b : Bool) → eq_by_cmp name_cmp q k ≡ b → p k ≡ true → ((b || contains s q) && p q) ≡ (b || (contains s q && p q))
+  by_name : (s : Names) (k q : Name) (b : Bool) → eq_by_cmp name_cmp q k ≡ b → p k ≡ true
+      → ((b || contains s q) && p q) ≡ (b || (contains s q && p q))
   by_name s k q true e y = ap p (tie_one q k e) ∙ y
   by_name s k q false e y = refl
 
@@ -69,23 +70,28 @@ module _ (p : Name → Bool) where
     nothing_above k [] h = refl
     nothing_above k (e ∷ es) h = go (name_cmp k e.0) refl (nothing_above k es (second _ _ h))
       where
-        go : (r : Ordering) → name_cmp k e.0 ≡ r → list_any (eq_by_cmp name_cmp k) (map (λ e. e.0) es) ≡ false → list_any (eq_by_cmp name_cmp k) (map (λ e. e.0) (e ∷ es)) ≡ false
+        go : (r : Ordering) → name_cmp k e.0 ≡ r → list_any (eq_by_cmp name_cmp k) (map (λ e. e.0) es) ≡ false
+            → list_any (eq_by_cmp name_cmp k) (map (λ e. e.0) (e ∷ es)) ≡ false
         go Less e1 rest = rw e1 rest
         go Equal e1 rest = absurd (subst (λ r. T (is_lt r)) e1 (first _ _ h))
         go Greater e1 rest = absurd (subst (λ r. T (is_lt r)) e1 (first _ _ h))
 
     -- how many names of a list that rises pass a test
-    pub len-retain : (es : List (Name × X)) → T (is_sorted name_cmp es) → len (retain (from_list {R = name_cmp} (map (λ e. e.0) es)) p) ≡ count_by (λ e. p e.0) es
+    pub len-retain : (es : List (Name × X)) → T (is_sorted name_cmp es)
+        → len (retain (from_list {R = name_cmp} (map (λ e. e.0) es)) p) ≡ count_by (λ e. p e.0) es
     len-retain [] h = ap len retain_empty ∙ len-empty name_cmp
-    len-retain (e ∷ es) h = go (from_list (map (λ e. e.0) es)) (p e.0) refl absent (len-retain es (second _ _ h)) ∙ sym (sum_by-cons (λ (e : Name × X). cond (p e.0) 1 0) e es)
+    len-retain (e ∷ es) h = go (from_list (map (λ e. e.0) es)) (p e.0) refl absent (len-retain es (second _ _ h))
+        ∙ sym (sum_by-cons (λ (e : Name × X). cond (p e.0) 1 0) e es)
       where
         absent : contains (from_list {R = name_cmp} (map (λ e. e.0) es)) e.0 ≡ false
         absent = contains-from_list name_total (map (λ e. e.0) es) e.0 ∙ nothing_above e.0 es (first _ _ h)
 
-        go : (s : Names) (b : Bool) → p e.0 ≡ b → contains s e.0 ≡ false → len (retain s p) ≡ count_by (λ e. p e.0) es → len (retain (insert s e.0) p) ≡ cond (p e.0) 1 0 + count_by (λ e. p e.0) es
+        go : (s : Names) (b : Bool) → p e.0 ≡ b → contains s e.0 ≡ false → len (retain s p) ≡ count_by (λ e. p e.0) es
+            → len (retain (insert s e.0) p) ≡ cond (p e.0) 1 0 + count_by (λ e. p e.0) es
         go s true y new rest =
             let off : contains (retain s p) e.0 ≡ false = kept s e.0 ∙ ap (λ b. b && p e.0) new in
-            let more : len (retain (insert s e.0) p) ≡ len (retain s p) + 1 = ap len (retain_insert_yes s e.0 y) ∙ len-insert name_total (retain s p) e.0 ∙ ap (λ b. cond b (len (retain s p)) (len (retain s p) + 1)) off in
+            let more : len (retain (insert s e.0) p) ≡ len (retain s p) + 1 = ap len (retain_insert_yes s e.0 y)
+            ∙ len-insert name_total (retain s p) e.0 ∙ ap (λ b. cond b (len (retain s p)) (len (retain s p) + 1)) off in
             rw y (omega arith)
         go s false n new rest =
             let same : len (retain (insert s e.0) p) ≡ len (retain s p) = ap len (retain_insert_no s e.0 n) in
@@ -100,7 +106,8 @@ module _ (p : Name → Bool) where
     where
       count_beside : (names : List Name) → count_by (λ e. p e.0) (beside names) ≡ count_by p names
       count_beside [] = refl
-      count_beside (k ∷ names) = sum_by-cons (λ (e : Name × Unit {0}). cond (p e.0) 1 0) (k, tt) (beside names) ∙ ap (λ n. cond (p k) 1 0 + n) (count_beside names) ∙ sym (sum_by-cons (λ k. cond (p k) 1 0) k names)
+      count_beside (k ∷ names) = sum_by-cons (λ (e : Name × Unit {0}). cond (p e.0) 1 0) (k, tt) (beside names)
+          ∙ ap (λ n. cond (p k) 1 0 + n) (count_beside names) ∙ sym (sum_by-cons (λ k. cond (p k) 1 0) k names)
 
 -- ---- what holds of each listed name
 
@@ -110,7 +117,8 @@ module _ {X : Type 0} where
   found_in P [] all k h = absurd (true≢false (sym h))
   found_in P (e ∷ es) all k h = go (eq_by_cmp name_cmp k e.0) refl h (λ there. found_in P es (All-tail (λ (e : Name × X). P e.0) e es all) k there)
     where
-      go : (b : Bool) → eq_by_cmp name_cmp k e.0 ≡ b → is_some (cond b (Some e.1) (find name_cmp k es)) ≡ true → (IsTrue (is_some (find name_cmp k es)) → P k) → P k
+      go : (b : Bool) → eq_by_cmp name_cmp k e.0 ≡ b → is_some (cond b (Some e.1) (find name_cmp k es)) ≡ true
+          → (IsTrue (is_some (find name_cmp k es)) → P k) → P k
       go true t h rest = subst P (sym (tie_one k e.0 t)) (All-head (λ (e : Name × X). P e.0) e es all)
       go false t h rest = rest h
 
@@ -125,10 +133,13 @@ module _ {X : Type 0} where
       go false there = there
 
   -- what holds of each item of a list holds of what is found under a name
-  pub found_value : (P : Name → X → Type 0) (es : List (Name × X)) → All (λ e. P e.0 e.1) es → (k : Name) (x : X) → find name_cmp k es ≡ Some x → P k x
+  pub found_value : (P : Name → X → Type 0) (es : List (Name × X)) → All (λ e. P e.0 e.1) es → (k : Name) (x : X) → find name_cmp k es ≡ Some x
+      → P k x
   found_value P [] all k x e = absurd (none-some x e)
-  found_value P (y ∷ es) all k x e = go (eq_by_cmp name_cmp k y.0) refl e (λ there. found_value P es (All-tail (λ (e : Name × X). P e.0 e.1) y es all) k x there)
+  found_value P (y ∷ es) all k x e = go (eq_by_cmp name_cmp k y.0) refl e
+      (λ there. found_value P es (All-tail (λ (e : Name × X). P e.0 e.1) y es all) k x there)
     where
       go : (b : Bool) → eq_by_cmp name_cmp k y.0 ≡ b → cond b (Some y.1) (find name_cmp k es) ≡ Some x → (find name_cmp k es ≡ Some x → P k x) → P k x
-      go true t e rest = subst (λ k. P k x) (sym (tie_one k y.0 t)) (subst (P y.0) (same_Some y.1 x e) (All-head (λ (e : Name × X). P e.0 e.1) y es all))
+      go true t e rest = subst (λ k. P k x) (sym (tie_one k y.0 t))
+          (subst (P y.0) (same_Some y.1 x e) (All-head (λ (e : Name × X). P e.0 e.1) y es all))
       go false t e rest = rest e

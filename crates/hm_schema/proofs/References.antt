@@ -28,9 +28,12 @@ child_in_range count n k j h is = listed (find name_cmp k n.children) refl (othe
     other None h e = absurd (none-some j e)
     other (Some o) h e = subst (λ (j : NodeId). j.place < count) (same_Some o.1 j e) h
 
-    listed : (x : Option NodeId) → find name_cmp k n.children ≡ x → (option_map (λ (o : Class × NodeId). o.1) n.other ≡ Some j → j.place < count) → option_or x (option_map (λ (o : Class × NodeId). o.1) n.other) ≡ Some j → j.place < count
+    listed : (x : Option NodeId) → find name_cmp k n.children ≡ x
+        → (option_map (λ (o : Class × NodeId). o.1) n.other ≡ Some j → j.place < count)
+        → option_or x (option_map (λ (o : Class × NodeId). o.1) n.other) ≡ Some j → j.place < count
     listed None e rest is = rest is
-    listed (Some i) e rest is = subst (λ (j : NodeId). j.place < count) (same_Some i j is) (found_value (λ (k : Name) (j : NodeId). j.place < count) n.children h.children k i e)
+    listed (Some i) e rest is = subst (λ (j : NodeId). j.place < count) (same_Some i j is)
+        (found_value (λ (k : Name) (j : NodeId). j.place < count) n.children h.children k i e)
 
 -- a name that is permitted has a node
 pub child_there : (n : NodeValue) (names : Names) (k : Name) → Permits n names → IsTrue (contains names k) → IsSome (child_of n k)
@@ -54,10 +57,12 @@ module _ (s : SchemaValue) (i : NodeId) (n : NodeValue) (here : node_at s i ≡ 
 -- ---- where a path leads, of which i names were passed
 
 module _ (s : SchemaValue) where
-  pub led_down : (i j : NodeId) (p : Path) (n : ℕ) (k : Name) → n < length p → k ≡ get_or p n k → child_at s i k ≡ Some j → reached s i (drop n p) ≡ reached s j (drop (n + 1) p)
+  pub led_down : (i j : NodeId) (p : Path) (n : ℕ) (k : Name) → n < length p → k ≡ get_or p n k → child_at s i k ≡ Some j
+      → reached s i (drop n p) ≡ reached s j (drop (n + 1) p)
   led_down i j p n k lt e is = ap (reached s i) (front_is p n k lt e) ∙ ap (option_and_then (λ j. reached s j (drop (n + 1) p))) is
 
-  pub leads_on : (i : NodeId) (p : Path) (n : ℕ) (k : Name) → n < length p → k ≡ get_or p n k → IsSome (reached s i (drop n p)) → IsSome (child_at s i k)
+  pub leads_on : (i : NodeId) (p : Path) (n : ℕ) (k : Name) → n < length p → k ≡ get_or p n k → IsSome (reached s i (drop n p))
+      → IsSome (child_at s i k)
   leads_on i p n k lt e some = go (child_at s i k) (subst IsSome (ap (reached s i) (front_is p n k lt e)) some)
     where
       go : (x : Option NodeId) → IsSome (option_and_then (λ j. reached s j (drop (n + 1) p)) x) → IsSome x
@@ -69,7 +74,9 @@ module _ (s : SchemaValue) where
 
 -- ---- the node that is kept at a place
 
-pub node_kept : (nodes : List Node) (root : NodeId) (s : SchemaValue) (i : NodeId) (n : Node) → schema_value nodes root ≡ s → i.place < length s.nodes → n ≡ get_or nodes i.place n → node_at s i ≡ Some (node_value n)
+pub node_kept : (nodes : List Node) (root : NodeId) (s : SchemaValue) (i : NodeId) (n : Node) → schema_value nodes root ≡ s
+    → i.place < length s.nodes → n ≡ get_or nodes i.place n → node_at s i ≡ Some (node_value n)
 node_kept nodes root s i n e lt at =
     let within : i.place < length nodes = omega (arith, ap (λ (s : SchemaValue). length s.nodes) e, length-map nodes node_value) in
-    sym (ap (λ s. node_at s i) e) ∙ slice_get-map node_value nodes i.place ∙ ap (option_map node_value) (slice_get_read nodes (length nodes) i.place n refl within at)
+    sym (ap (λ s. node_at s i) e) ∙ slice_get-map node_value nodes i.place
+    ∙ ap (option_map node_value) (slice_get_read nodes (length nodes) i.place n refl within at)

@@ -36,7 +36,8 @@ abbrev pub unlisted_alone : Class → ℕ → Option ℕ → SchemaValue
 unlisted_alone class least most = record { nodes = alone class least most ∷ []; root = record { place = 0 } }
 
 -- each path leads to its one node
-pub unlisted_alone_leads : (class : Class) (least : ℕ) (most : Option ℕ) (p : Path) → IsSome (reached (unlisted_alone class least most) (record { place = 0 }) p)
+pub unlisted_alone_leads : (class : Class) (least : ℕ) (most : Option ℕ) (p : Path)
+    → IsSome (reached (unlisted_alone class least most) (record { place = 0 }) p)
 unlisted_alone_leads class least most [] = refl
 unlisted_alone_leads class least most (k ∷ p) = unlisted_alone_leads class least most p
 
@@ -50,17 +51,20 @@ one_item : {X : Type 0} (P : X → Type 0) (x : X) → P x → All P (x ∷ [])
 one_item P x p = All-cons P x [] p (All-nil P)
 
 -- of a list of listed names each one that ties is listed
-in_list : (n : NodeValue) (ks : List Name) → All (λ k. IsTrue (is_listed n k)) ks → (k : Name) → IsTrue (list_any (eq_by_cmp name_cmp k) ks) → IsTrue (is_listed n k)
+in_list : (n : NodeValue) (ks : List Name) → All (λ k. IsTrue (is_listed n k)) ks → (k : Name) → IsTrue (list_any (eq_by_cmp name_cmp k) ks)
+    → IsTrue (is_listed n k)
 in_list n [] all k h = absurd (true≢false (sym h))
 in_list n (x ∷ ks) all k h = go (eq_by_cmp name_cmp k x) refl h (λ rest. in_list n ks (All-tail (λ k. IsTrue (is_listed n k)) x ks all) k rest)
   where
-    go : (b : Bool) → eq_by_cmp name_cmp k x ≡ b → IsTrue (b || list_any (eq_by_cmp name_cmp k) ks) → (IsTrue (list_any (eq_by_cmp name_cmp k) ks) → IsTrue (is_listed n k)) → IsTrue (is_listed n k)
+    go : (b : Bool) → eq_by_cmp name_cmp k x ≡ b → IsTrue (b || list_any (eq_by_cmp name_cmp k) ks)
+        → (IsTrue (list_any (eq_by_cmp name_cmp k) ks) → IsTrue (is_listed n k)) → IsTrue (is_listed n k)
     go true t h rest = subst (λ k. IsTrue (is_listed n k)) (sym (tie_one k x t)) (All-head (λ k. IsTrue (is_listed n k)) x ks all)
     go false t h rest = rest h
 
 optional_formed : (n : NodeValue) (ks : List Name) → All (λ k. IsTrue (is_listed n k)) ks → IsWellFormedShape n (optional ks)
 optional_formed n ks all = record {
-  listed = λ k h. in_list n ks all k (sym (contains-from_list name_total ks k) ∙ sym (ap (λ b. b || contains (from_list {R = name_cmp} ks) k) (contains-from_list name_total [] k)) ∙ h);
+  listed = λ k h. in_list n ks all k (sym (contains-from_list name_total ks k)
+      ∙ sym (ap (λ b. b || contains (from_list {R = name_cmp} ks) k) (contains-from_list name_total [] k)) ∙ h);
   apart = λ k h. absurd (in_none k h);
   ordered = omega arith;
   none = λ e. (refl, refl);
@@ -76,14 +80,27 @@ bare_formed = record {
   twins = All-nil _;
 }
 
-pub unlisted_alone_formed : (class : Class) (least : ℕ) (most : Option ℕ) → IfSome most (λ most. least ≤ most) → IsWellFormed (unlisted_alone class least most)
+pub unlisted_alone_formed : (class : Class) (least : ℕ) (most : Option ℕ) → IfSome most (λ most. least ≤ most)
+    → IsWellFormed (unlisted_alone class least most)
 unlisted_alone_formed class least most h = record { nodes = one_item (IsWellFormedNode 1) (alone class least most) root; root = omega arith }
   where
     formed : IsWellFormedShape (alone class least most) (counted least most)
-    formed = record { listed = λ k h. absurd (neither k h); apart = λ k h. absurd (in_none k h); ordered = h; none = λ e. absurd (none-some (class, record { place = 0 }) (sym e)) }
+    formed = record {
+      listed = λ k h. absurd (neither k h);
+      apart = λ k h. absurd (in_none k h);
+      ordered = h;
+      none = λ e. absurd (none-some (class, record { place = 0 }) (sym e));
+    }
 
     root : IsWellFormedNode 1 (alone class least most)
-    root = record { ascending = tt; children = All-nil _; other = omega arith; shapes = one_item (IsWellFormedShape (alone class least most)) (counted least most) formed; some_shape = omega arith; twins = All-nil _ }
+    root = record {
+      ascending = tt;
+      children = All-nil _;
+      other = omega arith;
+      shapes = one_item (IsWellFormedShape (alone class least most)) (counted least most) formed;
+      some_shape = omega arith;
+      twins = All-nil _;
+    }
 
 -- a node of three listed names, of which any two or fewer are permitted
 abbrev pub two : Name → Name → Name → NodeValue
@@ -98,7 +115,8 @@ abbrev pub two_of_three : Name → Name → Name → SchemaValue
 two_of_three x y z = record { nodes = two x y z ∷ bare ∷ []; root = record { place = 0 } }
 
 pub two_of_three_formed : (x y z : Name) → T (is_sorted name_cmp (two x y z).children) → IsWellFormed (two_of_three x y z)
-two_of_three_formed x y z rise = record { nodes = All-cons (IsWellFormedNode 2) (two x y z) (bare ∷ []) root (one_item (IsWellFormedNode 2) bare bare_formed); root = omega arith }
+two_of_three_formed x y z rise =
+    record { nodes = All-cons (IsWellFormedNode 2) (two x y z) (bare ∷ []) root (one_item (IsWellFormedNode 2) bare bare_formed); root = omega arith }
   where
     root : IsWellFormedNode 2 (two x y z)
     root =
@@ -109,11 +127,16 @@ two_of_three_formed x y z rise = record { nodes = All-cons (IsWellFormedNode 2) 
         let L : Name → Type 0 = λ k. IsTrue (is_listed (two x y z) k) in
         record {
           ascending = rise;
-          children = All-cons I (x, record { place = 1 }) ((y, record { place = 1 }) ∷ (z, record { place = 1 }) ∷ []) (omega arith) (All-cons I (y, record { place = 1 }) ((z, record { place = 1 }) ∷ []) (omega arith) (one_item I (z, record { place = 1 }) (omega arith)));
+          children = All-cons I (x, record { place = 1 }) ((y, record { place = 1 }) ∷ (z, record { place = 1 }) ∷ []) (omega arith)
+              (All-cons I (y, record { place = 1 }) ((z, record { place = 1 }) ∷ []) (omega arith)
+              (one_item I (z, record { place = 1 }) (omega arith)));
           other = tt;
-          shapes = All-cons (IsWellFormedShape (two x y z)) (optional (x ∷ y ∷ [])) (optional (x ∷ z ∷ []) ∷ optional (y ∷ z ∷ []) ∷ []) (optional_formed (two x y z) (x ∷ y ∷ []) (All-cons L x (y ∷ []) first (one_item L y second)))
-              (All-cons (IsWellFormedShape (two x y z)) (optional (x ∷ z ∷ [])) (optional (y ∷ z ∷ []) ∷ []) (optional_formed (two x y z) (x ∷ z ∷ []) (All-cons L x (z ∷ []) first (one_item L z third)))
-              (one_item (IsWellFormedShape (two x y z)) (optional (y ∷ z ∷ [])) (optional_formed (two x y z) (y ∷ z ∷ []) (All-cons L y (z ∷ []) second (one_item L z third)))));
+          shapes = All-cons (IsWellFormedShape (two x y z)) (optional (x ∷ y ∷ [])) (optional (x ∷ z ∷ []) ∷ optional (y ∷ z ∷ []) ∷ [])
+              (optional_formed (two x y z) (x ∷ y ∷ []) (All-cons L x (y ∷ []) first (one_item L y second)))
+              (All-cons (IsWellFormedShape (two x y z)) (optional (x ∷ z ∷ [])) (optional (y ∷ z ∷ []) ∷ [])
+              (optional_formed (two x y z) (x ∷ z ∷ []) (All-cons L x (z ∷ []) first (one_item L z third)))
+              (one_item (IsWellFormedShape (two x y z)) (optional (y ∷ z ∷ []))
+              (optional_formed (two x y z) (y ∷ z ∷ []) (All-cons L y (z ∷ []) second (one_item L z third)))));
           some_shape = omega arith;
           twins = All-nil (λ (t : Name × Name). IsTrue (is_listed (two x y z) t.0) × IsTrue (is_listed (two x y z) t.1));
         }

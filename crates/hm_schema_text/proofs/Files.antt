@@ -16,18 +16,21 @@ use Rattle.hm_schema_text.specs.Head.{NamesRoot}
 use Rattle.hm_schema_text.specs.BadLines.{IsBadLine, of_node, IsFirstBadLine}
 use Rattle.hm_schema_text.specs.SchemaFiles.{IsSchemaFile}
 
-module _ (bytes : List ℕ) (entries : List Entry) (read : AreEntries bytes (entry_values entries)) (sound : HasNoBad (IsBadLine bytes (entry_values entries))) where
+module _ (bytes : List ℕ) (entries : List Entry) (read : AreEntries bytes (entry_values entries))
+    (sound : HasNoBad (IsBadLine bytes (entry_values entries))) where
   pub missing_line : (n : ℕ) → n ≡ length entries → count_by is_counted (entry_values entries) < 2 → IsFirstBadLine bytes (n + 1)
   missing_line n told few = record {
     entries = entry_values entries;
     read = read;
-    told = subst (λ m. IsTold (IsBadLine bytes (entry_values entries)) (count_by is_counted (entry_values entries) < 2) (length (entry_values entries)) (m + 1))
+    told = subst (λ m. IsTold (IsBadLine bytes (entry_values entries)) (count_by is_counted (entry_values entries) < 2)
+        (length (entry_values entries)) (m + 1))
         (length-map entries entry_value ∙ sym told)
         (behind_all sound few);
   }
 
   pub schema_file : (nodes : List Node) (id : NodeId) (w : Name) → NamesRoot bytes (entry_values entries) w
-      → IsPlaceOf (entry_values entries) w id.place → AreNodesOf (entry_values entries) (w ∷ []) (map node_value nodes) → IsSchemaFile bytes (schema_value nodes id)
+      → IsPlaceOf (entry_values entries) w id.place → AreNodesOf (entry_values entries) (w ∷ []) (map node_value nodes)
+      → IsSchemaFile bytes (schema_value nodes id)
   schema_file nodes id w named place are =
       record { entries = entry_values entries; read = read; sound = sound; name = w; named = named; nodes = are; root = place }
 

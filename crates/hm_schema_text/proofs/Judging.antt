@@ -34,20 +34,24 @@ root_is line ts s None none = λ w root. none w (spaced_one ts _ line line refl 
 root_is line ts s (Some w) is = subst (λ z. Spaced z line) is s
 
 -- one line more
-pub lines_next : (es : List EntryValue) (i : ℕ) (e : EntryValue) → slice_get es i ≡ Some e → lines_before es i + from_bool (is_counted e) ≡ lines_before es (i + 1)
+pub lines_next : (es : List EntryValue) (i : ℕ) (e : EntryValue) → slice_get es i ≡ Some e
+    → lines_before es i + from_bool (is_counted e) ≡ lines_before es (i + 1)
 lines_next es i e is = go (is_counted e) refl
   where
     go : (b : Bool) → is_counted e ≡ b → lines_before es i + from_bool b ≡ lines_before es (i + 1)
     go true told = sym (count_by_more_yes is_counted es i e (slice_get_within es i e is) (ap is_counted (get_or_from_slice_get es i e e is) ∙ told))
-    go false told = let more = count_by_more_no is_counted es i e (slice_get_within es i e is) (ap is_counted (get_or_from_slice_get es i e e is) ∙ told) in omega arith
+    go false told = let more = count_by_more_no is_counted es i e (slice_get_within es i e is)
+        (ap is_counted (get_or_from_slice_get es i e e is) ∙ told) in omega arith
 
 module _ (bytes : List ℕ) (es : List EntryValue) (i : ℕ) where
   module _ (read : AreEntries bytes es) where
     -- the tokens of a bad line of a node begin with the letter of `node`, where no spaces stand in front
-    node_letter : IsBadNodeLine es i → (line : List ℕ) → slice_get (texts_of bytes) i ≡ Some line → (ts : List Token) → Spaced ts line → first_letter ts ≡ 110
+    node_letter : IsBadNodeLine es i → (line : List ℕ) → slice_get (texts_of bytes) i ≡ Some line → (ts : List Token) → Spaced ts line
+        → first_letter ts ≡ 110
     node_letter bad line at ts s =
         let x = bad_says es i bad in
-        let entry = subst (λ o. MatchOption o (Unit {0}) (λ y. IsSomeAnd (slice_get (texts_of bytes) i) (λ t. IsEntry t y))) x.1 (AllZip-right IsEntry (texts_of bytes) es read i) in
+        let entry = subst (λ o. MatchOption o (Unit {0}) (λ y. IsSomeAnd (slice_get (texts_of bytes) i) (λ t. IsEntry t y))) x.1
+        (AllZip-right IsEntry (texts_of bytes) es read i) in
         let its = subst (λ o. IsSomeAnd o (λ t. IsEntry t (says x.0))) at entry in
         ap first_letter (begins line ts s x.0 its.1).1
 
@@ -69,7 +73,8 @@ module _ (bytes : List ℕ) (es : List EntryValue) (i : ℕ) where
   pub node_told : {E : Type 0} (x : NodeLineValue) → Says es i x → 2 ≤ lines_before es i → (r : Result Bool E)
       → IfOk r (λ bad. IsTrue bad ↔ IsBadNodeLine es i) → IfOk r (λ bad. IsTrue bad ↔ IsBadLine bytes es i)
   node_told x is two r h =
-      IfOk-weaker r (λ bad. IsTrue bad ↔ IsBadNodeLine es i) (λ bad. IsTrue bad ↔ IsBadLine bytes es i) (λ bad k. (λ yes. of_node (k.0 yes), λ b. k.1 (its b))) h
+      IfOk-weaker r (λ bad. IsTrue bad ↔ IsBadNodeLine es i) (λ bad. IsTrue bad ↔ IsBadLine bytes es i)
+      (λ bad k. (λ yes. of_node (k.0 yes), λ b. k.1 (its b))) h
     where
       its : IsBadLine bytes es i → IsBadNodeLine es i
       its (no_header m f) = absurd (omega (arith, m.before))

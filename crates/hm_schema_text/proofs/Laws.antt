@@ -23,7 +23,8 @@ not_before es n i j h k below = let more = more_before is_counted es i j h.entry
 
 root_name_once : (bytes : List ℕ) (es : List EntryValue) (w v : Name) → NamesRoot bytes es w → NamesRoot bytes es v → w ≡ v
 root_name_once bytes es w v h k =
-    let place : k.place ≡ h.place = omega (arith, not_before es 1 h.place k.place h.second k.second, not_before es 1 k.place h.place k.second h.second) in
+    let place : k.place ≡ h.place =
+    omega (arith, not_before es 1 h.place k.place h.second k.second, not_before es 1 k.place h.place k.second h.second) in
     root_once bytes h.place w v h.root (subst (λ i. IsRootAt bytes i v) place k.root)
 
 -- ---- what is told, and the schema
@@ -31,11 +32,13 @@ root_name_once bytes es w v h k =
 pub line_once : (bytes : List ℕ) (a b : ℕ) → IsFirstBadLine bytes a → IsFirstBadLine bytes b → a ≡ b
 line_once bytes a b h k =
     told_once (IsBadLine bytes h.entries) (count_by is_counted h.entries < 2) (length h.entries) a b h.told
-    (subst (λ es. IsTold (IsBadLine bytes es) (count_by is_counted es < 2) (length es) b) (entries_once bytes k.entries h.entries k.read h.read) k.told)
+    (subst (λ es. IsTold (IsBadLine bytes es) (count_by is_counted es < 2) (length es) b) (entries_once bytes k.entries h.entries k.read h.read)
+    k.told)
 
 pub schema_no_line : (bytes : List ℕ) (s : SchemaValue) (line : ℕ) → IsSchemaFile bytes s → IsFirstBadLine bytes line → ⊥
 schema_no_line bytes s line h k =
-    go line (subst (λ es. IsTold (IsBadLine bytes es) (count_by is_counted es < 2) (length es) line) (entries_once bytes k.entries h.entries k.read h.read) k.told)
+    go line (subst (λ es. IsTold (IsBadLine bytes es) (count_by is_counted es < 2) (length es) line)
+    (entries_once bytes k.entries h.entries k.read h.read) k.told)
   where
     go : (n : ℕ) → IsTold (IsBadLine bytes h.entries) (count_by is_counted h.entries < 2) (length h.entries) n → ⊥
     go _ (at {i} first) = h.sound i first.bad
@@ -52,7 +55,8 @@ schema_once bytes s t h k =
     let nodes = subst (λ w. AreNodesOf es (w ∷ []) t.nodes) name (subst (λ z. AreNodesOf z (k.name ∷ []) t.nodes) same k.nodes) in
     let root = subst (λ (w : Name). IsPlaceOf es w t.root.place) name (subst (λ z. IsPlaceOf z k.name t.root.place) same k.root) in
     ap (λ z. record { nodes = z; root = s.root }) (nodes_once es (h.name ∷ []) s.nodes t.nodes h.nodes nodes)
-    ∙ ap (λ p. record { nodes = t.nodes; root = record { place = p } }) (place_once es (λ i bad. h.sound i (of_node bad)) h.name s.root.place t.root.place h.root root)
+    ∙ ap (λ p. record { nodes = t.nodes; root = record { place = p } })
+    (place_once es (λ i bad. h.sound i (of_node bad)) h.name s.root.place t.root.place h.root root)
 
 pub schema_no_twins : (bytes : List ℕ) (s : SchemaValue) → IsSchemaFile bytes s → HasNoTwins s
 schema_no_twins bytes s h i n is = no_twins h.entries (h.name ∷ []) s.nodes h.nodes i.place n is

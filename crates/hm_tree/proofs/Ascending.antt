@@ -26,7 +26,8 @@ placed_names : (q : Name) (names : List Name) → is_some (find name_cmp q (plac
 placed_names q [] = refl
 placed_names q (k ∷ names) =
     ap is_some (find-put name_cmp name_total q k tt (placed names))
-    ∙ elim (tied q k) as (λ b. is_some (cond b (Some tt) (find name_cmp q (placed names))) ≡ (b || list_any (tied q) names)) [ true ↦ refl | false ↦ placed_names q names ]
+    ∙ elim (tied q k) as (λ b. is_some (cond b (Some tt) (find name_cmp q (placed names))) ≡ (b || list_any (tied q) names))
+    [ true ↦ refl | false ↦ placed_names q names ]
 
 placed_set : (s : set.FinSet name_cmp) (q : Name) → is_some (find name_cmp q (placed (set.items s))) ≡ set.contains s q
 placed_set s q = placed_names q (set.items s) ∙ sym (set.contains-items s q)
@@ -36,7 +37,8 @@ placed_set s q = placed_names q (set.items s) ∙ sym (set.contains-items s q)
 pub set_of-ascending : (s : set.FinSet name_cmp) → set.from_list {R = name_cmp} (ascending s) ≡ s
 unfolding ascending
 set_of-ascending s = set.same_set name_total name_one _ _ (λ q.
-    set.contains-from_list name_total (map (λ e. e.0) (placed (set.items s))) q ∙ sym (is_some-find name_cmp q (placed (set.items s))) ∙ placed_set s q)
+    set.contains-from_list name_total (map (λ e. e.0) (placed (set.items s))) q ∙ sym (is_some-find name_cmp q (placed (set.items s)))
+    ∙ placed_set s q)
 
 -- the same beside nothing
 abbrev pub beside : List Name → List (Name × Unit {0})
@@ -57,8 +59,10 @@ ascending_beside : (names : List Name) → T (is_sorted name_cmp (beside names))
 unfolding ascending
 ascending_beside names h =
     let s = set.from_list {R = name_cmp} names in
-    let same : placed (set.items s) ≡ beside names = same_entries name_cmp name_total name_one (placed (set.items s)) (beside names) (placed_sorted (set.items s)) h (λ q.
-    same_option _ _ (placed_set s q ∙ set.contains-from_list name_total names q ∙ ap (list_any (tied q)) (sym (beside_names names)) ∙ sym (is_some-find name_cmp q (beside names)))) in
+    let same : placed (set.items s) ≡ beside names = same_entries name_cmp name_total name_one (placed (set.items s)) (beside names)
+    (placed_sorted (set.items s)) h (λ q.
+    same_option _ _ (placed_set s q ∙ set.contains-from_list name_total names q ∙ ap (list_any (tied q)) (sym (beside_names names))
+    ∙ sym (is_some-find name_cmp q (beside names)))) in
     ap (map (λ (e : Name × Unit {0}). e.0)) same ∙ beside_names names
 
 strictly : (names : List Name) → IsStrictlySortedBy name_cmp names → T (is_sorted name_cmp (beside names))
@@ -73,7 +77,8 @@ strictly (k ∷ names) h = both _ _ (lower names h.0) (strictly names h.1)
 ascending-from_list : (names : List Name) → IsStrictlySortedBy name_cmp names → ascending (set.from_list {R = name_cmp} names) ≡ names
 ascending-from_list names h = ascending_beside names (strictly names h)
 
-pub ascending_is : (names : List Name) (s : set.FinSet name_cmp) → IsStrictlySortedBy name_cmp names → set.from_list {R = name_cmp} names ≡ s → ascending s ≡ names
+pub ascending_is : (names : List Name) (s : set.FinSet name_cmp) → IsStrictlySortedBy name_cmp names → set.from_list {R = name_cmp} names ≡ s
+    → ascending s ≡ names
 ascending_is names s h e = ap ascending (sym e) ∙ ascending-from_list names h
 
 -- ---- the names of edges
@@ -87,7 +92,8 @@ module _ {X : Type 0} where
       lower [] h = tt
       lower (d ∷ es) h = both _ _ (first _ _ h) (lower es (second _ _ h))
 
-  pub ascending-edges : (es : List (Name × X)) → T (is_sorted name_cmp es) → ascending (set.from_list {R = name_cmp} (map (λ e. e.0) es)) ≡ map (λ e. e.0) es
+  pub ascending-edges : (es : List (Name × X)) → T (is_sorted name_cmp es)
+      → ascending (set.from_list {R = name_cmp} (map (λ e. e.0) es)) ≡ map (λ e. e.0) es
   ascending-edges es h = ascending_beside (map (λ e. e.0) es) (edges_beside es h)
 
 -- a set by its names beside nothing, which rise
@@ -100,7 +106,8 @@ ascending_rises s = edges_beside (placed (set.items s)) (placed_sorted (set.item
 -- what holds of each of the names of a set holds of each name in it
 pub ascending_all : (P : Name → Type 0) (s : set.FinSet name_cmp) → All P (ascending s) → (k : Name) → IsTrue (set.contains s k) → P k
 ascending_all P s all k there =
-    let at = at_any k (ascending s) (sym (set.contains-from_list name_total (ascending s) k) ∙ ap (λ (s : set.FinSet name_cmp). set.contains s k) (set_of-ascending s) ∙ there) in
+    let at = at_any k (ascending s) (sym (set.contains-from_list name_total (ascending s) k)
+    ∙ ap (λ (s : set.FinSet name_cmp). set.contains s k) (set_of-ascending s) ∙ there) in
     subst P at.2 (all at.0 k at.1)
 
 -- each of its names is in it

@@ -16,7 +16,8 @@ kept_no_return b h = elim (cases_Bool (b == 13)) [
 
 no_return_from_kept : (t : List ℕ) → All (λ b. IsTrue (is_kept b)) t → has_no_return t ≡ true
 no_return_from_kept [] all = refl
-no_return_from_kept (b ∷ t) all = and_from (not (b == 13)) (has_no_return t) (kept_no_return b (all 0 0 (omega arith))) (no_return_from_kept t (λ k d lt. all (suc k) d (omega arith)))
+no_return_from_kept (b ∷ t) all = and_from (not (b == 13)) (has_no_return t) (kept_no_return b (all 0 0 (omega arith)))
+    (no_return_from_kept t (λ k d lt. all (suc k) d (omega arith)))
 
 filter_kept : (t : List ℕ) → All (λ b. IsTrue (is_kept b)) t → filter is_kept t ≡ t
 filter_kept [] all = refl

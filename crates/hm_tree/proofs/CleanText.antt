@@ -29,7 +29,8 @@ ascii_step : (behind : Bool) (b : ℕ) (t : List ℕ) → b < 128 → IsUtf8 (cl
 ascii_step behind b t lt rest =
     subst IsUtf8 (sym (filter-append is_kept (line_end behind b) (line_ends (b == 13) t)))
     (IsUtf8-append (filter is_kept (line_end behind b)) (cleaned_from (b == 13) t)
-    (IsUtf8-from_ascii (filter is_kept (line_end behind b)) (IsAscii-from_all _ (All-filter is_kept (λ x. x < 128) (line_end behind b) (ascii_line_end behind b lt)))) rest)
+    (IsUtf8-from_ascii (filter is_kept (line_end behind b))
+    (IsAscii-from_all _ (All-filter is_kept (λ x. x < 128) (line_end behind b) (ascii_line_end behind b lt)))) rest)
 
 -- ---- a character of more than one byte, none of which is ASCII
 
@@ -40,7 +41,8 @@ high_kept : (b : ℕ) → 128 ≤ b → is_kept b ≡ true
 high_kept b h = rw (not_low b 9 h (omega arith), not_low b 10 h (omega arith), le-leb 32 b (omega arith), not_low b 127 h (omega arith)) refl
 
 high_line_end : (behind : Bool) (b : ℕ) → 128 ≤ b → line_end behind b ≡ b ∷ []
-high_line_end behind b h = cond-false (b == 13) _ _ (not_low b 13 h (omega arith)) ∙ cond-false (behind && (b == 10)) _ _ (and_right behind (b == 10) (not_low b 10 h (omega arith)))
+high_line_end behind b h = cond-false (b == 13) _ _ (not_low b 13 h (omega arith))
+    ∙ cond-false (behind && (b == 10)) _ _ (and_right behind (b == 10) (not_low b 10 h (omega arith)))
 
 high_step : (behind : Bool) (b : ℕ) (t : List ℕ) → 128 ≤ b → cleaned_from behind (b ∷ t) ≡ b ∷ cleaned_from false t
 high_step behind b t h =
@@ -48,7 +50,8 @@ high_step behind b t h =
     ∙ cond-true (is_kept b) _ _ (high_kept b h)
     ∙ ap (λ r. b ∷ filter is_kept (line_ends r t)) (not_low b 13 h (omega arith))
 
-high_steps : (behind : Bool) (b : ℕ) (bs t : List ℕ) → All (λ x. 128 ≤ x) (b ∷ bs) → cleaned_from behind (b ∷ (bs ++ t)) ≡ b ∷ (bs ++ cleaned_from false t)
+high_steps : (behind : Bool) (b : ℕ) (bs t : List ℕ) → All (λ x. 128 ≤ x) (b ∷ bs)
+    → cleaned_from behind (b ∷ (bs ++ t)) ≡ b ∷ (bs ++ cleaned_from false t)
 high_steps behind b [] t all = high_step behind b t (all 0 0 (omega arith))
 high_steps behind b (x ∷ bs) t all =
     high_step behind b (x ∷ (bs ++ t)) (all 0 0 (omega arith))
@@ -60,7 +63,8 @@ high_bytes c h k d lt = elim (cases_lt (get_or (encode c) k 0) 128) [
   | inr high ↦ let other = get_or_default (encode c) k d 0 lt in omega arith
 ]
 
-character : (behind : Bool) (c : ℕ) (t : List ℕ) → IsUtf8 (encode c) → ((r : Bool) → IsUtf8 (cleaned_from r t)) → IsUtf8 (cleaned_from behind (encode c ++ t))
+character : (behind : Bool) (c : ℕ) (t : List ℕ) → IsUtf8 (encode c) → ((r : Bool) → IsUtf8 (cleaned_from r t))
+    → IsUtf8 (cleaned_from behind (encode c ++ t))
 character behind c t one rest = elim (cases_lt c 128) [
   | inl low ↦ subst (λ l. IsUtf8 (cleaned_from behind (l ++ t))) (sym (encode_ascii c low)) (ascii_step behind c t low (rest (c == 13)))
   | inr high ↦ by (encode c) one (high_bytes c high)

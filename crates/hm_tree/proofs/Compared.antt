@@ -35,7 +35,8 @@ module _ {S T : Type 0} (steps : S → Option ℕ → S → Type 0) (others : T 
   abbrev AnswersBy : Option ℕ → Option ℕ → Type 0
   AnswersBy o p = MatchOption o (MatchOption p (r ≡ true) (λ _. r ≡ false)) (λ x. (r ≡ false) × IfSome p (λ y. nat_eq x y ≡ false))
 
-  same_at_last : (o p : Option ℕ) (s u : S) (t v : T) (left right : List ℕ) → Gives steps s left → Gives others t right → steps s o u → others t p v → AnswersBy o p → (r ≡ true) ↔ (left ≡ right)
+  same_at_last : (o p : Option ℕ) (s u : S) (t v : T) (left right : List ℕ) → Gives steps s left → Gives others t right → steps s o u
+      → others t p v → AnswersBy o p → (r ≡ true) ↔ (left ≡ right)
   same_at_last None None s u t v left right h g step other is =
       (λ _. gives_none steps s u left step h ∙ sym (gives_none others t v right other g), λ _. is)
   same_at_last None (Some y) s u t v left right h g step other is =
@@ -49,7 +50,9 @@ module _ {S T : Type 0} (steps : S → Option ℕ → S → Type 0) (others : T 
       let there = gives_first others t v y right other g in
       never r left right is.0 (firsts_differ left right x y here.0 there.0 here.1 there.1 (eqb-false x y is.1))
 
-  same_from_runs : (xs ys : List ℕ) (o p : Option ℕ) (s a u : S) (t b v : T) (left right : List ℕ) → Gives steps s left → Gives others t right → Yields steps s xs a → steps a o u → Yields others t ys b → others b p v → AllZip (λ x y. nat_eq x y ≡ true) xs ys → AnswersBy o p → (r ≡ true) ↔ (left ≡ right)
+  same_from_runs : (xs ys : List ℕ) (o p : Option ℕ) (s a u : S) (t b v : T) (left right : List ℕ) → Gives steps s left → Gives others t right
+      → Yields steps s xs a → steps a o u → Yields others t ys b → others b p v → AllZip (λ x y. nat_eq x y ≡ true) xs ys → AnswersBy o p
+      → (r ≡ true) ↔ (left ≡ right)
   same_from_runs [] [] o p s a u t b v left right h g run step other_run other alike is =
       same_at_last o p s u t v left right h g (rw run step) (rw other_run other) is
   same_from_runs [] (y ∷ ys) o p s a u t b v left right h g run step other_run other alike is = absurd alike
@@ -61,6 +64,9 @@ module _ {S T : Type 0} (steps : S → Option ℕ → S → Type 0) (others : T 
       let more = same_from_runs xs ys o p run.0 a u other_run.0 b v here.0 there.0 here.2 there.2 run.2 step other_run.2 other alike.1 is in
       (λ yes. first ∙ ap (λ l. y ∷ l) (more.0 yes) ∙ sym there.1, λ e. more.1 (rests_same left right y here.0 there.0 first there.1 e))
 
-  pub same_from_eq : {U : Type 0} (becomes : U → T → Type 0) (s : S) (other : U) (left right : List ℕ) → ComparesItemsByEq steps becomes others s other nat_eq r → Gives steps s left → ((it : T) → becomes other it → Gives others it right) → (r ≡ true) ↔ (left ≡ right)
+  pub same_from_eq : {U : Type 0} (becomes : U → T → Type 0) (s : S) (other : U) (left right : List ℕ)
+      → ComparesItemsByEq steps becomes others s other nat_eq r → Gives steps s left → ((it : T) → becomes other it → Gives others it right)
+      → (r ≡ true) ↔ (left ≡ right)
   same_from_eq becomes s other left right run h g =
-      same_from_runs run.1 run.2 run.3 run.4 s run.8.0 run.5 run.0 run.9.0 run.6 left right h (g run.0 run.7) run.8.1 run.8.2 run.9.1 run.9.2 run.10 run.11
+      same_from_runs run.1 run.2 run.3 run.4 s run.8.0 run.5 run.0 run.9.0 run.6 left right h (g run.0 run.7) run.8.1 run.8.2 run.9.1 run.9.2
+      run.10 run.11

@@ -45,7 +45,8 @@ pub depth_kept : {m : Bool} (es : List (Name × Node m)) (t : Node m) → T (are
 depth_kept es t h e = ap depth (sym e) ∙ depth-node es h
 
 -- the depth that is kept is that of the edge taken out, whose child keeps b, or of the edges left
-pub depth_left : {m : Bool} (es left bs : List (Name × Node m)) (t : Node m) (i d b : ℕ) (e : Name × Node m) → IsKeptTree es d → node es ≡ t → i < length (edges t) → e ≡ get_or es i e → left ≡ remove es i → IsKeptTree bs b → node bs ≡ e.1 → d ≡ max (deepest left) (b + 1)
+pub depth_left : {m : Bool} (es left bs : List (Name × Node m)) (t : Node m) (i d b : ℕ) (e : Name × Node m) → IsKeptTree es d → node es ≡ t
+    → i < length (edges t) → e ≡ get_or es i e → left ≡ remove es i → IsKeptTree bs b → node bs ≡ e.1 → d ≡ max (deepest left) (b + 1)
 depth_left {m = m} es left bs t i d b e kept seen within read is child child_seen =
     let f = λ (x : Name × Node m). depth x.1 + 1 in
     let same = ap length (edges_seen es t kept.edges seen) in

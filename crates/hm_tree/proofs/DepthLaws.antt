@@ -72,7 +72,8 @@ module _ {m : Bool} where
   node_depth_bound (suc n) t h =
       let d = depth-edges t in
       let l = most_bound (λ (e : Name × Node m). depth e.1 + 1) (suc n) (edges t) (λ i e at.
-      let below = node_depth_bound n e.1 (λ p there above. let one = edge_bound t (suc n) h i e.0 e.1 at p there above in omega arith) in omega arith) in
+      let below = node_depth_bound n e.1 (λ p there above. let one = edge_bound t (suc n) h i e.0 e.1 at p there above in omega arith) in
+      omega arith) in
       omega arith
 
 -- ---- trees, which have no marks

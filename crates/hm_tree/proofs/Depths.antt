@@ -19,11 +19,14 @@ depth_edge {m = m} t i k c e =
     let le2 : depth c + 1 ≤ most (λ (e : Name × Node m). depth e.1 + 1) (edges t) = rw is at le in
     omega arith
 
-pub depth_find : {m : Bool} (k : Name) (es : List (Name × Node m)) (c : Node m) → find name_cmp k es ≡ Some c → depth c + 1 ≤ most (λ (e : Name × Node m). depth e.1 + 1) es
+pub depth_find : {m : Bool} (k : Name) (es : List (Name × Node m)) (c : Node m) → find name_cmp k es ≡ Some c
+    → depth c + 1 ≤ most (λ (e : Name × Node m). depth e.1 + 1) es
 depth_find k [] c e = let f : ⊥ = cc in absurd f
 depth_find {m = m} k (x ∷ es) c e = go (eq_by_cmp name_cmp k x.0) e (depth_find k es c)
   where
-    go : (b : Bool) → cond b (Some x.1) (find name_cmp k es) ≡ Some c → (find name_cmp k es ≡ Some c → depth c + 1 ≤ most (λ (e : Name × Node m). depth e.1 + 1) es) → depth c + 1 ≤ most (λ (e : Name × Node m). depth e.1 + 1) (x ∷ es)
+    go : (b : Bool) → cond b (Some x.1) (find name_cmp k es) ≡ Some c
+        → (find name_cmp k es ≡ Some c → depth c + 1 ≤ most (λ (e : Name × Node m). depth e.1 + 1) es)
+        → depth c + 1 ≤ most (λ (e : Name × Node m). depth e.1 + 1) (x ∷ es)
     go true p rest = let same : x.1 ≡ c = cc in let d = ap depth same in omega arith
     go false p rest = omega (arith, rest p)
 

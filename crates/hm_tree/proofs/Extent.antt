@@ -28,7 +28,8 @@ module _ {m : Bool} where
       go true e = cc
       go false e = cc
 
-  options : (x y : Option (Node m)) → ((c d : Node m) → x ≡ Some c → ((p : Path) → state (Some c) p ≡ state (Some d) p) → c ≡ d) → ((p : Path) → state x p ≡ state y p) → x ≡ y
+  options : (x y : Option (Node m)) → ((c d : Node m) → x ≡ Some c → ((p : Path) → state (Some c) p ≡ state (Some d) p) → c ≡ d)
+      → ((p : Path) → state x p ≡ state y p) → x ≡ y
   options None None nodes same = refl
   options (Some c) None nodes same = absurd (stands c (same []))
   options None (Some d) nodes same = absurd (stands d (sym (same [])))
@@ -45,13 +46,16 @@ module _ {m : Bool} where
       next : (t : Node m) (k : Name) (p : Path) → is_marked t ≡ false → state (Some t) (k ∷ p) ≡ state (below k t) p
       next t k p e = ap (λ x. cond x Marked (state (below k t) p)) e
 
-      go : ((c d : Node m) → depth c < n → ((p : Path) → state (Some c) p ≡ state (Some d) p) → c ≡ d) → (b w : Bool) → is_marked t ≡ b → is_marked u ≡ w → t ≡ u
+      go : ((c d : Node m) → depth c < n → ((p : Path) → state (Some c) p ≡ state (Some d) p) → c ≡ d) → (b w : Bool) → is_marked t ≡ b
+          → is_marked u ≡ w → t ≡ u
       go nodes true true a e = marks_same t u a e
       go nodes true false a e = let no : Marked ≡ Present = unlike true false a e in let f : ⊥ = cc in absurd f
       go nodes false true a e = let no : Present ≡ Marked = unlike false true a e in let f : ⊥ = cc in absurd f
       go nodes false false a e =
           same_edges t u a e
-          (same_entries name_cmp name_total name_one (edges t) (edges u) (edges_sorted t) (edges_sorted u) (λ k. options (below k t) (below k u) (λ c d is s. nodes c d (let l = depth_below k t c is in omega arith) s) (λ p. sym (next t k p a) ∙ same (k ∷ p) ∙ next u k p e)))
+          (same_entries name_cmp name_total name_one (edges t) (edges u) (edges_sorted t) (edges_sorted u)
+          (λ k. options (below k t) (below k u) (λ c d is s. nodes c d (let l = depth_below k t c is in omega arith) s)
+          (λ p. sym (next t k p a) ∙ same (k ∷ p) ∙ next u k p e)))
 
   same_nodes : (t u : Node m) → ((p : Path) → state (Some t) p ≡ state (Some u) p) → t ≡ u
   same_nodes t u same = same_upto (suc (depth t)) t u (omega arith) same

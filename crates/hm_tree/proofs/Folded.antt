@@ -31,7 +31,8 @@ lower_not b h e = grind (arith, nat_tests)
 pub lower_start : (bs : List ℕ) → IsLowerSoFar bs 0 true
 lower_start bs = record { ascii = IsAscii-nil; is = (λ _. refl, λ _. refl) }
 
-pub lower_more : (bs : List ℕ) (i : ℕ) (lower next : Bool) → i < length bs → get_or bs i 0 ≤ 127 → next ≡ (lower && not (is_ascii_uppercase (get_or bs i 0))) → IsLowerSoFar bs i lower → IsLowerSoFar bs (i + 1) next
+pub lower_more : (bs : List ℕ) (i : ℕ) (lower next : Bool) → i < length bs → get_or bs i 0 ≤ 127
+    → next ≡ (lower && not (is_ascii_uppercase (get_or bs i 0))) → IsLowerSoFar bs i lower → IsLowerSoFar bs (i + 1) next
 lower_more bs i lower next lt low e so = record {
   ascii = IsAscii-more bs i lt so.ascii (omega arith);
   is = (to, from);
@@ -49,8 +50,11 @@ lower_more bs i lower next lt low e so = record {
 
     from : map to_ascii_lowercase (take (i + 1) bs) ≡ take (i + 1) bs → next ≡ true
     from same =
-        let both = same_from_push (map to_ascii_lowercase (take i bs)) (take i bs) (to_ascii_lowercase (get_or bs i 0)) (get_or bs i 0) (sym split ∙ same ∙ take_more bs i 0 lt) in
-        e ∙ and_from lower (not (is_ascii_uppercase (get_or bs i 0))) (so.is.1 both.0) (elim (cases_Bool (is_ascii_uppercase (get_or bs i 0))) [ inl up ↦ absurd (lower_not (get_or bs i 0) up both.1) | inr down ↦ ap not down ])
+        let both = same_from_push (map to_ascii_lowercase (take i bs)) (take i bs) (to_ascii_lowercase (get_or bs i 0)) (get_or bs i 0)
+        (sym split ∙ same ∙ take_more bs i 0 lt) in
+        e ∙ and_from lower (not (is_ascii_uppercase (get_or bs i 0))) (so.is.1 both.0)
+        (elim (cases_Bool (is_ascii_uppercase (get_or bs i 0)))
+        [ inl up ↦ absurd (lower_not (get_or bs i 0) up both.1) | inr down ↦ ap not down ])
 
 pub lower_all : (bs : List ℕ) (i : ℕ) (lower : Bool) → length bs ≤ i → IsLowerSoFar bs i lower → (lower ≡ true) ↔ (folding bs ≡ bs)
 lower_all bs i lower le so =

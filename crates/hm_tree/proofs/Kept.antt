@@ -58,16 +58,19 @@ find_there k [] h = refl
 find_there k ((x, None) ∷ es) h = absurd h
 find_there k ((x, Some y) ∷ es) h =
     ap (cond (eq_by_cmp name_cmp k x) (Some y)) (find_there k es h)
-    ∙ elim (eq_by_cmp name_cmp k x) as (λ b. cond b (Some y) (flat (find name_cmp k es)) ≡ flat (cond b (Some (Some y)) (find name_cmp k es))) [ true ↦ refl | false ↦ refl ]
+    ∙ elim (eq_by_cmp name_cmp k x) as (λ b. cond b (Some y) (flat (find name_cmp k es)) ≡ flat (cond b (Some (Some y)) (find name_cmp k es)))
+    [ true ↦ refl | false ↦ refl ]
 
-some_there : {X : Type 0} (es : List (Name × Option X)) → T (is_there es) → (i : ℕ) (d : Name × Option X) → i < length es → IsTrue (is_some (get_or es i d).1)
+some_there : {X : Type 0} (es : List (Name × Option X)) → T (is_there es) → (i : ℕ) (d : Name × Option X) → i < length es
+    → IsTrue (is_some (get_or es i d).1)
 some_there [] h i d lt = absurd (omega arith)
 some_there ((x, None) ∷ es) h i d lt = absurd h
 some_there ((x, Some y) ∷ es) h zero d lt = refl
 some_there ((x, Some y) ∷ es) h (suc i) d lt = some_there es h i d (omega arith)
 
 -- what stands under a name is found among the edges that are kept
-pub under_kept : (root : State) (es : List (Name × Archive)) (o : Archive) → IsKeptArchive root es → archive_of root es ≡ o → (k : Name) → under k o ≡ flat (find name_cmp k es)
+pub under_kept : (root : State) (es : List (Name × Archive)) (o : Archive) → IsKeptArchive root es → archive_of root es ≡ o → (k : Name)
+    → under k o ≡ flat (find name_cmp k es)
 under_kept root es o kept is k = ap (under k) (sym is) ∙ by root kept
   where
     nothing : es ≡ [] → None ≡ flat (find name_cmp k es)
@@ -79,7 +82,8 @@ under_kept root es o kept is k = ap (under k) (sym is) ∙ by root kept
     by Marked h = ap (find name_cmp k) (edges-marked marked marked_is) ∙ nothing (h.bare (λ e. let no : ⊥ = cc in no))
 
 -- a name under which nothing stands has no place
-pub no_place : (root : State) (es : List (Name × Archive)) (o : Archive) → IsKeptArchive root es → archive_of root es ≡ o → (k : Name) → under k o ≡ None → (i : ℕ) → IsPlaceOf k es i → ⊥
+pub no_place : (root : State) (es : List (Name × Archive)) (o : Archive) → IsKeptArchive root es → archive_of root es ≡ o → (k : Name)
+    → under k o ≡ None → (i : ℕ) → IsPlaceOf k es i → ⊥
 no_place root es o kept is k none i at =
     let x = get_or es i (k, None) in
     let found : (get_or es i (k, None)).1 ≡ None = sym (ap flat (at.found (k, None))) ∙ sym (under_kept root es o kept is k) ∙ none in
@@ -87,13 +91,18 @@ no_place root es o kept is k none i at =
     true≢false (sym some ∙ ap is_some found)
 
 -- what the edge at a name's place leads to
-pub under_found : (root : State) (es : List (Name × Archive)) (o : Archive) → IsKeptArchive root es → archive_of root es ≡ o → (k : Name) (i : ℕ) → IsPlaceOf k es i → (e : Name × Archive) → e ≡ get_or es i e → (e.1 ≡ under k o) × IsTrue (is_some e.1)
+pub under_found : (root : State) (es : List (Name × Archive)) (o : Archive) → IsKeptArchive root es → archive_of root es ≡ o
+    → (k : Name) (i : ℕ) → IsPlaceOf k es i → (e : Name × Archive) → e ≡ get_or es i e → (e.1 ≡ under k o) × IsTrue (is_some e.1)
 under_found root es o kept is k i at e read =
-    let there : find name_cmp k es ≡ Some e.1 = at.found e ∙ ap (λ (x : Name × Archive). Some x.1) (sym read) in
-    (sym (under_kept root es o kept is k ∙ ap flat there), subst (λ (x : Name × Archive). IsTrue (is_some x.1)) (sym read) (some_there es kept.all_there i e at.in_range))
+    let there : find name_cmp k es ≡ Some e.1 = at.found e ∙ ap (λ (x : Name × Archive). Some x.1) (sym read) in (
+      sym (under_kept root es o kept is k ∙ ap flat there),
+      subst (λ (x : Name × Archive). IsTrue (is_some x.1)) (sym read)
+          (some_there es kept.all_there i e at.in_range),
+    )
 
 -- nothing stands under a name that has no place
-pub under_gone : (root : State) (es : List (Name × Archive)) (o : Archive) → IsKeptArchive root es → archive_of root es ≡ o → (k : Name) (i : ℕ) → IsGapFor k es i → under k o ≡ None
+pub under_gone : (root : State) (es : List (Name × Archive)) (o : Archive) → IsKeptArchive root es → archive_of root es ≡ o → (k : Name) (i : ℕ)
+    → IsGapFor k es i → under k o ≡ None
 under_gone root es o kept is k i gap = under_kept root es o kept is k ∙ ap flat gap.absent
 
 -- the state that an archive keeps is that of its root
@@ -107,12 +116,14 @@ state_kept root es o is = sym (ap (λ (a : Archive). state a []) (sym is) ∙ by
 
 -- ---- putting in an edge, where none is to a missing archive
 
-there_put : (k : Name) (c : Node true) (es : List (Name × Archive)) → T (is_there es) → there (put name_cmp k (Some c) es) ≡ put name_cmp k c (there es)
+there_put : (k : Name) (c : Node true) (es : List (Name × Archive)) → T (is_there es)
+    → there (put name_cmp k (Some c) es) ≡ put name_cmp k c (there es)
 there_put k c [] h = refl
 there_put k c ((x, None) ∷ es) h = absurd h
 there_put k c ((x, Some y) ∷ es) h = go (name_cmp k x) refl (there_put k c es h)
   where
-    go : (r : Ordering) → name_cmp k x ≡ r → there (put name_cmp k (Some c) es) ≡ put name_cmp k c (there es) → there (put name_cmp k (Some c) ((x, Some y) ∷ es)) ≡ put name_cmp k c (there ((x, Some y) ∷ es))
+    go : (r : Ordering) → name_cmp k x ≡ r → there (put name_cmp k (Some c) es) ≡ put name_cmp k c (there es)
+        → there (put name_cmp k (Some c) ((x, Some y) ∷ es)) ≡ put name_cmp k c (there ((x, Some y) ∷ es))
     go Less p rest = rw p refl
     go Equal p rest = rw p refl
     go Greater p rest = rw p (ap (λ l. (x, y) ∷ l) rest)
@@ -127,7 +138,8 @@ is_there_put k c ((x, Some y) ∷ es) h = go (name_cmp k x) refl (is_there_put k
     go Equal p rest = rw p h
     go Greater p rest = rw p rest
 
-module _ (root : State) (es : List (Name × Archive)) (o : Archive) (kept : IsKeptArchive root es) (is : archive_of root es ≡ o) (present : state o [] ≡ Present) (k : Name) (text : IsUtf8 k) (d : Archive) (some : IsTrue (is_some d)) (i : ℕ) (gap : IsGapFor k es i) where
+module _ (root : State) (es : List (Name × Archive)) (o : Archive) (kept : IsKeptArchive root es) (is : archive_of root es ≡ o)
+    (present : state o [] ≡ Present) (k : Name) (text : IsUtf8 k) (d : Archive) (some : IsTrue (is_some d)) (i : ℕ) (gap : IsGapFor k es i) where
   root_is : root ≡ Present
   root_is = state_kept root es o is ∙ present
 
@@ -195,7 +207,8 @@ take_more [] n x e = let f : ⊥ = cc in absurd f
 take_more (y ∷ xs) zero x e = let same : y ≡ x = cc in ap (λ z. z ∷ []) same
 take_more (y ∷ xs) (suc n) x e = ap (λ l. y ∷ l) (take_more xs n x e)
 
-pub more_recorded : (t : Tree) (n : ℕ) (k : Name) (c : Tree) → slice_get (edges t) n ≡ Some (k, c) → ◌++◌ {A = Name × Archive} (map record_edge (take n (edges t))) ((k, Some (recorded c)) ∷ []) ≡ map record_edge (take (n + 1) (edges t))
+pub more_recorded : (t : Tree) (n : ℕ) (k : Name) (c : Tree) → slice_get (edges t) n ≡ Some (k, c)
+    → ◌++◌ {A = Name × Archive} (map record_edge (take n (edges t))) ((k, Some (recorded c)) ∷ []) ≡ map record_edge (take (n + 1) (edges t))
 more_recorded t n k c e = rw (add-one, take_more (edges t) n (k, c) e) (sym (map-append record_edge (take n (edges t)) ((k, c) ∷ [])))
 
 -- an archive is what a tree is in it where its root is present and its edges are the tree's
@@ -209,13 +222,15 @@ module _ (root : State) (es : List (Name × Archive)) (o : Archive) (kept : IsKe
   pub is_recorded : root ≡ Present → es ≡ map record_edge (edges t) → o ≡ Some (recorded t)
   is_recorded r e = sym is ∙ ap (λ (s : State). archive_of s es) r ∙ recorded_view t es e
 
-slice_get_map : (es : List (Name × Tree)) (i : ℕ) (e : Name × Tree) → slice_get es i ≡ Some e → slice_get (map record_edge es) i ≡ Some (record_edge e)
+slice_get_map : (es : List (Name × Tree)) (i : ℕ) (e : Name × Tree) → slice_get es i ≡ Some e
+    → slice_get (map record_edge es) i ≡ Some (record_edge e)
 slice_get_map [] i e at = let f : ⊥ = cc in absurd f
 slice_get_map (x ∷ es) zero e at = let same : x ≡ e = cc in ap (λ z. Some (record_edge z)) same
 slice_get_map (x ∷ es) (suc i) e at = slice_get_map es i e at
 
 -- an edge of an archive beside the edge of a tree at the same place
-module _ (xs : List (Name × Archive)) (t : Tree) (i : ℕ) (x : Name × Archive) (k : Name) (c : Tree) (lt : i < length xs) (read : x ≡ get_or xs i x) (at : slice_get (edges t) i ≡ Some (k, c)) where
+module _ (xs : List (Name × Archive)) (t : Tree) (i : ℕ) (x : Name × Archive) (k : Name) (c : Tree) (lt : i < length xs)
+    (read : x ≡ get_or xs i x) (at : slice_get (edges t) i ≡ Some (k, c)) where
   pub beside : xs ≡ map record_edge (edges t) → (x.0 ≡ k) × (x.1 ≡ Some (recorded c))
   beside e =
       let there : slice_get xs i ≡ Some x = slice_get_read xs (length xs) i x refl lt read in
@@ -225,13 +240,15 @@ module _ (xs : List (Name × Archive)) (t : Tree) (i : ℕ) (x : Name × Archive
       some_one : Some x ≡ Some (record_edge (k, c)) → x ≡ record_edge (k, c)
       some_one e = cc
 
-  pub both_longer : x.0 ≡ k → x.1 ≡ Some (recorded c) → take i xs ≡ take i (map record_edge (edges t)) → take (i + 1) xs ≡ take (i + 1) (map record_edge (edges t))
+  pub both_longer : x.0 ≡ k → x.1 ≡ Some (recorded c) → take i xs ≡ take i (map record_edge (edges t))
+      → take (i + 1) xs ≡ take (i + 1) (map record_edge (edges t))
   both_longer names trees e =
       let there : slice_get xs i ≡ Some x = slice_get_read xs (length xs) i x refl lt read in
       rw (add-one, take_more xs i x there, take_more (map record_edge (edges t)) i (record_edge (k, c)) (slice_get_map (edges t) i (k, c) at))
       (λ j. e j ++ (names j, trees j) ∷ [])
 
-pub all_taken : (xs : List (Name × Archive)) (t : Tree) (i : ℕ) → length xs ≤ i → length xs ≡ length (edges t) → take i xs ≡ take i (map record_edge (edges t)) → xs ≡ map record_edge (edges t)
+pub all_taken : (xs : List (Name × Archive)) (t : Tree) (i : ℕ) → length xs ≤ i → length xs ≡ length (edges t)
+    → take i xs ≡ take i (map record_edge (edges t)) → xs ≡ map record_edge (edges t)
 all_taken xs t i a b e = sym (take_all i xs a) ∙ e ∙ take_all i (map record_edge (edges t)) (let l = length-map (edges t) record_edge in omega arith)
 
 pub ruleset seen = (edges_kept, state_kept, slice_get_read)

@@ -44,7 +44,8 @@ any_at : (q : Name) (xs : List Name) → Contains xs q → list_any (tied q) xs 
 any_at q [] h = absurd (omega (arith, h.1))
 any_at q (x ∷ xs) h = by h.0 h.1 h.2 (λ k lt e. any_at q xs (k, lt, e))
   where
-    by : (k : ℕ) → k < suc (length xs) → get_or (x ∷ xs) k q ≡ q → ((k : ℕ) → k < length xs → get_or xs k q ≡ q → list_any (tied q) xs ≡ true) → list_any (tied q) (x ∷ xs) ≡ true
+    by : (k : ℕ) → k < suc (length xs) → get_or (x ∷ xs) k q ≡ q → ((k : ℕ) → k < length xs → get_or xs k q ≡ q → list_any (tied q) xs ≡ true)
+        → list_any (tied q) (x ∷ xs) ≡ true
     by zero lt e rest = or_left (tied q x) (list_any (tied q) xs) (ap (tied q) e ∙ tied_self q)
     by (suc k) lt e rest = or_right (tied q x) (list_any (tied q) xs) (rest k (omega arith) e)
 
@@ -56,10 +57,12 @@ at_any q (x ∷ xs) h = by (or_cases (tied q x) (list_any (tied q) xs) h) (λ e.
     by (inl here) rest = (0, omega arith, sym (tied_one q x here))
     by (inr later) rest = let at = rest later in (suc at.0, omega (arith, at.1), at.2)
 
-pub same_members : (xs ys : List Name) → ((q : Name) → Contains xs q → Contains ys q) → ((q : Name) → Contains ys q → Contains xs q) → set.from_list {R = name_cmp} xs ≡ set.from_list ys
+pub same_members : (xs ys : List Name) → ((q : Name) → Contains xs q → Contains ys q) → ((q : Name) → Contains ys q → Contains xs q)
+    → set.from_list {R = name_cmp} xs ≡ set.from_list ys
 same_members xs ys to from =
     set.same_set name_total name_one (set.from_list xs) (set.from_list ys)
-    (λ q. set.contains-from_list name_total xs q ∙ same_bool (list_any (tied q) xs) (list_any (tied q) ys) (λ h. any_at q ys (to q (at_any q xs h))) (λ h. any_at q xs (from q (at_any q ys h))) ∙ sym (set.contains-from_list name_total ys q))
+    (λ q. set.contains-from_list name_total xs q ∙ same_bool (list_any (tied q) xs) (list_any (tied q) ys)
+    (λ h. any_at q ys (to q (at_any q xs h))) (λ h. any_at q xs (from q (at_any q ys h))) ∙ sym (set.contains-from_list name_total ys q))
 
 -- ---- a list that is sorted and has its doubles dropped
 
@@ -87,7 +90,8 @@ none_any : (q : Name) (xs : List Name) → ((j : ℕ) (d : Name) → j < length 
 none_any q [] h = refl
 none_any q (x ∷ xs) h = or_from (tied q x) (list_any (tied q) xs) (h 0 x (omega arith)) (none_any q xs (λ j d lt. h (suc j) d (omega arith)))
 
-pub searched_any : (q : Name) (xs : List Name) → IsStrictlySortedBy name_cmp xs → (r : Result ℕ ℕ) → IsSearchInRange r (length xs) → IsBinarySearchResult (λ x. name_cmp x q) xs r → is_ok r ≡ set.contains (set.from_list {R = name_cmp} xs) q
+pub searched_any : (q : Name) (xs : List Name) → IsStrictlySortedBy name_cmp xs → (r : Result ℕ ℕ) → IsSearchInRange r (length xs)
+    → IsBinarySearchResult (λ x. name_cmp x q) xs r → is_ok r ≡ set.contains (set.from_list {R = name_cmp} xs) q
 searched_any q xs h r within found = by r within found ∙ sym (set.contains-from_list name_total xs q)
   where
     by : (r : Result ℕ ℕ) → IsSearchInRange r (length xs) → IsBinarySearchResult (λ x. name_cmp x q) xs r → is_ok r ≡ list_any (tied q) xs

@@ -19,7 +19,8 @@ state_at (Some t) (k ∷ p) r = go (is_marked t) refl (state_at (below k t) p r)
     of_mark [] e = rw e refl
     of_mark (j ∷ r) e = rw e refl
 
-    go : (b : Bool) → is_marked t ≡ b → state (below k t) (p ++ r) ≡ state (at_path (below k t) p) r → cond b Marked (state (below k t) (p ++ r)) ≡ state (cond b (Some t) (at_path (below k t) p)) r
+    go : (b : Bool) → is_marked t ≡ b → state (below k t) (p ++ r) ≡ state (at_path (below k t) p) r
+        → cond b Marked (state (below k t) (p ++ r)) ≡ state (cond b (Some t) (at_path (below k t) p)) r
     go true e rest = of_mark r e
     go false e rest = rest
 
@@ -38,7 +39,8 @@ front_is p i k lt e = rw add-one (drop-cons p i k lt ∙ (λ j. sym e j ∷ drop
 pub at_end : {m : Bool} (t : Option (Node m)) (p : Path) (i : ℕ) → length p ≤ i → at_path t (drop i p) ≡ t
 at_end t p i le = ap (at_path t) (drop_all i p le)
 
-pub tree_down : (t : Tree) (p : Path) (i : ℕ) (k : Name) → i < length p → k ≡ get_or p i k → at_path (Some t) (drop i p) ≡ at_path (below k t) (drop (i + 1) p)
+pub tree_down : (t : Tree) (p : Path) (i : ℕ) (k : Name) → i < length p → k ≡ get_or p i k
+    → at_path (Some t) (drop i p) ≡ at_path (below k t) (drop (i + 1) p)
 tree_down t p i k lt e = ap (at_path (Some t)) (front_is p i k lt e) ∙ rw (tree_unmarked t) refl
 
 pub tree_off : (t : Tree) (p : Path) (i : ℕ) (k : Name) → i < length p → k ≡ get_or p i k → below k t ≡ None → at_path (Some t) (drop i p) ≡ None
@@ -54,7 +56,8 @@ archive_mark (Some t) p i k lt e m = ap (at_path (Some t)) (front_is p i k lt e)
     go true m = refl
     go false m = let f : ⊥ = cc in absurd f
 
-pub archive_down : (o : Archive) (p : Path) (i : ℕ) (k : Name) → i < length p → k ≡ get_or p i k → state o [] ≢ Marked → at_path o (drop i p) ≡ at_path (under k o) (drop (i + 1) p)
+pub archive_down : (o : Archive) (p : Path) (i : ℕ) (k : Name) → i < length p → k ≡ get_or p i k → state o [] ≢ Marked
+    → at_path o (drop i p) ≡ at_path (under k o) (drop (i + 1) p)
 archive_down None p i k lt e n = ap (at_path None) (front_is p i k lt e) ∙ sym (nothing_below (drop (i + 1) p))
 archive_down (Some t) p i k lt e n = ap (at_path (Some t)) (front_is p i k lt e) ∙ go (is_marked t) n
   where
@@ -62,7 +65,8 @@ archive_down (Some t) p i k lt e n = ap (at_path (Some t)) (front_is p i k lt e)
     go true n = absurd (n refl)
     go false n = refl
 
-pub archive_off : (o : Archive) (p : Path) (i : ℕ) (k : Name) → i < length p → k ≡ get_or p i k → state o [] ≢ Marked → under k o ≡ None → at_path o (drop i p) ≡ None
+pub archive_off : (o : Archive) (p : Path) (i : ℕ) (k : Name) → i < length p → k ≡ get_or p i k → state o [] ≢ Marked → under k o ≡ None
+    → at_path o (drop i p) ≡ None
 archive_off o p i k lt e n gone = archive_down o p i k lt e n ∙ ap (λ a. at_path a (drop (i + 1) p)) gone ∙ nothing_below (drop (i + 1) p)
 
 -- nothing stands at any path of a missing archive, and else something stands at the root

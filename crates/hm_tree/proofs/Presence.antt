@@ -38,16 +38,19 @@ IsEdgeWithin o e = IsWithin (Some e.1) (under e.0 o)
 pub within_root : (t : Tree) (o : Archive) → IsWithin (Some t) o → state o [] ≡ Present
 within_root t o all = all [] (state_root t)
 
-pub within_edge : (t : Tree) (o : Archive) (i : ℕ) (k : Name) (c : Tree) → slice_get (edges t) i ≡ Some (k, c) → IsWithin (Some t) o → IsEdgeWithin o (k, c)
+pub within_edge : (t : Tree) (o : Archive) (i : ℕ) (k : Name) (c : Tree) → slice_get (edges t) i ≡ Some (k, c) → IsWithin (Some t) o
+    → IsEdgeWithin o (k, c)
 within_edge t o i k c at all p e = present_down o k p (all (k ∷ p) (state_down t k p ∙ ap (λ z. state z p) (below_edge t i k c at) ∙ e))
 
 within_nothing : (t : Tree) → IsWithin (Some t) None → ⊥
 within_nothing t all = let no : Missing ≡ Present = all [] (state_root t) in cc
 
-pub within_gone : (t : Tree) (o : Archive) (i : ℕ) (k : Name) (c : Tree) → slice_get (edges t) i ≡ Some (k, c) → under k o ≡ None → IsWithin (Some t) o → ⊥
+pub within_gone : (t : Tree) (o : Archive) (i : ℕ) (k : Name) (c : Tree) → slice_get (edges t) i ≡ Some (k, c) → under k o ≡ None
+    → IsWithin (Some t) o → ⊥
 within_gone t o i k c at none all = within_nothing c (subst (λ z. IsWithin (Some c) z) none (within_edge t o i k c at all))
 
-pub within_more : (t : Tree) (o : Archive) (i : ℕ) (k : Name) (c : Tree) → slice_get (edges t) i ≡ Some (k, c) → All (IsEdgeWithin o) (take i (edges t)) → IsEdgeWithin o (k, c) → All (IsEdgeWithin o) (take (i + 1) (edges t))
+pub within_more : (t : Tree) (o : Archive) (i : ℕ) (k : Name) (c : Tree) → slice_get (edges t) i ≡ Some (k, c)
+    → All (IsEdgeWithin o) (take i (edges t)) → IsEdgeWithin o (k, c) → All (IsEdgeWithin o) (take (i + 1) (edges t))
 within_more t o i k c at all here = rw (add-one, take_more (edges t) i (k, c) at) (All-push (IsEdgeWithin o) (take i (edges t)) (k, c) all here)
 
 pub within_all : (t : Tree) (o : Archive) → state o [] ≡ Present → All (IsEdgeWithin o) (edges t) → IsWithin (Some t) o

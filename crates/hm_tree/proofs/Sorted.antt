@@ -50,14 +50,16 @@ module _ {X : Type 0} where
   each_above x (e ∷ es) zero d h lt = is_less _ (first _ _ h)
   each_above x (e ∷ es) (suc j) d h lt = each_above x es j d (second _ _ h) (omega arith)
 
-  pub rises : (es : List (Name × X)) → T (is_sorted name_cmp es) → (i j : ℕ) (d : Name × X) → i < j → j < length es → name_cmp (get_or es i d).0 (get_or es j d).0 ≡ Less
+  pub rises : (es : List (Name × X)) → T (is_sorted name_cmp es) → (i j : ℕ) (d : Name × X) → i < j → j < length es
+      → name_cmp (get_or es i d).0 (get_or es j d).0 ≡ Less
   rises [] h i j d lt within = absurd (omega arith)
   rises (e ∷ es) h i zero d lt within = absurd (omega arith)
   rises (e ∷ es) h zero (suc j) d lt within = each_above e.0 es j d (first _ _ h) (omega arith)
   rises (e ∷ es) h (suc i) (suc j) d lt within = rises es (second _ _ h) i j d (omega arith) (omega arith)
 
   -- the place of a name by what stands before it and at it
-  rank_is : (k : Name) (es : List (Name × X)) (i : ℕ) → i ≤ length es → ((j : ℕ) (d : Name × X) → j < i → name_cmp (get_or es j d).0 k ≡ Less) → ((d : Name × X) → i < length es → is_lt (name_cmp (get_or es i d).0 k) ≡ false) → i ≡ rank k es
+  rank_is : (k : Name) (es : List (Name × X)) (i : ℕ) → i ≤ length es → ((j : ℕ) (d : Name × X) → j < i → name_cmp (get_or es j d).0 k ≡ Less)
+      → ((d : Name × X) → i < length es → is_lt (name_cmp (get_or es i d).0 k) ≡ false) → i ≡ rank k es
   rank_is k [] i le before at = omega arith
   rank_is k (e ∷ es) zero le before at = rw (at e (omega arith)) refl
   rank_is k (e ∷ es) (suc i) le before at =
@@ -65,7 +67,8 @@ module _ {X : Type 0} where
       rw here (ap suc (rank_is k es i (omega arith) (λ j d lt. before (suc j) d (omega arith)) (λ d lt. at d (omega arith))))
 
   -- a name that ties at its place is found there
-  found_at : (k : Name) (es : List (Name × X)) → T (is_sorted name_cmp es) → (i : ℕ) (d : Name × X) → i < length es → name_cmp (get_or es i d).0 k ≡ Equal → find name_cmp k es ≡ Some (get_or es i d).1
+  found_at : (k : Name) (es : List (Name × X)) → T (is_sorted name_cmp es) → (i : ℕ) (d : Name × X) → i < length es
+      → name_cmp (get_or es i d).0 k ≡ Equal → find name_cmp k es ≡ Some (get_or es i d).1
   found_at k [] h i d lt e = absurd (omega arith)
   found_at k (x ∷ es) h zero d lt e = rw (back_equal k x.0 e) refl
   found_at k (x ∷ es) h (suc i) d lt e =
@@ -74,7 +77,8 @@ module _ {X : Type 0} where
       rw back (found_at k es (second _ _ h) i d (omega arith) e)
 
   -- a name that ties with none isn't found
-  pub not_found : (k : Name) (es : List (Name × X)) → ((j : ℕ) (d : Name × X) → j < length es → is_eq (name_cmp k (get_or es j d).0) ≡ false) → find name_cmp k es ≡ None
+  pub not_found : (k : Name) (es : List (Name × X)) → ((j : ℕ) (d : Name × X) → j < length es → is_eq (name_cmp k (get_or es j d).0) ≡ false)
+      → find name_cmp k es ≡ None
   not_found k [] h = refl
   not_found k (e ∷ es) h = rw (h 0 e (omega arith)) (not_found k es (λ j d lt. h (suc j) d (omega arith)))
 
@@ -83,11 +87,13 @@ module _ {X : Type 0} where
   searchable k es h = searchable_from_sorted name_total (λ e. e.0) es k (λ i d low lt.
       ap is_lt (back_less _ _ (rises es h i (i + 1) d (omega arith) lt)))
 
-  pub searched : (k : Name) (es : List (Name × X)) → T (is_sorted name_cmp es) → (r : Result ℕ ℕ) → IsSearchInRange r (length es) → IsBinarySearchResult (λ e. name_cmp e.0 k) es r →
+  pub searched : (k : Name) (es : List (Name × X)) → T (is_sorted name_cmp es) → (r : Result ℕ ℕ) → IsSearchInRange r (length es)
+      → IsBinarySearchResult (λ e. name_cmp e.0 k) es r →
       record { found : IfOk r (IsPlaceOf k es); absent : IfErr r (IsGapFor k es) }
   searched k es h (Ok i) within equal = record {
     found = record {
-      place = rank_is k es i (omega arith) (λ j d lt. sym (alike_right name_total _ k _ (equal d)) ∙ rises es h j i d lt within) (λ d lt. ap is_lt (equal d));
+      place = rank_is k es i (omega arith) (λ j d lt. sym (alike_right name_total _ k _ (equal d)) ∙ rises es h j i d lt within)
+          (λ d lt. ap is_lt (equal d));
       in_range = within;
       found = λ d. found_at k es h i d within (equal d);
     };
@@ -108,7 +114,8 @@ module _ {X : Type 0} where
       }
 
   -- a name's place is where it was read
-  pub place_read : (k : Name) (es : List (Name × X)) → T (is_sorted name_cmp es) → (i : ℕ) (e : Name × X) → i < length es → (get_or es i e).0 ≡ k → IsPlaceOf k es i
+  pub place_read : (k : Name) (es : List (Name × X)) → T (is_sorted name_cmp es) → (i : ℕ) (e : Name × X) → i < length es
+      → (get_or es i e).0 ≡ k → IsPlaceOf k es i
   place_read k es h i e lt same = (searched k es h (Ok i) lt tied).found
     where
       tied : (d : Name × X) → name_cmp (get_or es i d).0 k ≡ Equal
@@ -119,7 +126,8 @@ module _ {X : Type 0} where
   put_rank k v [] none = refl
   put_rank k v (e ∷ es) none = go (name_cmp k e.0) refl (put_rank k v es)
     where
-      go : (r : Ordering) → name_cmp k e.0 ≡ r → (find name_cmp k es ≡ None → put name_cmp k v es ≡ insert es (rank k es) (k, v)) → put name_cmp k v (e ∷ es) ≡ insert (e ∷ es) (rank k (e ∷ es)) (k, v)
+      go : (r : Ordering) → name_cmp k e.0 ≡ r → (find name_cmp k es ≡ None → put name_cmp k v es ≡ insert es (rank k es) (k, v))
+          → put name_cmp k v (e ∷ es) ≡ insert (e ∷ es) (rank k (e ∷ es)) (k, v)
       go Less p rest = rw (p, back_less e.0 k p) refl
       go Equal p rest = let some : Some e.1 ≡ None = rw p at none in absurd (not_None _ some)
       go Greater p rest = let gone : find name_cmp k es ≡ None = rw p at none in rw (p, back_greater e.0 k p) (ap (λ l. e ∷ l) (rest gone))
@@ -134,14 +142,18 @@ module _ {X : Type 0} where
 
   above_too : (k x : Name) (es : List (Name × X)) → name_cmp k x ≡ Less → T (below_all x es) → T (below_all k es)
   above_too k x [] p h = tt
-  above_too k x (e ∷ es) p h = both _ _ (subst (λ r. T (is_lt r)) (sym (name_total.trans k x e.0 p (is_less _ (first _ _ h)))) tt) (above_too k x es p (second _ _ h))
+  above_too k x (e ∷ es) p h = both _ _ (subst (λ r. T (is_lt r)) (sym (name_total.trans k x e.0 p (is_less _ (first _ _ h)))) tt)
+      (above_too k x es p (second _ _ h))
 
   -- the edge under a name that is there goes from its place
-  pub filter_rank : (k : Name) (v : X) (es : List (Name × X)) → T (is_sorted name_cmp es) → find name_cmp k es ≡ Some v → filter (λ e. not (eq_by_cmp name_cmp k e.0)) es ≡ remove es (rank k es)
+  pub filter_rank : (k : Name) (v : X) (es : List (Name × X)) → T (is_sorted name_cmp es) → find name_cmp k es ≡ Some v
+      → filter (λ e. not (eq_by_cmp name_cmp k e.0)) es ≡ remove es (rank k es)
   filter_rank k v [] h some = absurd (not_None _ (sym some))
   filter_rank k v (e ∷ es) h some = go (name_cmp k e.0) refl (filter_rank k v es (second _ _ h))
     where
-      go : (r : Ordering) → name_cmp k e.0 ≡ r → (find name_cmp k es ≡ Some v → filter (λ e. not (eq_by_cmp name_cmp k e.0)) es ≡ remove es (rank k es)) → filter (λ e. not (eq_by_cmp name_cmp k e.0)) (e ∷ es) ≡ remove (e ∷ es) (rank k (e ∷ es))
+      go : (r : Ordering) → name_cmp k e.0 ≡ r
+          → (find name_cmp k es ≡ Some v → filter (λ e. not (eq_by_cmp name_cmp k e.0)) es ≡ remove es (rank k es))
+          → filter (λ e. not (eq_by_cmp name_cmp k e.0)) (e ∷ es) ≡ remove (e ∷ es) (rank k (e ∷ es))
       go Less p rest =
           let there : find name_cmp k es ≡ Some v = rw p at some in
           absurd (not_None _ (sym there ∙ none_above k es (above_too k e.0 es p (first _ _ h))))
@@ -151,7 +163,8 @@ module _ {X : Type 0} where
   pub sorted_put : (k : Name) (v : X) (es : List (Name × X)) → T (is_sorted name_cmp es) → T (is_sorted name_cmp (put name_cmp k v es))
   sorted_put k v es h = is_sorted-put name_cmp name_total k v es h
 
-  sorted_filter : (k : Name) (es : List (Name × X)) → T (is_sorted name_cmp es) → T (is_sorted name_cmp (filter (λ e. not (eq_by_cmp name_cmp k e.0)) es))
+  sorted_filter : (k : Name) (es : List (Name × X)) → T (is_sorted name_cmp es)
+      → T (is_sorted name_cmp (filter (λ e. not (eq_by_cmp name_cmp k e.0)) es))
   sorted_filter k es h = is_sorted-where_key name_cmp (λ x. not (eq_by_cmp name_cmp k x)) es h
 
   texts_filter : (p : Name × X → Bool) (es : List (Name × X)) → T (are_texts es) → T (are_texts (filter p es))
@@ -180,7 +193,8 @@ module _ {X : Type 0} where
   keeps_missing k [] h = refl
   keeps_missing k (e ∷ es) h = go (eq_by_cmp name_cmp k e.0) refl (keeps_missing k es)
     where
-      go : (b : Bool) → eq_by_cmp name_cmp k e.0 ≡ b → (find name_cmp k es ≡ None → filter (λ e. not (eq_by_cmp name_cmp k e.0)) es ≡ es) → filter (λ e. not (eq_by_cmp name_cmp k e.0)) (e ∷ es) ≡ e ∷ es
+      go : (b : Bool) → eq_by_cmp name_cmp k e.0 ≡ b → (find name_cmp k es ≡ None → filter (λ e. not (eq_by_cmp name_cmp k e.0)) es ≡ es)
+          → filter (λ e. not (eq_by_cmp name_cmp k e.0)) (e ∷ es) ≡ e ∷ es
       go true p rest = let some : Some e.1 ≡ None = rw p at h in absurd (not_None _ some)
       go false p rest = let gone : find name_cmp k es ≡ None = rw p at h in rw p (ap (λ l. e ∷ l) (rest gone))
 
@@ -201,13 +215,15 @@ without_missing k t none = sym (ap node (keeps_missing k (edges t) none) ∙ nod
 
 -- what stands under a name once an edge was put in
 pub below_with : {m : Bool} (q k : Name) (c t : Node m) → IsUtf8 k → below q (with_edge k c t) ≡ cond (eq_by_cmp name_cmp q k) (Some c) (below q t)
-below_with q k c t u = ap (find name_cmp q) (edges-node (put name_cmp k c (edges t)) (edges_put k c (edges t) u (edges_are t))) ∙ find-put name_cmp name_total q k c (edges t)
+below_with q k c t u = ap (find name_cmp q) (edges-node (put name_cmp k c (edges t)) (edges_put k c (edges t) u (edges_are t)))
+    ∙ find-put name_cmp name_total q k c (edges t)
 
 slice_get_within : {X : Type 0} (xs : List X) (i : ℕ) (x : X) → slice_get xs i ≡ Some x → i < length xs
 slice_get_within xs i x e = elim ((slice_get_cases xs i).1) [ inl w ↦ w.1 | inr w ↦ absurd (not_None x (sym e ∙ w.1)) ]
 
 -- a name greater than the last one would go to the end
-pub past : {X : Type 0} (k : Name) (es : List (Name × X)) → T (is_sorted name_cmp es) → (d : Name × X) → slice_get es (length es - 1) ≡ Some d → name_cmp d.0 k ≡ Less → IsGapFor k es (length es)
+pub past : {X : Type 0} (k : Name) (es : List (Name × X)) → T (is_sorted name_cmp es) → (d : Name × X) → slice_get es (length es - 1) ≡ Some d
+    → name_cmp d.0 k ≡ Less → IsGapFor k es (length es)
 past {X = X} k es h d e less = record {
   place = rank_is k es (length es) (omega arith) (λ j x lt. before j x lt) (λ x lt. absurd (omega arith));
   in_range = omega arith;
@@ -223,7 +239,8 @@ past {X = X} k es h d e less = record {
     before : (j : ℕ) (x : Name × X) → j < length es → name_cmp (get_or es j x).0 k ≡ Less
     before j x lt = elim (cases_lt j (length es - 1)) [
       | inl early ↦ name_total.trans _ _ _ (rises es h j (length es - 1) x early within) (ap (λ (y : Name × X). name_cmp y.0 k) (last_is x) ∙ less)
-      | inr above ↦ let same : j ≡ length es - 1 = omega arith in ap (λ i. name_cmp (get_or es i x).0 k) same ∙ ap (λ (y : Name × X). name_cmp y.0 k) (last_is x) ∙ less
+      | inr above ↦ let same : j ≡ length es - 1 = omega arith in ap (λ i. name_cmp (get_or es i x).0 k) same
+          ∙ ap (λ (y : Name × X). name_cmp y.0 k) (last_is x) ∙ less
     ]
 
 -- an edge's child stands under its name

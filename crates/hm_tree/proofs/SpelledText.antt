@@ -41,7 +41,8 @@ low_spelled b lt = go (kind b)
         let digits = one (digit_char (b / 16)) (digit_char (b % 16) ∷ []) high (one (digit_char (b % 16)) [] low (All-nil IsLow)) in
         subst IsUtf8 (sym is)
         (low_text (92 ∷ 120 ∷ digit_char (b / 16) ∷ digit_char (b % 16) ∷ [])
-        (one 92 (120 ∷ digit_char (b / 16) ∷ digit_char (b % 16) ∷ []) (omega arith) (one 120 (digit_char (b / 16) ∷ digit_char (b % 16) ∷ []) (omega arith) digits)))
+        (one 92 (120 ∷ digit_char (b / 16) ∷ digit_char (b % 16) ∷ []) (omega arith)
+        (one 120 (digit_char (b / 16) ∷ digit_char (b % 16) ∷ []) (omega arith) digits)))
 
 -- ---- a character of more than one byte, none of which is ASCII
 

@@ -36,7 +36,8 @@ find_recorded : (k : Name) (es : List (Name × Tree)) → find name_cmp k (map (
 find_recorded k [] = refl
 find_recorded k (e ∷ es) =
     ap (cond (eq_by_cmp name_cmp k e.0) (Some (recorded e.1))) (find_recorded k es)
-    ∙ elim (eq_by_cmp name_cmp k e.0) as (λ b. cond b (Some (recorded e.1)) (record_option (find name_cmp k es)) ≡ record_option (cond b (Some e.1) (find name_cmp k es))) [ true ↦ refl | false ↦ refl ]
+    ∙ elim (eq_by_cmp name_cmp k e.0) as (λ b. cond b (Some (recorded e.1)) (record_option (find name_cmp k es)) ≡ record_option
+    (cond b (Some e.1) (find name_cmp k es))) [ true ↦ refl | false ↦ refl ]
 
 below_recorded : (k : Name) (t : Tree) → below k (recorded t) ≡ record_option (below k t)
 below_recorded k t = ap (find name_cmp k) (edges-recorded t) ∙ find_recorded k (edges t)

@@ -21,7 +21,8 @@ text_tested k h = IsUtf8-from_is_utf8 k (from_test (is_utf8 k) h)
 
 all_low : (k : List ℕ) → list_all (λ b. nat_lt b 128) k ≡ true → All (λ b. b < 128) k
 all_low [] h = All-nil (λ b. b < 128)
-all_low (b ∷ k) h = let parts = and_parts (nat_lt b 128) (list_all (λ b. nat_lt b 128) k) h in All-cons (λ b. b < 128) b k (ltb-true b 128 parts.0) (all_low k parts.1)
+all_low (b ∷ k) h = let parts = and_parts (nat_lt b 128) (list_all (λ b. nat_lt b 128) k) h in
+    All-cons (λ b. b < 128) b k (ltb-true b 128 parts.0) (all_low k parts.1)
 
 -- characters of ASCII are, each in its one byte
 pub ascii_test : (k : Name) → list_all (λ b. nat_lt b 128) k ≡ true → T (is_utf8 k)

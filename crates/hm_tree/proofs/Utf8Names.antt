@@ -53,6 +53,7 @@ module _ {m : Bool} where
       lower true e = cc
       lower false e = e
 
-      by : ((c : Node m) → state (Some c) p ≡ Present → All IsUtf8 p) → (b : Option (Node m)) → below k t ≡ b → state (below k t) p ≡ Present → All IsUtf8 (k ∷ p)
+      by : ((c : Node m) → state (Some c) p ≡ Present → All IsUtf8 p) → (b : Option (Node m)) → below k t ≡ b → state (below k t) p ≡ Present
+          → All IsUtf8 (k ∷ p)
       by rest None is e = let no : Missing ≡ Present = sym (ap (λ z. state z p) is) ∙ e in let f : ⊥ = cc in absurd f
       by rest (Some c) is e = All-cons IsUtf8 k p (below_utf8 t k c is) (rest c (sym (ap (λ z. state z p) is) ∙ e))

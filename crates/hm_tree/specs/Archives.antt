@@ -39,18 +39,23 @@ pub recorded_sound : (w : Bool) (s : Shape) → T (is_node false w s) → T (is_
 recorded_sound w bare h = tt
 recorded_sound w mark h = absurd h
 recorded_sound w (edge n c r) h =
-    both (leads n r) _ (first _ _ h) (both _ _ (recorded_sound true c (first _ _ (second (leads n r) _ h))) (recorded_sound false r (second (is_node false true c) _ (second (leads n r) _ h))))
+    both (leads n r) _ (first _ _ h) (both _ _ (recorded_sound true c (first _ _ (second (leads n r) _ h)))
+    (recorded_sound false r (second (is_node false true c) _ (second (leads n r) _ h))))
 
 -- present at the tree's paths, without a mark
 unfoldable pub recorded : Tree → Node true
 recorded t = record { shape = t.shape; sound = recorded_sound true t.shape t.sound }
 
-recorded_edges_of : (w : Bool) (s : Shape) (h : T (is_node false w s)) (g : T (is_node true w s)) → edges_of {m = true} w s g ≡ map (λ (e : Name × Tree). (e.0, recorded e.1)) (edges_of {m = false} w s h)
+recorded_edges_of : (w : Bool) (s : Shape) (h : T (is_node false w s)) (g : T (is_node true w s))
+    → edges_of {m = true} w s g ≡ map (λ (e : Name × Tree). (e.0, recorded e.1)) (edges_of {m = false} w s h)
 unfolding edges_of recorded
 recorded_edges_of w bare h g = refl
 recorded_edges_of w mark h g = refl
-recorded_edges_of w (edge n c r) h g = λ i.
-    (n, same_node (record { shape = c; sound = first _ _ (second (leads n r) _ g) }) (recorded (record { shape = c; sound = first _ _ (second (leads n r) _ h) })) refl i)
+recorded_edges_of w (edge n c r) h g = λ i. (
+  n,
+  same_node (record { shape = c; sound = first _ _ (second (leads n r) _ g) })
+      (recorded (record { shape = c; sound = first _ _ (second (leads n r) _ h) })) refl i,
+)
     ∷ recorded_edges_of false r (second (is_node false true c) _ (second (leads n r) _ h)) (second (is_node true true c) _ (second (leads n r) _ g)) i
 
 -- what is recorded of a tree has the tree's edges
@@ -95,13 +100,15 @@ pub record IsKeptArchive (root : State) (es : List (Name × Archive)) : Type 0 w
   pub all_there : T (is_there es)
   pub bare : root ≢ Present → es ≡ []
 
-most_there : (f : Name × Archive → ℕ) → ((e : Name × Archive) → f e ≤ depth_here e.1 + 1) → (es : List (Name × Archive)) → T (is_there es) → most f es ≤ deepest (there es)
+most_there : (f : Name × Archive → ℕ) → ((e : Name × Archive) → f e ≤ depth_here e.1 + 1) → (es : List (Name × Archive)) → T (is_there es)
+    → most f es ≤ deepest (there es)
 most_there f h [] t = omega arith
 most_there f h ((k, None) ∷ es) t = absurd t
 most_there f h ((k, Some x) ∷ es) t = omega (arith, h (k, Some x), most_there f h es t)
 
 -- each child of an archive is less deep
-pub archive_falls : (f : Name × Archive → ℕ) → ((e : Name × Archive) → f e ≤ depth_here e.1 + 1) → (root : State) (es : List (Name × Archive)) → IsKeptArchive root es → max (most f es) 0 ≤ depth_here (archive_of root es)
+pub archive_falls : (f : Name × Archive → ℕ) → ((e : Name × Archive) → f e ≤ depth_here e.1 + 1) → (root : State) (es : List (Name × Archive))
+    → IsKeptArchive root es → max (most f es) 0 ≤ depth_here (archive_of root es)
 archive_falls f h Present es k = let e = depth-node (there es) k.edges in let l = most_there f h es k.all_there in omega arith
 archive_falls f h Missing es k = let none : es ≡ [] = k.bare (λ e. let no : ⊥ = cc in no) in let l = ap (most f) none in omega arith
 archive_falls f h Marked es k = let none : es ≡ [] = k.bare (λ e. let no : ⊥ = cc in no) in let l = ap (most f) none in omega arith

@@ -33,7 +33,8 @@ ends_return behind b t e = ap (λ l. l ++ line_ends (b == 13) t) (cond-true (b =
 ends_dropped : (b : ℕ) (t : List ℕ) → (b == 13) ≡ false → (b == 10) ≡ true → line_ends true (b ∷ t) ≡ line_ends false t
 ends_dropped b t e f = ap (λ l. l ++ line_ends (b == 13) t) (cond-false (b == 13) _ _ e ∙ cond-true (b == 10) _ _ f) ∙ ap (λ r. line_ends r t) e
 
-ends_plain : (behind : Bool) (b : ℕ) (t : List ℕ) → (b == 13) ≡ false → (behind && (b == 10)) ≡ false → line_ends behind (b ∷ t) ≡ b ∷ line_ends false t
+ends_plain : (behind : Bool) (b : ℕ) (t : List ℕ) → (b == 13) ≡ false → (behind && (b == 10)) ≡ false
+    → line_ends behind (b ∷ t) ≡ b ∷ line_ends false t
 ends_plain behind b t e f =
     ap (λ l. l ++ line_ends (b == 13) t) (cond-false (b == 13) _ _ e ∙ cond-false (behind && (b == 10)) _ _ f) ∙ ap (λ r. b ∷ line_ends r t) e
 
@@ -86,7 +87,8 @@ line_end_no_return behind b =
 
 line_ends_no_return : (behind : Bool) (t : List ℕ) → has_no_return (line_ends behind t) ≡ true
 line_ends_no_return behind [] = refl
-line_ends_no_return behind (b ∷ t) = no_return_append (line_end behind b) (line_ends (b == 13) t) (line_end_no_return behind b) (line_ends_no_return (b == 13) t)
+line_ends_no_return behind (b ∷ t) = no_return_append (line_end behind b) (line_ends (b == 13) t) (line_end_no_return behind b)
+    (line_ends_no_return (b == 13) t)
 
 filter_no_return : (p : ℕ → Bool) (t : List ℕ) → has_no_return t ≡ true → has_no_return (filter p t) ≡ true
 filter_no_return p [] h = refl
@@ -101,19 +103,22 @@ line_ends_same (b ∷ t) h =
     let parts = and_parts (not (b == 13)) (has_no_return t) h in
     go (b == 13) refl parts.0 (line_ends_same t parts.1)
   where
-    go : (r : Bool) → (b == 13) ≡ r → not (b == 13) ≡ true → line_ends false t ≡ t → cond (b == 13) (10 ∷ []) (b ∷ []) ++ line_ends (b == 13) t ≡ b ∷ t
+    go : (r : Bool) → (b == 13) ≡ r → not (b == 13) ≡ true → line_ends false t ≡ t
+        → cond (b == 13) (10 ∷ []) (b ∷ []) ++ line_ends (b == 13) t ≡ b ∷ t
     go true e p rest = let f : false ≡ true = rw e at p in absurd (true≢false (sym f))
     go false e p rest = rw e (ap (λ l. b ∷ l) rest)
 
 filter_twice : (p : ℕ → Bool) (t : List ℕ) → filter p (filter p t) ≡ filter p t
 filter_twice p [] = refl
-filter_twice p (b ∷ t) = cond_both (p b) (b ∷ filter p t) (filter p t) (λ l. filter p l ≡ l) (λ e. rw e (ap (λ l. b ∷ l) (filter_twice p t))) (λ _. filter_twice p t)
+filter_twice p (b ∷ t) = cond_both (p b) (b ∷ filter p t) (filter p t) (λ l. filter p l ≡ l) (λ e. rw e (ap (λ l. b ∷ l) (filter_twice p t)))
+    (λ _. filter_twice p t)
 
 -- the law: what is clean stays as it is
 pub cleaned-cleaned : (t : Name) → cleaned (cleaned t) ≡ cleaned t
 cleaned-cleaned t =
     ap cleaned (cleaned-line_ends t)
     ∙ cleaned-line_ends (filter is_kept (line_ends false t))
-    ∙ ap (filter is_kept) (line_ends_same (filter is_kept (line_ends false t)) (filter_no_return is_kept (line_ends false t) (line_ends_no_return false t)))
+    ∙ ap (filter is_kept) (line_ends_same (filter is_kept (line_ends false t))
+    (filter_no_return is_kept (line_ends false t) (line_ends_no_return false t)))
     ∙ filter_twice is_kept (line_ends false t)
     ∙ sym (cleaned-line_ends t)

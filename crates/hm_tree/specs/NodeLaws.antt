@@ -26,7 +26,9 @@ module _ {m : Bool} where
   edges_joined : (w : Bool) (es : List (Name × Node m)) (h : T (is_node m w (joined es))) → edges_of w (joined es) h ≡ es
   unfolding joined edges_of
   edges_joined w [] h = refl
-  edges_joined w (e ∷ es) h = λ i. (e.0, same_node (record { shape = e.1.shape; sound = first _ _ (second (leads e.0 (joined es)) _ h) }) e.1 refl i) ∷ edges_joined false es (second (is_node m true e.1.shape) _ (second (leads e.0 (joined es)) _ h)) i
+  edges_joined w (e ∷ es) h =
+      λ i. (e.0, same_node (record { shape = e.1.shape; sound = first _ _ (second (leads e.0 (joined es)) _ h) }) e.1 refl i) ∷ edges_joined
+      false es (second (is_node m true e.1.shape) _ (second (leads e.0 (joined es)) _ h)) i
 
   edges_checked : (es : List (Name × Node m)) (b : Bool) (e : are_edges es ≡ b) → T b → edges (checked es b e) ≡ es
   unfolding checked edges
@@ -112,7 +114,8 @@ module _ {m : Bool} where
   most_le f h (e ∷ es) = omega (arith, h e, most_le f h es)
 
   -- each child is less deep than the node
-  pub falls : (f : Name × Node m → ℕ) → ((e : Name × Node m) → f e ≤ depth e.1 + 1) → (es : List (Name × Node m)) → T (are_edges es) → max (most f es) 0 ≤ depth (node es)
+  pub falls : (f : Name × Node m → ℕ) → ((e : Name × Node m) → f e ≤ depth e.1 + 1) → (es : List (Name × Node m)) → T (are_edges es)
+      → max (most f es) 0 ≤ depth (node es)
   falls f h es s = let e = depth-node es s in let l = most_le f h es in omega arith
 
   marked_checked : (es : List (Name × Node m)) (b : Bool) (e : are_edges es ≡ b) → is_marked (checked es b e) ≡ false

@@ -19,7 +19,8 @@ is_plain b = not (is_quote_or_backslash b || is_control b)
 
 -- a quote and a backslash stand behind \, a control character of ASCII is \x and two lower-case hexadecimal digits
 abbrev pub spelled_byte : ℕ → List ℕ
-spelled_byte b = cond (is_quote_or_backslash b) (92 ∷ b ∷ []) (cond (is_control b) (92 ∷ 120 ∷ digit_char (b / 16) ∷ digit_char (b % 16) ∷ []) (b ∷ []))
+spelled_byte b = cond (is_quote_or_backslash b) (92 ∷ b ∷ [])
+    (cond (is_control b) (92 ∷ 120 ∷ digit_char (b / 16) ∷ digit_char (b % 16) ∷ []) (b ∷ []))
 
 -- the same for each byte of a text
 abbrev pub escaped : List ℕ → List ℕ

@@ -15,7 +15,8 @@ pub data Kind (b : ℕ) : Type 0 where
   control : b < 128 → spelled_byte b ≡ 92 ∷ 120 ∷ digit_char (b / 16) ∷ digit_char (b % 16) ∷ [] → Kind b
 
 control_small : (b : ℕ) → is_control b ≡ true → b < 128
-control_small b h = elim (or_cases (nat_lt b 32) (b == 127) h) [ inl low ↦ (let l = ltb-true b 32 low in omega arith) | inr last ↦ (let l = eqb-true b 127 last in omega arith) ]
+control_small b h = elim (or_cases (nat_lt b 32) (b == 127) h)
+    [ inl low ↦ (let l = ltb-true b 32 low in omega arith) | inr last ↦ (let l = eqb-true b 127 last in omega arith) ]
 
 pub kind : (b : ℕ) → Kind b
 kind b = go (is_quote_or_backslash b) refl (is_control b) refl
@@ -43,8 +44,10 @@ spelled_some b x e = go (kind b)
 
 digits_one : (b c : ℕ) → b < 128 → c < 128 → digit_char (b / 16) ≡ digit_char (c / 16) → digit_char (b % 16) ≡ digit_char (c % 16) → b ≡ c
 digits_one b c hb hc high low =
-    let p : b / 16 ≡ c / 16 = sym (digit_value-digit_char (b / 16) (omega arith)) ∙ ap digit_value high ∙ digit_value-digit_char (c / 16) (omega arith) in
-    let q : b % 16 ≡ c % 16 = sym (digit_value-digit_char (b % 16) (omega arith)) ∙ ap digit_value low ∙ digit_value-digit_char (c % 16) (omega arith) in
+    let p : b / 16 ≡ c / 16 = sym (digit_value-digit_char (b / 16) (omega arith)) ∙ ap digit_value high
+    ∙ digit_value-digit_char (c / 16) (omega arith) in
+    let q : b % 16 ≡ c % 16 = sym (digit_value-digit_char (b % 16) (omega arith)) ∙ ap digit_value low
+    ∙ digit_value-digit_char (c % 16) (omega arith) in
     omega arith
 
 -- a plain byte is no backslash, and neither a quote nor a backslash is x
@@ -63,14 +66,19 @@ spelled_byte_one b c x y e = go (kind b) (kind c)
     go : Kind b → Kind c → (b ≡ c) × (x ≡ y)
     go (plain h p) (plain g q) = let f : ◌≡◌ {A = List ℕ} (b ∷ x) (c ∷ y) = same _ _ p q in (cc, cc)
     go (plain h p) (backslashed g q) = let f : ◌≡◌ {A = List ℕ} (b ∷ x) (92 ∷ c ∷ y) = same _ _ p q in let k : b ≡ 92 = cc in absurd (not_plain b h k)
-    go (plain h p) (control g q) = let f : ◌≡◌ {A = List ℕ} (b ∷ x) (92 ∷ 120 ∷ digit_char (c / 16) ∷ digit_char (c % 16) ∷ y) = same _ _ p q in let k : b ≡ 92 = cc in absurd (not_plain b h k)
+    go (plain h p) (control g q) = let f : ◌≡◌ {A = List ℕ} (b ∷ x) (92 ∷ 120 ∷ digit_char (c / 16) ∷ digit_char (c % 16) ∷ y) = same _ _ p q in
+        let k : b ≡ 92 = cc in absurd (not_plain b h k)
     go (backslashed h p) (plain g q) = let f : ◌≡◌ {A = List ℕ} (92 ∷ b ∷ x) (c ∷ y) = same _ _ p q in let k : c ≡ 92 = cc in absurd (not_plain c g k)
     go (backslashed h p) (backslashed g q) = let f : ◌≡◌ {A = List ℕ} (92 ∷ b ∷ x) (92 ∷ c ∷ y) = same _ _ p q in (cc, cc)
-    go (backslashed h p) (control g q) = let f : ◌≡◌ {A = List ℕ} (92 ∷ b ∷ x) (92 ∷ 120 ∷ digit_char (c / 16) ∷ digit_char (c % 16) ∷ y) = same _ _ p q in let k : b ≡ 120 = cc in absurd (not_backslashed b h k)
-    go (control h p) (plain g q) = let f : ◌≡◌ {A = List ℕ} (92 ∷ 120 ∷ digit_char (b / 16) ∷ digit_char (b % 16) ∷ x) (c ∷ y) = same _ _ p q in let k : c ≡ 92 = cc in absurd (not_plain c g k)
-    go (control h p) (backslashed g q) = let f : ◌≡◌ {A = List ℕ} (92 ∷ 120 ∷ digit_char (b / 16) ∷ digit_char (b % 16) ∷ x) (92 ∷ c ∷ y) = same _ _ p q in let k : c ≡ 120 = cc in absurd (not_backslashed c g k)
+    go (backslashed h p) (control g q) = let f : ◌≡◌ {A = List ℕ} (92 ∷ b ∷ x) (92 ∷ 120 ∷ digit_char (c / 16) ∷ digit_char (c % 16) ∷ y) =
+        same _ _ p q in let k : b ≡ 120 = cc in absurd (not_backslashed b h k)
+    go (control h p) (plain g q) = let f : ◌≡◌ {A = List ℕ} (92 ∷ 120 ∷ digit_char (b / 16) ∷ digit_char (b % 16) ∷ x) (c ∷ y) = same _ _ p q in
+        let k : c ≡ 92 = cc in absurd (not_plain c g k)
+    go (control h p) (backslashed g q) = let f : ◌≡◌ {A = List ℕ} (92 ∷ 120 ∷ digit_char (b / 16) ∷ digit_char (b % 16) ∷ x) (92 ∷ c ∷ y) =
+        same _ _ p q in let k : c ≡ 120 = cc in absurd (not_backslashed c g k)
     go (control h p) (control g q) =
-        let f : ◌≡◌ {A = List ℕ} (92 ∷ 120 ∷ digit_char (b / 16) ∷ digit_char (b % 16) ∷ x) (92 ∷ 120 ∷ digit_char (c / 16) ∷ digit_char (c % 16) ∷ y) = same _ _ p q in
+        let f : ◌≡◌ {A = List ℕ} (92 ∷ 120 ∷ digit_char (b / 16) ∷ digit_char (b % 16) ∷ x)
+        (92 ∷ 120 ∷ digit_char (c / 16) ∷ digit_char (c % 16) ∷ y) = same _ _ p q in
         (digits_one b c h g (cc) (cc), cc)
 
 -- no byte's spelling begins with a quote
@@ -82,24 +90,31 @@ spelled_byte_quote b x y e = go (kind b)
 
     go : Kind b → ⊥
     go (plain h p) = let f : ◌≡◌ {A = List ℕ} (b ∷ x) (34 ∷ y) = same _ p in let k : b ≡ 34 = cc in true≢false (sym h ∙ ap is_plain k)
-    go (backslashed h p) = let f : ◌≡◌ {A = List ℕ} (92 ∷ b ∷ x) (34 ∷ y) = same _ p in let k : ◌≡◌ {A = ℕ} 92 34 = cc in let no : ⊥ = omega arith in no
-    go (control h p) = let f : ◌≡◌ {A = List ℕ} (92 ∷ 120 ∷ digit_char (b / 16) ∷ digit_char (b % 16) ∷ x) (34 ∷ y) = same _ p in let k : ◌≡◌ {A = ℕ} 92 34 = cc in let no : ⊥ = omega arith in no
+    go (backslashed h p) = let f : ◌≡◌ {A = List ℕ} (92 ∷ b ∷ x) (34 ∷ y) = same _ p in let k : ◌≡◌ {A = ℕ} 92 34 = cc in let no : ⊥ =
+        omega arith in no
+    go (control h p) = let f : ◌≡◌ {A = List ℕ} (92 ∷ 120 ∷ digit_char (b / 16) ∷ digit_char (b % 16) ∷ x) (34 ∷ y) = same _ p in
+        let k : ◌≡◌ {A = ℕ} 92 34 = cc in let no : ⊥ = omega arith in no
 
 -- where a text's escaped bytes begin those of a name, the name goes on with what is left
-pub escaped_rest : (text name left rest : List ℕ) → escaped text ++ left ≡ escaped name ++ 34 ∷ rest → (more : List ℕ) × (name ≡ text ++ more) × (left ≡ escaped more ++ 34 ∷ rest)
+pub escaped_rest : (text name left rest : List ℕ) → escaped text ++ left ≡ escaped name ++ 34 ∷ rest
+    → (more : List ℕ) × (name ≡ text ++ more) × (left ≡ escaped more ++ 34 ∷ rest)
 escaped_rest [] name left rest e = (name, refl, e)
-escaped_rest (b ∷ text) [] left rest e = absurd (spelled_byte_quote b (escaped text ++ left) rest (sym (append_assoc (spelled_byte b) (escaped text) left) ∙ e))
+escaped_rest (b ∷ text) [] left rest e =
+    absurd (spelled_byte_quote b (escaped text ++ left) rest (sym (append_assoc (spelled_byte b) (escaped text) left) ∙ e))
 escaped_rest (b ∷ text) (c ∷ name) left rest e =
-    let one = spelled_byte_one b c (escaped text ++ left) (escaped name ++ 34 ∷ rest) (sym (append_assoc (spelled_byte b) (escaped text) left) ∙ e ∙ append_assoc (spelled_byte c) (escaped name) (34 ∷ rest)) in
+    let one = spelled_byte_one b c (escaped text ++ left) (escaped name ++ 34 ∷ rest)
+    (sym (append_assoc (spelled_byte b) (escaped text) left) ∙ e ∙ append_assoc (spelled_byte c) (escaped name) (34 ∷ rest)) in
     let next = escaped_rest text name left rest one.1 in
     (next.0, (λ i. sym one.0 i ∷ next.1 i), next.2)
 
 pub escaped_one : (a b x y : List ℕ) → escaped a ++ 34 ∷ x ≡ escaped b ++ 34 ∷ y → (a ≡ b) × (x ≡ y)
 escaped_one [] [] x y e = (refl, cc)
-escaped_one [] (c ∷ b) x y e = absurd (spelled_byte_quote c (escaped b ++ 34 ∷ y) x (sym (append_assoc (spelled_byte c) (escaped b) (34 ∷ y)) ∙ sym e))
+escaped_one [] (c ∷ b) x y e =
+    absurd (spelled_byte_quote c (escaped b ++ 34 ∷ y) x (sym (append_assoc (spelled_byte c) (escaped b) (34 ∷ y)) ∙ sym e))
 escaped_one (c ∷ a) [] x y e = absurd (spelled_byte_quote c (escaped a ++ 34 ∷ x) y (sym (append_assoc (spelled_byte c) (escaped a) (34 ∷ x)) ∙ e))
 escaped_one (c ∷ a) (d ∷ b) x y e =
-    let one = spelled_byte_one c d (escaped a ++ 34 ∷ x) (escaped b ++ 34 ∷ y) (sym (append_assoc (spelled_byte c) (escaped a) (34 ∷ x)) ∙ e ∙ append_assoc (spelled_byte d) (escaped b) (34 ∷ y)) in
+    let one = spelled_byte_one c d (escaped a ++ 34 ∷ x) (escaped b ++ 34 ∷ y)
+    (sym (append_assoc (spelled_byte c) (escaped a) (34 ∷ x)) ∙ e ∙ append_assoc (spelled_byte d) (escaped b) (34 ∷ y)) in
     let next = escaped_one a b x y one.1 in
     ((λ i. one.0 i ∷ next.0 i), next.1)
 

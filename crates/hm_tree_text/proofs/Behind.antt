@@ -19,25 +19,33 @@ less_is o e = subst (λ r. T (is_lt r)) (sym e) tt
 
 module _ {X : Type 0} where
   -- the greatest name stands last
-  pub behind_last : (n : Name) (es : List (Name × X)) (k : Name) (x : X) → T (is_sorted name_cmp es) → slice_get es (length es - 1) ≡ Some (k, x) → name_cmp k n ≡ Less → T (is_behind n es)
+  pub behind_last : (n : Name) (es : List (Name × X)) (k : Name) (x : X) → T (is_sorted name_cmp es)
+      → slice_get es (length es - 1) ≡ Some (k, x) → name_cmp k n ≡ Less → T (is_behind n es)
   behind_last n [] k x h at less = tt
   behind_last n (e ∷ []) k x h at less = both _ _ (less_is _ (let head : e ≡ (k, x) = cc in ap (λ (d : Name × X). name_cmp d.0 n) head ∙ less)) tt
   behind_last n (e ∷ (f ∷ es)) k x h at less =
-      let rest = behind_last n (f ∷ es) k x (second _ _ h) (subst (λ i. slice_get (e ∷ (f ∷ es)) i ≡ Some (k, x)) (let s : length (e ∷ (f ∷ es)) - 1 ≡ suc (length (f ∷ es) - 1) = omega arith in s) at) less in
+      let rest = behind_last n (f ∷ es) k x (second _ _ h)
+      (subst (λ i. slice_get (e ∷ (f ∷ es)) i ≡ Some (k, x)) (let s : length (e ∷ (f ∷ es)) - 1 ≡ suc (length (f ∷ es) - 1) = omega arith in
+      s) at) less in
       both _ _ (less_is _ (name_total.trans e.0 f.0 n (is_less _ (first _ _ (first _ _ h))) (is_less _ (first _ _ rest)))) rest
 
-  pub last_behind : (n : Name) (es : List (Name × X)) (k : Name) (x : X) → slice_get es (length es - 1) ≡ Some (k, x) → T (is_behind n es) → name_cmp k n ≡ Less
+  pub last_behind : (n : Name) (es : List (Name × X)) (k : Name) (x : X) → slice_get es (length es - 1) ≡ Some (k, x) → T (is_behind n es)
+      → name_cmp k n ≡ Less
   last_behind n [] k x at h = let no : ⊥ = cc in absurd no
   last_behind n (e ∷ []) k x at h = let head : e ≡ (k, x) = cc in ap (λ (d : Name × X). name_cmp d.0 n) (sym head) ∙ is_less _ (first _ _ h)
-  last_behind n (e ∷ (f ∷ es)) k x at h = last_behind n (f ∷ es) k x (subst (λ i. slice_get (e ∷ (f ∷ es)) i ≡ Some (k, x)) (let s : length (e ∷ (f ∷ es)) - 1 ≡ suc (length (f ∷ es) - 1) = omega arith in s) at) (second _ _ h)
+  last_behind n (e ∷ (f ∷ es)) k x at h = last_behind n (f ∷ es) k x
+      (subst (λ i. slice_get (e ∷ (f ∷ es)) i ≡ Some (k, x)) (let s : length (e ∷ (f ∷ es)) - 1 ≡ suc (length (f ∷ es) - 1) = omega arith in s)
+      at) (second _ _ h)
 
   all_below_more : (k n : Name) (x : X) (es : List (Name × X)) → T (below_all k es) → name_cmp k n ≡ Less → T (below_all k (es ++ (n, x) ∷ []))
   all_below_more k n x [] h less = both _ _ (less_is _ less) tt
   all_below_more k n x (e ∷ es) h less = both _ _ (first _ _ h) (all_below_more k n x es (second _ _ h) less)
 
-  sorted_behind : (n : Name) (x : X) (es : List (Name × X)) → T (is_sorted name_cmp es) → T (is_behind n es) → T (is_sorted name_cmp (es ++ (n, x) ∷ []))
+  sorted_behind : (n : Name) (x : X) (es : List (Name × X)) → T (is_sorted name_cmp es) → T (is_behind n es)
+      → T (is_sorted name_cmp (es ++ (n, x) ∷ []))
   sorted_behind n x [] h b = tt
-  sorted_behind n x (e ∷ es) h b = both _ _ (all_below_more e.0 n x es (first _ _ h) (is_less _ (first _ _ b))) (sorted_behind n x es (second _ _ h) (second _ _ b))
+  sorted_behind n x (e ∷ es) h b = both _ _ (all_below_more e.0 n x es (first _ _ h) (is_less _ (first _ _ b)))
+      (sorted_behind n x es (second _ _ h) (second _ _ b))
 
   below_among : (k n : Name) (x : X) (es more : List (Name × X)) → T (below_all k (es ++ (n, x) ∷ more)) → T (is_lt (name_cmp k n))
   below_among k n x [] more h = first _ _ h
@@ -66,13 +74,15 @@ module _ {X : Type 0} where
   text_among e es more h = texts_among e es more (edges_texts _ h)
 
   -- a name is greater than all exactly where it is greater than the last
-  pub behind_after : (n : Name) (es : List (Name × X)) (k : Name) (x : X) → T (is_sorted name_cmp es) → slice_get es (length es - 1) ≡ Some (k, x) → T (is_behind n es) ↔ IsAfter (Some k) n
+  pub behind_after : (n : Name) (es : List (Name × X)) (k : Name) (x : X) → T (is_sorted name_cmp es)
+      → slice_get es (length es - 1) ≡ Some (k, x) → T (is_behind n es) ↔ IsAfter (Some k) n
   behind_after n es k x h at = (last_behind n es k x at, behind_last n es k x h at)
 
   -- what is greater than a name is greater than all that it is greater than
   pub behind_more : (n k : Name) (es : List (Name × X)) → T (is_behind n es) → name_cmp n k ≡ Less → T (is_behind k es)
   behind_more n k [] h less = tt
-  behind_more n k (e ∷ es) h less = both _ _ (less_is _ (name_total.trans e.0 n k (is_less _ (first _ _ h)) less)) (behind_more n k es (second _ _ h) less)
+  behind_more n k (e ∷ es) h less = both _ _ (less_is _ (name_total.trans e.0 n k (is_less _ (first _ _ h)) less))
+      (behind_more n k es (second _ _ h) less)
 
 -- a name goes on to a greater one
 abbrev pub longer : Name → Name

@@ -52,7 +52,8 @@ module _ (m : Bool) (es : Edges) (last : Option Name) where
         part = spelled e.name;
         rest = text below e.child.shape ++ (separator e.more ∷ h.rest);
         is_form = record { name = e.name; is_text = e.is_text; after = same e.name e.after; is = refl };
-        is = h.is ∙ ap (λ l. l ++ h.rest) e.is ∙ append_assoc (edge_text e.name e.child.shape) (separator e.more ∷ []) h.rest ∙ append_assoc (spelled e.name) (text below e.child.shape) (separator e.more ∷ h.rest);
+        is = h.is ∙ ap (λ l. l ++ h.rest) e.is ∙ append_assoc (edge_text e.name e.child.shape) (separator e.more ∷ []) h.rest
+            ∙ append_assoc (spelled e.name) (text below e.child.shape) (separator e.more ∷ h.rest);
       }
 
 -- ---- what stands behind the name of an edge
@@ -68,15 +69,19 @@ module _ (m : Bool) (es : Edges) (n : Name) where
       is_text = u;
       after = b;
       marks = h.marks;
-      is = append-nil (spelled n ++ y) ∙ ap (λ l. spelled n ++ l) h.is ∙ sym (append_assoc (spelled n) (text below h.child.shape) (separator h.more ∷ []));
+      is = append-nil (spelled n ++ y) ∙ ap (λ l. spelled n ++ l) h.is
+          ∙ sym (append_assoc (spelled n) (text below h.child.shape) (separator h.more ∷ []));
     },
   )
 
   -- an edge that stands there has this name
-  pub edge_split : (y : List ℕ) (h : BeginsWith (IsEdge m es) (spelled n ++ y)) → (n ≡ h.is_form.name) × (y ≡ text below h.is_form.child.shape ++ separator h.is_form.more ∷ h.rest)
+  pub edge_split : (y : List ℕ) (h : BeginsWith (IsEdge m es) (spelled n ++ y))
+      → (n ≡ h.is_form.name) × (y ≡ text below h.is_form.child.shape ++ separator h.is_form.more ∷ h.rest)
   edge_split y h =
       let e = h.is_form in
-      spelled_one n e.name y (text below e.child.shape ++ separator e.more ∷ h.rest) (h.is ∙ ap (λ l. l ++ h.rest) e.is ∙ append_assoc (edge_text e.name e.child.shape) (separator e.more ∷ []) h.rest ∙ append_assoc (spelled e.name) (text below e.child.shape) (separator e.more ∷ h.rest))
+      spelled_one n e.name y (text below e.child.shape ++ separator e.more ∷ h.rest)
+      (h.is ∙ ap (λ l. l ++ h.rest) e.is ∙ append_assoc (edge_text e.name e.child.shape) (separator e.more ∷ []) h.rest
+      ∙ append_assoc (spelled e.name) (text below e.child.shape) (separator e.more ∷ h.rest))
 
   pub edge_below : (y : List ℕ) → BeginsWith (IsEdge m es) (spelled n ++ y) → BeginsWith (IsBelow m) y
   edge_below y h =
@@ -89,7 +94,8 @@ module _ (m : Bool) (es : Edges) (n : Name) where
       }
 
   module _ (c : Node true) where
-    pub separator_edge : IsUtf8 n → T (is_behind n es) → HasAllowedMarks m c.shape → (y : List ℕ) → IsSeparator y → IsBegun (IsEdge m es) (edge_text n c.shape ++ y)
+    pub separator_edge : IsUtf8 n → T (is_behind n es) → HasAllowedMarks m c.shape → (y : List ℕ) → IsSeparator y
+        → IsBegun (IsEdge m es) (edge_text n c.shape ++ y)
     separator_edge u b t y h = (
       [],
       record {
@@ -109,10 +115,12 @@ module _ (m : Bool) (es : Edges) (n : Name) where
 
     pub edge_separator : (y : List ℕ) → (c.shape ≡ bare → IsNot 58 y) → BeginsWith (IsEdge m es) (edge_text n c.shape ++ y) → BeginsWith IsSeparator y
     edge_separator y ok h =
-        let g : BeginsWith (IsEdge m es) (spelled n ++ (text below c.shape ++ y)) = subst (BeginsWith (IsEdge m es)) (append_assoc (spelled n) (text below c.shape) y) h in
+        let g : BeginsWith (IsEdge m es) (spelled n ++ (text below c.shape ++ y)) =
+        subst (BeginsWith (IsEdge m es)) (append_assoc (spelled n) (text below c.shape) y) h in
         let e = g.is_form in
         let s = edge_split (text below c.shape ++ y) g in
-        let t = apart below c.shape e.child.shape y (separator e.more ∷ g.rest) (λ none. over_unless y (ok none)) (λ _. over_separator e.more g.rest) s.1 in
+        let t = apart below c.shape e.child.shape y (separator e.more ∷ g.rest) (λ none. over_unless y (ok none))
+        (λ _. over_separator e.more g.rest) s.1 in
         record { part = separator e.more ∷ []; rest = g.rest; is_form = record { more = e.more; is = refl }; is = t.1 }
 
 -- ---- neither a comma nor a brace
@@ -183,25 +191,36 @@ module _ (m : Bool) (es : Edges) (are : T (are_edges es)) (marks : AllByRecursio
           after (d ∷ es) b = both _ _ (first _ _ (behind_more n (longer n) (d ∷ es) b (longer_greater n))) (after es (second _ _ b))
 
       by : (more : Bool) → y ≡ edge_text n c.shape ++ separator more ∷ [] → IsBegun (IsInside m) (commas es ++ y)
-      by false is = ([], subst (IsInside m) (sym (append-nil (inside (es ++ e ∷ []))) ∙ sym (inside_last es e []) ∙ ap (λ l. commas es ++ l) (append-nil _ ∙ sym is) ∙ sym (append-nil (commas es ++ y))) (listed_inside m (es ++ e ∷ []) edges_here marks_here (some_more es e)))
+      by false is = (
+        [],
+        subst (IsInside m) (sym (append-nil (inside (es ++ e ∷ []))) ∙ sym (inside_last es e [])
+            ∙ ap (λ l. commas es ++ l) (append-nil _ ∙ sym is) ∙ sym (append-nil (commas es ++ y)))
+            (listed_inside m (es ++ e ∷ []) edges_here marks_here (some_more es e)),
+      )
       by true is =
           let rest : List ℕ = edge_text f.0 f.1.shape ++ 125 ∷ [] in (
             rest,
             subst (IsInside m)
-                (sym (append-nil (inside ((es ++ e ∷ []) ++ f ∷ []))) ∙ sym (inside_last (es ++ e ∷ []) f []) ∙ ap (λ l. commas (es ++ e ∷ []) ++ l) (append-nil rest) ∙ commas_last es e rest ∙ ap (λ l. commas es ++ (l ++ rest)) (sym is) ∙ sym (append_assoc (commas es) y rest))
-                (listed_inside m ((es ++ e ∷ []) ++ f ∷ []) (edges_behind (longer n) empty (es ++ e ∷ []) edges_here (longer_text n h.is_text) behind_here) (all_last m (es ++ e ∷ []) f marks_here (empty_marks m)) (some_more (es ++ e ∷ []) f)),
+                (sym (append-nil (inside ((es ++ e ∷ []) ++ f ∷ []))) ∙ sym (inside_last (es ++ e ∷ []) f [])
+                ∙ ap (λ l. commas (es ++ e ∷ []) ++ l) (append-nil rest) ∙ commas_last es e rest
+                ∙ ap (λ l. commas es ++ (l ++ rest)) (sym is) ∙ sym (append_assoc (commas es) y rest))
+                (listed_inside m ((es ++ e ∷ []) ++ f ∷ []) (edges_behind (longer n) empty (es ++ e ∷ []) edges_here (longer_text n h.is_text)
+                behind_here) (all_last m (es ++ e ∷ []) f marks_here (empty_marks m)) (some_more (es ++ e ∷ []) f)),
           )
 
 -- an edge comes behind those that were read
 pub inside_edge : (m : Bool) (es : Edges) (y : List ℕ) → BeginsWith (IsInside m) (commas es ++ y) → BeginsWith (IsEdge m es) y
 inside_edge m es y h = by (edges h.is_form.node) refl h.is_form.some (h.is ∙ ap (λ l. l ++ h.rest) h.is_form.is)
   where
-    by : (fs : Edges) → edges h.is_form.node ≡ fs → 0 < length (edges h.is_form.node) → commas es ++ y ≡ inside (edges h.is_form.node) ++ h.rest → BeginsWith (IsEdge m es) y
+    by : (fs : Edges) → edges h.is_form.node ≡ fs → 0 < length (edges h.is_form.node) → commas es ++ y ≡ inside (edges h.is_form.node) ++ h.rest
+        → BeginsWith (IsEdge m es) y
     by [] same some is = let l = ap length same in absurd (omega arith)
     by (f ∷ fs) same some is =
         let next = remaining y h.rest es f fs (is ∙ ap (λ l. inside l ++ h.rest) same) in
-        let are : T (are_edges (es ++ next.next ∷ next.more)) = subst (λ (l : Edges). T (are_edges l)) (same ∙ next.among) (edges_are h.is_form.node) in
-        let allowed = all_among m es next.next next.more (subst (AllByRecursion (IsAllowedEdge m)) (same ∙ next.among) (edges_from_marks m h.is_form.node h.is_form.marks)) in
+        let are : T (are_edges (es ++ next.next ∷ next.more)) =
+        subst (λ (l : Edges). T (are_edges l)) (same ∙ next.among) (edges_are h.is_form.node) in
+        let allowed = all_among m es next.next next.more
+        (subst (AllByRecursion (IsAllowedEdge m)) (same ∙ next.among) (edges_from_marks m h.is_form.node h.is_form.marks)) in
         record {
           part = edge_text next.next.0 next.next.1.shape ++ separator (is_more next.more) ∷ [];
           rest = inside next.more ++ h.rest;
@@ -214,7 +233,8 @@ inside_edge m es y h = by (edges h.is_form.node) refl h.is_form.some (h.is ∙ a
             marks = allowed;
             is = refl;
           };
-          is = next.spelled ∙ sym (append_assoc (edge_text next.next.0 next.next.1.shape) (separator (is_more next.more) ∷ []) (inside next.more ++ h.rest));
+          is = next.spelled ∙ sym (append_assoc (edge_text next.next.0 next.next.1.shape) (separator (is_more next.more) ∷ [])
+              (inside next.more ++ h.rest));
         }
 
 -- ---- a node with edges, or a mark
@@ -322,8 +342,10 @@ module _ (m : Bool) where
   pub below_full_back : (y : List ℕ) → BeginsWith (IsBelow m) ((58 ∷ []) ++ y) → BeginsWith (IsFull m) y
   below_full_back y h =
       let f = h.is_form in
-      let is : text below f.child.shape ++ separator f.more ∷ h.rest ≡ 58 ∷ y = sym (append_assoc (text below f.child.shape) (separator f.more ∷ []) h.rest) ∙ ap (λ l. l ++ h.rest) (sym f.is) ∙ sym h.is in
-      let some : f.child.shape ≡ bare → ⊥ = λ e. no_colon (separator f.more ∷ h.rest) y (over_separator f.more h.rest) (ap (λ s. text below s ++ separator f.more ∷ h.rest) (sym e) ∙ is) in
+      let is : text below f.child.shape ++ separator f.more ∷ h.rest ≡ 58 ∷ y =
+      sym (append_assoc (text below f.child.shape) (separator f.more ∷ []) h.rest) ∙ ap (λ l. l ++ h.rest) (sym f.is) ∙ sym h.is in
+      let some : f.child.shape ≡ bare → ⊥ = λ e. no_colon (separator f.more ∷ h.rest) y (over_separator f.more h.rest)
+      (ap (λ s. text below s ++ separator f.more ∷ h.rest) (sym e) ∙ is) in
       record {
         part = text whole f.child.shape;
         rest = separator f.more ∷ h.rest;

@@ -55,7 +55,9 @@ module _ (m : Bool) (room : ℕ) (bytes : List ℕ) (start : ℕ) where
         marks = marks_last;
         shallow = shallow_last;
         stands = record {
-          spelled = g.stands.spelled ∙ ap (λ l. commas es ++ l) (e.stands.spelled ∙ ap (λ b. (edge_text name e.child.shape ++ separator b ∷ []) ++ drop next bytes) comma) ∙ sym (commas_last es (name, e.child) (drop next bytes));
+          spelled = g.stands.spelled ∙ ap (λ l. commas es ++ l)
+              (e.stands.spelled ∙ ap (λ b. (edge_text name e.child.shape ++ separator b ∷ []) ++ drop next bytes) comma)
+              ∙ sym (commas_last es (name, e.child) (drop next bytes));
           within = e.stands.within;
         };
       }
@@ -63,30 +65,44 @@ module _ (m : Bool) (room : ℕ) (bytes : List ℕ) (start : ℕ) where
       gathered_whole : more ≡ false → (value : Archive) → value ≡ Some (node with_last) → IsInsideRead m (room + 1) bytes start value next
       gathered_whole brace value is = record {
         node = node with_last;
-        read = record { is = is; marks = listed_marks m with_last edges_last marks_last; shallow = let d = depth-node with_last edges_last in let s = shallow_last in omega arith };
-        some = subst (λ (es : Edges). 0 < length es) (sym (edges-node with_last edges_last)) (let l = length-append es ((name, e.child) ∷ []) in omega arith);
+        read = record {
+          is = is;
+          marks = listed_marks m with_last edges_last marks_last;
+          shallow = let d = depth-node with_last edges_last in
+              let s = shallow_last in omega arith;
+        };
+        some = subst (λ (es : Edges). 0 < length es) (sym (edges-node with_last edges_last))
+            (let l = length-append es ((name, e.child) ∷ []) in omega arith);
         stands = record {
-          spelled = g.stands.spelled ∙ ap (λ l. commas es ++ l) (e.stands.spelled ∙ ap (λ b. (edge_text name e.child.shape ++ separator b ∷ []) ++ drop next bytes) brace) ∙ inside_last es (name, e.child) (drop next bytes) ∙ ap (λ (es : Edges). inside es ++ drop next bytes) (sym (edges-node with_last edges_last));
+          spelled = g.stands.spelled ∙ ap (λ l. commas es ++ l)
+              (e.stands.spelled ∙ ap (λ b. (edge_text name e.child.shape ++ separator b ∷ []) ++ drop next bytes) brace)
+              ∙ inside_last es (name, e.child) (drop next bytes) ∙ ap (λ (es : Edges). inside es ++ drop next bytes)
+              (sym (edges-node with_last edges_last));
           within = e.stands.within;
         };
       }
 
     -- where no edge follows, the node doesn't go on
-    pub edge_fails : start ≤ length bytes → (fault : TextFault) → Fails (IsEdge m es) (OpensEdge m room es) bytes end fault → Fails (IsInside m) (OpensInside m room) bytes start fault
+    pub edge_fails : start ≤ length bytes → (fault : TextFault) → Fails (IsEdge m es) (OpensEdge m room es) bytes end fault
+        → Fails (IsInside m) (OpensInside m room) bytes start fault
     edge_fails le (BadTree at) f = (
-      fault_behind (IsEdge m es) (IsInside m) (λ _. Unit {0}) (commas es) (edge_inside m es g.edges g.marks) (λ y _. inside_edge m es y) bytes start end at le g.stands tt (λ _ _ _ _ _. tt) f.0,
-      λ d. elim (deep_edge m room es (drop end bytes) g.shallow (subst (BeginsWith (OpensInside m room)) g.stands.spelled d)) [ inl o ↦ f.1 o | inr e ↦ f.0.longest.none e ],
+      fault_behind (IsEdge m es) (IsInside m) (λ _. Unit {0}) (commas es) (edge_inside m es g.edges g.marks) (λ y _. inside_edge m es y) bytes
+          start end at le g.stands tt (λ _ _ _ _ _. tt) f.0,
+      λ d. elim (deep_edge m room es (drop end bytes) g.shallow (subst (BeginsWith (OpensInside m room)) g.stands.spelled d))
+          [ inl o ↦ f.1 o | inr e ↦ f.0.longest.none e ],
     )
     edge_fails le TooDeep f =
         let same = edges-node es g.edges in
         subst (BeginsWith (OpensInside m room)) (sym g.stands.spelled)
         (subst (λ (l : Edges). BeginsWith (OpensInside m room) (commas l ++ drop end bytes)) same
-        (edge_deep m room (node es) (listed_marks m es g.edges g.marks) (drop end bytes) (subst (λ (l : Edges). BeginsWith (OpensEdge m room l) (drop end bytes)) (sym same) f)))
+        (edge_deep m room (node es) (listed_marks m es g.edges g.marks) (drop end bytes)
+        (subst (λ (l : Edges). BeginsWith (OpensEdge m room l) (drop end bytes)) (sym same) f)))
     edge_fails le Memory f = tt
 
 -- ---- the same of pending edges, behind those of the nodes around
 
-pub record Stacked {X : Type 0} (value : X → Archive) (m : Bool) (room : ℕ) (bytes : List ℕ) (at : ℕ) (around now : List (Name × X)) (start end : ℕ) : Type 0 where
+pub record Stacked {X : Type 0} (value : X → Archive) (m : Bool) (room : ℕ) (bytes : List ℕ) (at : ℕ) (around now : List (Name × X))
+    (start end : ℕ) : Type 0 where
   pub from : start ≤ length now
   pub around_kept : take start now ≡ around
   pub make : MakeNode value (drop start now)
@@ -105,7 +121,9 @@ module _ {X : Type 0} (value : X → Archive) (m : Bool) (room : ℕ) (bytes : L
       none = drop_all start around (omega arith)
 
 module _ {X : Type 0} (value : X → Archive) (m : Bool) (room : ℕ) (bytes : List ℕ) (at : ℕ) (around now : List (Name × X)) (start : ℕ) where
-  module _ (end : ℕ) (s : Stacked value m room bytes at around now start end) (name : Name) (child : X) (more : Bool) (next : ℕ) (e : IsEdgeRead m room (valued_edges value (drop start now)) bytes end name (value child) more next) (held new : List (Name × X)) (same : held ≡ now) (pushed : new ≡ held ++ (name, child) ∷ []) where
+  module _ (end : ℕ) (s : Stacked value m room bytes at around now start end) (name : Name) (child : X) (more : Bool) (next : ℕ)
+      (e : IsEdgeRead m room (valued_edges value (drop start now)) bytes end name (value child) more next) (held new : List (Name × X))
+      (same : held ≡ now) (pushed : new ≡ held ++ (name, child) ∷ []) where
     new_is : new ≡ now ++ (name, child) ∷ []
     new_is = pushed ∙ ap (λ l. l ++ (name, child) ∷ []) same
 
@@ -132,9 +150,12 @@ module _ {X : Type 0} (value : X → Archive) (m : Bool) (room : ℕ) (bytes : L
       from = new_from;
       around_kept = new_around;
       make = new_make;
-      gathered = subst (λ (l : Edges). Gathered m room bytes at l next) (sym new_edges) (gathered_last m room bytes at _ end s.gathered name (value child) more next e comma);
+      gathered = subst (λ (l : Edges). Gathered m room bytes at l next) (sym new_edges)
+          (gathered_last m room bytes at _ end s.gathered name (value child) more next e comma);
     }
 
-    pub gathered_all : more ≡ false → (built : Archive) (taken : List (Name × X)) → taken ≡ drop start new → built ≡ Some (node (valued_edges value taken)) → IsInsideRead m (room + 1) bytes at built next
+    pub gathered_all : more ≡ false → (built : Archive) (taken : List (Name × X)) → taken ≡ drop start new
+        → built ≡ Some (node (valued_edges value taken)) → IsInsideRead m (room + 1) bytes at built next
     gathered_all brace built taken whole is =
-        gathered_whole m room bytes at _ end s.gathered name (value child) more next e brace built (is ∙ ap (λ (l : List (Name × X)). Some (node (valued_edges value l))) whole ∙ ap (λ (l : Edges). Some (node l)) new_edges)
+        gathered_whole m room bytes at _ end s.gathered name (value child) more next e brace built
+        (is ∙ ap (λ (l : List (Name × X)). Some (node (valued_edges value l))) whole ∙ ap (λ (l : Edges). Some (node l)) new_edges)

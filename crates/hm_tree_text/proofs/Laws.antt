@@ -30,7 +30,8 @@ pub archive_text_one : (o a : Archive) → archive_text o ≡ archive_text a →
 archive_text_one None None e = refl
 archive_text_one None (Some u) e = absurd (whole_something u.shape (sym e))
 archive_text_one (Some t) None e = absurd (whole_something t.shape e)
-archive_text_one (Some t) (Some u) e = ap (λ (n : Node true). Some n) (same_node t u (apart whole t.shape u.shape line_feed line_feed (λ _. tt) (λ _. tt) e).0)
+archive_text_one (Some t) (Some u) e = ap (λ (n : Node true). Some n)
+    (same_node t u (apart whole t.shape u.shape line_feed line_feed (λ _. tt) (λ _. tt) e).0)
 
 -- bytes are the text of one tree, and of one archive
 pub tree_once : (t u : Tree) (bytes : List ℕ) → IsTreeText t bytes → IsTreeText u bytes → t ≡ u
@@ -69,7 +70,8 @@ archive_text_shallow None bytes h = nothing_shallow true bytes h.spelled
 archive_text_shallow (Some t) bytes h = too_deep_whole true t bytes h.spelled h.shallow
 
 -- where the bytes are a text, want of memory is the one fault
-text_no_fault : (m : Bool) (File : List ℕ → Type 0) (bytes : List ℕ) → ¬ (IsTooDeep m bytes) → File bytes → (fault : TextFault) → Faults m File bytes fault → fault ≡ Memory
+text_no_fault : (m : Bool) (File : List ℕ → Type 0) (bytes : List ℕ) → ¬ (IsTooDeep m bytes) → File bytes → (fault : TextFault)
+    → Faults m File bytes fault → fault ≡ Memory
 text_no_fault m File bytes shallow file (BadTree at) h = absurd (h.no_file file)
 text_no_fault m File bytes shallow file TooDeep h = absurd (shallow h)
 text_no_fault m File bytes shallow file Memory h = refl
@@ -81,7 +83,8 @@ pub archive_text_reads : (o : Archive) (bytes : List ℕ) → IsArchiveText o by
 archive_text_reads o bytes h = text_no_fault true IsArchiveFile bytes (archive_text_shallow o bytes h) (archive_text_file o bytes h)
 
 -- bytes have one fault other than want of memory, at one place
-fault_once : (m : Bool) (File : List ℕ → Type 0) (bytes : List ℕ) (one other : TextFault) → Faults m File bytes one → Faults m File bytes other → (one ≡ Memory → ⊥) → (other ≡ Memory → ⊥) → one ≡ other
+fault_once : (m : Bool) (File : List ℕ → Type 0) (bytes : List ℕ) (one other : TextFault) → Faults m File bytes one → Faults m File bytes other
+    → (one ≡ Memory → ⊥) → (other ≡ Memory → ⊥) → one ≡ other
 fault_once m File bytes (BadTree at) (BadTree place) h k a b =
     let le = k.place.longest at h.place.within h.place.begun in
     let ge = h.place.longest place k.place.within k.place.begun in
@@ -94,10 +97,12 @@ fault_once m File bytes TooDeep TooDeep h k a b = refl
 fault_once m File bytes TooDeep Memory h k a b = absurd (b refl)
 fault_once m File bytes Memory other h k a b = absurd (a refl)
 
-pub tree_fault_once : (bytes : List ℕ) (one other : TextFault) → TreeFaults bytes one → TreeFaults bytes other → (one ≡ Memory → ⊥) → (other ≡ Memory → ⊥) → one ≡ other
+pub tree_fault_once : (bytes : List ℕ) (one other : TextFault) → TreeFaults bytes one → TreeFaults bytes other → (one ≡ Memory → ⊥)
+    → (other ≡ Memory → ⊥) → one ≡ other
 tree_fault_once = fault_once false IsTreeFile
 
-pub archive_fault_once : (bytes : List ℕ) (one other : TextFault) → ArchiveFaults bytes one → ArchiveFaults bytes other → (one ≡ Memory → ⊥) → (other ≡ Memory → ⊥) → one ≡ other
+pub archive_fault_once : (bytes : List ℕ) (one other : TextFault) → ArchiveFaults bytes one → ArchiveFaults bytes other → (one ≡ Memory → ⊥)
+    → (other ≡ Memory → ⊥) → one ≡ other
 archive_fault_once = fault_once true IsArchiveFile
 
 -- ---- one reading
@@ -109,7 +114,8 @@ module _ {A : Type 0} (IsText : A → List ℕ → Type 0) (FaultsOf : List ℕ 
   read_as (Err TooDeep) h k = k
   read_as (Err Memory) h k = tt
 
-  reads_once : ((x y : A) → IsText x bytes → IsText y bytes → x ≡ y) → ((x : A) → IsText x bytes → (fault : TextFault) → FaultsOf bytes fault → fault ≡ Memory)
+  reads_once : ((x y : A) → IsText x bytes → IsText y bytes → x ≡ y)
+      → ((x : A) → IsText x bytes → (fault : TextFault) → FaultsOf bytes fault → fault ≡ Memory)
       → ((one other : TextFault) → FaultsOf bytes one → FaultsOf bytes other → (one ≡ Memory → ⊥) → (other ≡ Memory → ⊥) → one ≡ other)
       → (r q : Result A TextFault) → Reads IsText FaultsOf bytes r → Reads IsText FaultsOf bytes q → r ≡ q
   reads_once text none fault (Ok x) (Ok y) h k = ap Ok (text x y h k)
@@ -137,7 +143,8 @@ archive_reads_once bytes =
     reads_once IsArchiveText ArchiveFaults bytes (λ o a. archive_once o a bytes) (λ o h. archive_text_reads o bytes h) (archive_fault_once bytes)
 
 -- a fault with which a reading ends is one of the bytes
-pub read_fault : {A : Type 0} (IsText : A → List ℕ → Type 0) (m : Bool) (File : List ℕ → Type 0) (bytes : List ℕ) (fault : TextFault) → UnlessMemory (Reads IsText (Faults m File) bytes) (Err fault) → Faults m File bytes fault
+pub read_fault : {A : Type 0} (IsText : A → List ℕ → Type 0) (m : Bool) (File : List ℕ → Type 0) (bytes : List ℕ) (fault : TextFault)
+    → UnlessMemory (Reads IsText (Faults m File) bytes) (Err fault) → Faults m File bytes fault
 read_fault IsText m File bytes (BadTree at) h = h
 read_fault IsText m File bytes TooDeep h = h
 read_fault IsText m File bytes Memory h = tt

@@ -15,11 +15,13 @@ Edges = List (Name × Node true)
 further_joined : (es : Edges) → text further (joined es) ≡ separator (is_more es) ∷ inside es
 unfolding joined
 further_joined [] = refl
-further_joined (e ∷ es) = ap (λ l. 44 ∷ l) (ap (λ l. spelled e.0 ++ (text below e.1.shape ++ l)) (further_joined es) ∙ sym (append_assoc (spelled e.0) (text below e.1.shape) (separator (is_more es) ∷ inside es)))
+further_joined (e ∷ es) = ap (λ l. 44 ∷ l) (ap (λ l. spelled e.0 ++ (text below e.1.shape ++ l)) (further_joined es)
+    ∙ sym (append_assoc (spelled e.0) (text below e.1.shape) (separator (is_more es) ∷ inside es)))
 
 whole_joined : (e : Name × Node true) (es : Edges) → text whole (joined (e ∷ es)) ≡ 123 ∷ inside (e ∷ es)
 unfolding joined
-whole_joined e es = ap (λ l. 123 ∷ l) (ap (λ l. spelled e.0 ++ (text below e.1.shape ++ l)) (further_joined es) ∙ sym (append_assoc (spelled e.0) (text below e.1.shape) (separator (is_more es) ∷ inside es)))
+whole_joined e es = ap (λ l. 123 ∷ l) (ap (λ l. spelled e.0 ++ (text below e.1.shape ++ l)) (further_joined es)
+    ∙ sym (append_assoc (spelled e.0) (text below e.1.shape) (separator (is_more es) ∷ inside es)))
 
 pub shape_joined : (t : Node true) → is_marked t ≡ false → t.shape ≡ joined (edges t)
 unfolding node
@@ -119,10 +121,12 @@ closing (f ∷ es) e x =
     ∙ ap (λ b. edge_text f.0 f.1.shape ++ separator b ∷ (inside (es ++ e ∷ []) ++ x)) (sym (is_more_append es e))
     ∙ sym (append_assoc (edge_text f.0 f.1.shape) (separator (is_more (es ++ e ∷ [])) ∷ inside (es ++ e ∷ [])) x)
 
-pub commas_last : (es : Edges) (e : Name × Node true) (x : List ℕ) → commas (es ++ e ∷ []) ++ x ≡ commas es ++ ((edge_text e.0 e.1.shape ++ 44 ∷ []) ++ x)
+pub commas_last : (es : Edges) (e : Name × Node true) (x : List ℕ)
+    → commas (es ++ e ∷ []) ++ x ≡ commas es ++ ((edge_text e.0 e.1.shape ++ 44 ∷ []) ++ x)
 commas_last es e x = commas_more es e x
 
-pub inside_last : (es : Edges) (e : Name × Node true) (x : List ℕ) → commas es ++ ((edge_text e.0 e.1.shape ++ 125 ∷ []) ++ x) ≡ inside (es ++ e ∷ []) ++ x
+pub inside_last : (es : Edges) (e : Name × Node true) (x : List ℕ)
+    → commas es ++ ((edge_text e.0 e.1.shape ++ 125 ∷ []) ++ x) ≡ inside (es ++ e ∷ []) ++ x
 inside_last es e x = closing es e x
 
 -- behind the first edges of a node another one comes
@@ -134,13 +138,22 @@ pub record NextEdge (es fs : Edges) (bytes rest : List ℕ) : Type 0 where
 
 module _ (x rest : List ℕ) where
   pub remaining : (es : Edges) (f : Name × Node true) (fs : Edges) → commas es ++ x ≡ inside (f ∷ fs) ++ rest → NextEdge es (f ∷ fs) x rest
-  remaining [] f fs e = record { next = f; more = fs; among = refl; spelled = e ∙ append_assoc (edge_text f.0 f.1.shape) (separator (is_more fs) ∷ inside fs) rest }
+  remaining [] f fs e = record {
+    next = f;
+    more = fs;
+    among = refl;
+    spelled = e
+        ∙ append_assoc (edge_text f.0 f.1.shape) (separator (is_more fs) ∷ inside fs) rest;
+  }
   remaining (d ∷ es) f fs e = by (λ k ks es_is. remaining es k ks es_is) fs e
     where
-      first : (fs : Edges) → commas (d ∷ es) ++ x ≡ inside (f ∷ fs) ++ rest → (d.0 ≡ f.0) × (d.1 ≡ f.1) × (true ≡ is_more fs) × (commas es ++ x ≡ inside fs ++ rest)
-      first fs e = edge_apart d.0 f.0 d.1 f.1 true (is_more fs) _ _ (sym (append_assoc (edge_text d.0 d.1.shape) (44 ∷ commas es) x) ∙ e ∙ append_assoc (edge_text f.0 f.1.shape) (separator (is_more fs) ∷ inside fs) rest)
+      first : (fs : Edges) → commas (d ∷ es) ++ x ≡ inside (f ∷ fs) ++ rest
+          → (d.0 ≡ f.0) × (d.1 ≡ f.1) × (true ≡ is_more fs) × (commas es ++ x ≡ inside fs ++ rest)
+      first fs e = edge_apart d.0 f.0 d.1 f.1 true (is_more fs) _ _ (sym (append_assoc (edge_text d.0 d.1.shape) (44 ∷ commas es) x) ∙ e
+          ∙ append_assoc (edge_text f.0 f.1.shape) (separator (is_more fs) ∷ inside fs) rest)
 
-      by : ((k : Name × Node true) (ks : Edges) → commas es ++ x ≡ inside (k ∷ ks) ++ rest → NextEdge es (k ∷ ks) x rest) → (fs : Edges) → commas (d ∷ es) ++ x ≡ inside (f ∷ fs) ++ rest → NextEdge (d ∷ es) (f ∷ fs) x rest
+      by : ((k : Name × Node true) (ks : Edges) → commas es ++ x ≡ inside (k ∷ ks) ++ rest → NextEdge es (k ∷ ks) x rest) → (fs : Edges)
+          → commas (d ∷ es) ++ x ≡ inside (f ∷ fs) ++ rest → NextEdge (d ∷ es) (f ∷ fs) x rest
       by again [] e = let one = first [] e in let no : ⊥ = cc (one.2) in absurd no
       by again (k ∷ fs) e =
           let one = first (k ∷ fs) e in
@@ -174,7 +187,8 @@ module _ (m : Bool) where
       by false u = joined_marks (edges t) (subst (HasAllowedMarks m) (shape_joined t u) h)
       by true u = subst (AllByRecursion (IsAllowedEdge m)) (sym (edges-marked t u)) tt
 
-  pub all_last : (es : Edges) (e : Name × Node true) → AllByRecursion (IsAllowedEdge m) es → IsAllowedEdge m e → AllByRecursion (IsAllowedEdge m) (es ++ e ∷ [])
+  pub all_last : (es : Edges) (e : Name × Node true) → AllByRecursion (IsAllowedEdge m) es → IsAllowedEdge m e
+      → AllByRecursion (IsAllowedEdge m) (es ++ e ∷ [])
   all_last [] e h here = (here, tt)
   all_last (f ∷ es) e h here = (h.0, all_last es e h.1 here)
 

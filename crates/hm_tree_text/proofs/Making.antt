@@ -20,7 +20,8 @@ length_there [] h = refl
 length_there ((k, None) ∷ es) h = absurd h
 length_there ((k, Some n) ∷ es) h = ap suc (length_there es h)
 
-there_at : (es : List (Name × Archive)) (i : ℕ) → T (is_there es) → (k : Name) (o : Archive) → slice_get es i ≡ Some (k, o) → (n : Node true) × (slice_get (there es) i ≡ Some (k, n))
+there_at : (es : List (Name × Archive)) (i : ℕ) → T (is_there es) → (k : Name) (o : Archive) → slice_get es i ≡ Some (k, o)
+    → (n : Node true) × (slice_get (there es) i ≡ Some (k, n))
 there_at [] i h k o e = let no : ⊥ = cc in absurd no
 there_at ((x, None) ∷ es) i h k o e = absurd h
 there_at ((x, Some n) ∷ es) zero h k o e =
@@ -39,7 +40,8 @@ is_there_append ((k, None) ∷ es) fs h g = absurd h
 is_there_append ((k, Some n) ∷ es) fs h g = is_there_append es fs h g
 
 module _ {X : Type 0} (value : X → Archive) where
-  valued_at : (es : List (Name × X)) (i : ℕ) (k : Name) (x : X) → slice_get es i ≡ Some (k, x) → slice_get (with_values value es) i ≡ Some (k, value x)
+  valued_at : (es : List (Name × X)) (i : ℕ) (k : Name) (x : X) → slice_get es i ≡ Some (k, x)
+      → slice_get (with_values value es) i ≡ Some (k, value x)
   valued_at [] i k x e = let no : ⊥ = cc in absurd no
   valued_at (d ∷ es) zero k x e = let same : d ≡ (k, x) = cc in ap (λ (d : Name × X). Some (d.0, value d.1)) same
   valued_at (d ∷ es) (suc i) k x e = valued_at es i k x e
@@ -47,16 +49,23 @@ module _ {X : Type 0} (value : X → Archive) where
   -- ---- the last name
 
   -- a name comes behind all where it comes behind the last
-  pub last_after : (all : List (Name × X)) (start : ℕ) → MakeNode value (drop start all) → (e : Name × X) → Some e ≡ slice_get (take (length all - start) (drop start all)) (length (take (length all - start) (drop start all)) - 1) → (n : Name) → T (is_behind n (valued_edges value (drop start all))) ↔ IsAfter (Some e.0) n
+  pub last_after : (all : List (Name × X)) (start : ℕ) → MakeNode value (drop start all) → (e : Name × X)
+      → Some e ≡ slice_get (take (length all - start) (drop start all)) (length (take (length all - start) (drop start all)) - 1) → (n : Name)
+      → T (is_behind n (valued_edges value (drop start all))) ↔ IsAfter (Some e.0) n
   last_after all start make e at n =
       let es : List (Name × X) = drop start all in
-      let found = there_at (with_values value es) (length es - 1) make.all_there e.0 (value e.1) (valued_at es (length es - 1) e.0 e.1 (sym (at ∙ ap (λ (l : List (Name × X)). slice_get l (length l - 1)) (take_rest all start)))) in
+      let found = there_at (with_values value es) (length es - 1) make.all_there e.0 (value e.1)
+      (valued_at es (length es - 1) e.0 e.1 (sym (at ∙ ap (λ (l : List (Name × X)). slice_get l (length l - 1)) (take_rest all start)))) in
       let counts : length (valued_edges value es) ≡ length es = length_there (with_values value es) make.all_there ∙ length-map _ _ in
-      behind_after n (valued_edges value es) e.0 found.0 (edges_rise _ make.edges) (subst (λ i. slice_get (valued_edges value es) (i - 1) ≡ Some (e.0, found.0)) (sym counts) found.1)
+      behind_after n (valued_edges value es) e.0 found.0 (edges_rise _ make.edges)
+      (subst (λ i. slice_get (valued_edges value es) (i - 1) ≡ Some (e.0, found.0)) (sym counts) found.1)
 
   -- the same of edges that are held elsewhere
-  pub same_after : (held own : List (Name × X)) → held ≡ own → (start : ℕ) (IsLast : Name → Type 0) → ((n : Name) → T (is_behind n (valued_edges value (drop start held))) ↔ IsLast n) → (n : Name) → T (is_behind n (valued_edges value (drop start own))) ↔ IsLast n
-  same_after held own same start IsLast h = subst (λ (es : List (Name × X)). (n : Name) → T (is_behind n (valued_edges value (drop start es))) ↔ IsLast n) same h
+  pub same_after : (held own : List (Name × X)) → held ≡ own → (start : ℕ) (IsLast : Name → Type 0)
+      → ((n : Name) → T (is_behind n (valued_edges value (drop start held))) ↔ IsLast n) → (n : Name)
+      → T (is_behind n (valued_edges value (drop start own))) ↔ IsLast n
+  same_after held own same start IsLast h =
+      subst (λ (es : List (Name × X)). (n : Name) → T (is_behind n (valued_edges value (drop start es))) ↔ IsLast n) same h
 
   -- ---- an edge more
 
@@ -71,8 +80,10 @@ module _ {X : Type 0} (value : X → Archive) where
     make_last make text behind = record {
       all_there =
           subst (λ (l : List (Name × Archive)). T (is_there l)) (sym (map-append _ es ((k, x) ∷ [])))
-          (is_there_append (with_values value es) ((k, value x) ∷ []) make.all_there (subst (λ (o : Archive). T (is_there ((k, o) ∷ []))) (sym is) tt));
-      edges = subst (λ (l : List (Name × Node true)). T (are_edges l)) (sym valued-last) (edges_behind k n (valued_edges value es) make.edges text behind);
+          (is_there_append (with_values value es) ((k, value x) ∷ []) make.all_there
+          (subst (λ (o : Archive). T (is_there ((k, o) ∷ []))) (sym is) tt));
+      edges = subst (λ (l : List (Name × Node true)). T (are_edges l)) (sym valued-last)
+          (edges_behind k n (valued_edges value es) make.edges text behind);
     }
 
 -- ---- what is built

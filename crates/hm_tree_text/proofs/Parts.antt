@@ -15,7 +15,9 @@ take_front (b ∷ p) x k zero e = absurd (omega arith)
 take_front (b ∷ p) x k (suc j) e = ap (λ l. b ∷ l) (take_front p x k j (omega arith))
 
 -- a text at the front of which nothing of the form can stand
-pub nothing_here : (F : List ℕ → Type 0) (Good : ℕ → Type 0) (s : List ℕ) → F s → ((y : List ℕ) → BeginsWith F y → (b : ℕ) × (r : List ℕ) × Good b × (y ≡ b ∷ r)) → (x : List ℕ) → ((b : ℕ) (r : List ℕ) → x ≡ b ∷ r → Good b → ⊥) → IsLongestPart F x 0
+pub nothing_here : (F : List ℕ → Type 0) (Good : ℕ → Type 0) (s : List ℕ) → F s
+    → ((y : List ℕ) → BeginsWith F y → (b : ℕ) × (r : List ℕ) × Good b × (y ≡ b ∷ r)) → (x : List ℕ)
+    → ((b : ℕ) (r : List ℕ) → x ≡ b ∷ r → Good b → ⊥) → IsLongestPart F x 0
 nothing_here F Good s f first x not = record {
   within = omega arith;
   begun = (s, f);
@@ -41,19 +43,25 @@ is_not_part b [] n h (suc k) rest lt le = absurd (omega arith)
 is_not_part b (c ∷ x) n h (suc k) rest lt le = λ r e. let same : c ≡ b = cc in h x (ap (λ d. d ∷ x) same)
 
 -- behind a text p the form F is what a text of the form G goes on with
-module _ (F G : List ℕ → Type 0) (Ok : List ℕ → Type 0) (p : List ℕ) (into : (y : List ℕ) → F y → IsBegun G (p ++ y)) (back : (y : List ℕ) → Ok y → BeginsWith G (p ++ y) → BeginsWith F y) where
-  pub longest_behind : (x : List ℕ) (n : ℕ) → Ok x → ((k : ℕ) (rest : List ℕ) → n < k → k ≤ length x → Ok (take k x ++ rest)) → IsLongestPart F x n → IsLongestPart G (p ++ x) (length p + n)
+module _ (F G : List ℕ → Type 0) (Ok : List ℕ → Type 0) (p : List ℕ) (into : (y : List ℕ) → F y → IsBegun G (p ++ y))
+    (back : (y : List ℕ) → Ok y → BeginsWith G (p ++ y) → BeginsWith F y) where
+  pub longest_behind : (x : List ℕ) (n : ℕ) → Ok x → ((k : ℕ) (rest : List ℕ) → n < k → k ≤ length x → Ok (take k x ++ rest))
+      → IsLongestPart F x n → IsLongestPart G (p ++ x) (length p + n)
   longest_behind x n ok oks h = record {
     within = let w = h.within in let l = length-append p x in omega arith;
     begun =
         let b = h.begun in
-        let c = into (take n x ++ b.0) b.1 in
-        (b.0 ++ c.0, subst G (ap (λ l. l ++ c.0) (sym (append_assoc p (take n x) b.0)) ∙ append_assoc (p ++ take n x) b.0 c.0 ∙ ap (λ l. l ++ (b.0 ++ c.0)) (sym (take_front p x n _ refl))) c.1);
+        let c = into (take n x ++ b.0) b.1 in (
+          b.0 ++ c.0,
+          subst G (ap (λ l. l ++ c.0) (sym (append_assoc p (take n x) b.0)) ∙ append_assoc (p ++ take n x) b.0 c.0
+              ∙ ap (λ l. l ++ (b.0 ++ c.0)) (sym (take_front p x n _ refl))) c.1,
+        );
     none = λ g. h.none (back x ok g);
     longest = λ m rest le g. by m rest le g (le_or_more m (length p + n));
   }
     where
-      by : (m : ℕ) (rest : List ℕ) → m ≤ length (p ++ x) → BeginsWith G (take m (p ++ x) ++ rest) → (m ≤ length p + n) ⊎ ((k : ℕ) × (m ≡ length p + n + (k + 1))) → m ≤ length p + n
+      by : (m : ℕ) (rest : List ℕ) → m ≤ length (p ++ x) → BeginsWith G (take m (p ++ x) ++ rest)
+          → (m ≤ length p + n) ⊎ ((k : ℕ) × (m ≡ length p + n + (k + 1))) → m ≤ length p + n
       by m rest le g (inl l) = l
       by m rest le g (inr (k, e)) =
           let j : ℕ = n + (k + 1) in
@@ -64,11 +72,14 @@ module _ (F G : List ℕ → Type 0) (Ok : List ℕ → Type 0) (p : List ℕ) (
           let no : j ≤ n = h.longest j rest within (back (take j x ++ rest) (oks j rest more within) there) in
           absurd (omega arith)
 
-  pub fault_behind : (bytes : List ℕ) (start middle at : ℕ) → start ≤ length bytes → StandsAt bytes start p middle → Ok (drop middle bytes) → ((n k : ℕ) (rest : List ℕ) → n < k → k ≤ length (drop middle bytes) → Ok (take k (drop middle bytes) ++ rest)) → IsFaultAt F bytes middle at → IsFaultAt G bytes start at
+  pub fault_behind : (bytes : List ℕ) (start middle at : ℕ) → start ≤ length bytes → StandsAt bytes start p middle → Ok (drop middle bytes)
+      → ((n k : ℕ) (rest : List ℕ) → n < k → k ≤ length (drop middle bytes) → Ok (take k (drop middle bytes) ++ rest))
+      → IsFaultAt F bytes middle at → IsFaultAt G bytes start at
   fault_behind bytes start middle at le stands ok oks h = record {
     passed = length p + h.passed;
     place = let e = behind bytes p start middle le stands in let f = h.place in omega arith;
-    longest = subst (λ l. IsLongestPart G l (length p + h.passed)) (sym stands.spelled) (longest_behind (drop middle bytes) h.passed ok (oks h.passed) h.longest);
+    longest = subst (λ l. IsLongestPart G l (length p + h.passed)) (sym stands.spelled)
+        (longest_behind (drop middle bytes) h.passed ok (oks h.passed) h.longest);
   }
 
 -- a part behind a text that stands there is a part of both

@@ -13,7 +13,8 @@ behind bytes part start end le h =
     omega arith
 
 -- two texts, one behind the other
-pub joins : (bytes one two : List ℕ) (start middle end : ℕ) → StandsAt bytes start one middle → StandsAt bytes middle two end → StandsAt bytes start (one ++ two) end
+pub joins : (bytes one two : List ℕ) (start middle end : ℕ) → StandsAt bytes start one middle → StandsAt bytes middle two end
+    → StandsAt bytes start (one ++ two) end
 joins bytes one two start middle end g h = record {
   spelled = g.spelled ∙ ap (λ l. one ++ l) h.spelled ∙ sym (append_assoc one two (drop end bytes));
   within = h.within;

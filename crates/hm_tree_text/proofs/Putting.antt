@@ -36,7 +36,9 @@ is_more_drop es i true e = drop_more es i (ltb-true _ _ e)
 is_more_drop es i false e = ap is_more (drop_none es i (ltb-false _ _ e))
 
 -- an edge is written with what stands behind it
-pub put_edge : (es : List (Name × Node true)) (i : ℕ) (k : Name) (c : Node true) (before named child after rest : List ℕ) (b count : ℕ) → count ≡ length es → slice_get es i ≡ Some (k, c) → named ≡ before ++ spelled k → child ≡ named ++ text below c.shape → after ≡ child ++ b ∷ [] → b ≡ separator (nat_lt (i + 1) count) → before ++ inside (drop i es) ≡ rest → after ++ inside (drop (i + 1) es) ≡ rest
+pub put_edge : (es : List (Name × Node true)) (i : ℕ) (k : Name) (c : Node true) (before named child after rest : List ℕ) (b count : ℕ)
+    → count ≡ length es → slice_get es i ≡ Some (k, c) → named ≡ before ++ spelled k → child ≡ named ++ text below c.shape
+    → after ≡ child ++ b ∷ [] → b ≡ separator (nat_lt (i + 1) count) → before ++ inside (drop i es) ≡ rest → after ++ inside (drop (i + 1) es) ≡ rest
 put_edge es i k c before named child after rest b count counts at one two three sep e =
     let more : is_more (drop (i + 1) es) ≡ nat_lt (i + 1) count = is_more_drop es (i + 1) _ (ap (nat_lt (i + 1)) (sym counts)) in
     let split : drop i es ≡ (k, c) ∷ drop (i + 1) es = rw add-one (drop_at es i (k, c) at) in
@@ -63,11 +65,13 @@ pub count_present : (a : Archive) → length (edges_here a) ≡ length (edges (p
 count_present None = sym (ap length edges_empty)
 count_present (Some t) = length_map _ (edges t)
 
-pub edge_present : (a : Archive) (i : ℕ) (k : Name) (c : Archive) → slice_get (edges_here a) i ≡ Some (k, c) → slice_get (edges (present a)) i ≡ Some (k, present c)
+pub edge_present : (a : Archive) (i : ℕ) (k : Name) (c : Archive) → slice_get (edges_here a) i ≡ Some (k, c)
+    → slice_get (edges (present a)) i ≡ Some (k, present c)
 edge_present None i k c e = let no : ⊥ = cc in absurd no
 edge_present (Some t) i k c e = by (edges t) i e
   where
-    by : (es : List (Name × Node true)) (i : ℕ) → slice_get {X = Name × Archive} (map (λ (e : Name × Node true). (e.0, Some e.1)) es) i ≡ Some (k, c) → slice_get es i ≡ Some (k, present c)
+    by : (es : List (Name × Node true)) (i : ℕ) → slice_get {X = Name × Archive} (map (λ (e : Name × Node true). (e.0, Some e.1)) es) i ≡ Some
+        (k, c) → slice_get es i ≡ Some (k, present c)
     by [] i e = let no : ⊥ = cc in absurd no
     by (d ∷ es) zero e =
         let same : ◌≡◌ {A = Name × Archive} (d.0, Some d.1) (k, c) = cc in

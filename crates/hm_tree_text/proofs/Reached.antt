@@ -38,30 +38,37 @@ passed P r y e is same h = subst (λ r. IfErr r P) (sym is) (subst P (sym same) 
 -- ---- a name
 
 -- the name that is spelled at the front is the only one there
-pub no_name : (last : Option Name) (bytes : List ℕ) (name : Name) (n : ℕ) → take n bytes ≡ spelled name → (IsAfter last name → ⊥) → BeginsWith (IsName last) bytes → ⊥
+pub no_name : (last : Option Name) (bytes : List ℕ) (name : Name) (n : ℕ) → take n bytes ≡ spelled name → (IsAfter last name → ⊥)
+    → BeginsWith (IsName last) bytes → ⊥
 no_name last bytes name n is not h =
     let f = h.is_form in
-    let one = spelled_one f.name name h.rest (drop n bytes) (ap (λ l. l ++ h.rest) (sym f.is) ∙ sym h.is ∙ sym (take-append-drop n bytes) ∙ ap (λ l. l ++ drop n bytes) is) in
+    let one = spelled_one f.name name h.rest (drop n bytes) (ap (λ l. l ++ h.rest) (sym f.is) ∙ sym h.is ∙ sym (take-append-drop n bytes)
+    ∙ ap (λ l. l ++ drop n bytes) is) in
     not (subst (IsAfter last) one.0 f.after)
 
 -- ---- an edge
 
 module _ (m : Bool) (room : ℕ) (es : List (Name × Node true)) (bytes : List ℕ) (at : ℕ) (le : at ≤ length bytes) where
-  pub name_fails : (last : Option Name) → ((n : Name) → T (is_behind n es) ↔ IsAfter last n) → (fault : TextFault) → FailsAlone (IsName last) bytes at fault → Fails (IsEdge m es) (OpensEdge m room es) bytes at fault
+  pub name_fails : (last : Option Name) → ((n : Name) → T (is_behind n es) ↔ IsAfter last n) → (fault : TextFault)
+      → FailsAlone (IsName last) bytes at fault → Fails (IsEdge m es) (OpensEdge m room es) bytes at fault
   name_fails last same (BadTree q) f = (
-    fault_behind (IsName last) (IsEdge m es) (λ _. Unit {0}) [] (name_edge m es last (λ n. (same n).1)) (λ y _. edge_name m es last (λ n. (same n).0) y) bytes at at q le (record { spelled = refl; within = le }) tt (λ _ _ _ _ _. tt) f,
+    fault_behind (IsName last) (IsEdge m es) (λ _. Unit {0}) [] (name_edge m es last (λ n. (same n).1))
+        (λ y _. edge_name m es last (λ n. (same n).0) y) bytes at at q le (record { spelled = refl; within = le }) tt (λ _ _ _ _ _. tt) f,
     λ d. f.longest.none (deep_name m room es last (λ n. (same n).0) (drop at bytes) d),
   )
   name_fails last same TooDeep f = absurd f
   name_fails last same Memory f = tt
 
   module _ (n : Name) (behind : ℕ) (u : IsUtf8 n) (b : T (is_behind n es)) (stands : StandsAt bytes at (spelled n) behind) where
-    pub below_fails : (fault : TextFault) → Fails (IsBelow m) (OpensBelow m room) bytes behind fault → Fails (IsEdge m es) (OpensEdge m room es) bytes at fault
+    pub below_fails : (fault : TextFault) → Fails (IsBelow m) (OpensBelow m room) bytes behind fault
+        → Fails (IsEdge m es) (OpensEdge m room es) bytes at fault
     below_fails (BadTree q) f = (
-      fault_behind (IsBelow m) (IsEdge m es) (λ _. Unit {0}) (spelled n) (below_edge m es n u b) (λ y _. edge_below m es n y) bytes at behind q le stands tt (λ _ _ _ _ _. tt) f.0,
+      fault_behind (IsBelow m) (IsEdge m es) (λ _. Unit {0}) (spelled n) (below_edge m es n u b) (λ y _. edge_below m es n y) bytes at behind q
+          le stands tt (λ _ _ _ _ _. tt) f.0,
       λ d. f.1 (deep_below m room es n (drop behind bytes) (subst (BeginsWith (OpensEdge m room es)) stands.spelled d)),
     )
-    below_fails TooDeep f = subst (BeginsWith (OpensEdge m room es)) (sym stands.spelled) (begins_behind (OpensBelow m room) (OpensEdge m room es) (spelled n) (drop behind bytes) (below_deep m room es n u b) f)
+    below_fails TooDeep f = subst (BeginsWith (OpensEdge m room es)) (sym stands.spelled)
+        (begins_behind (OpensBelow m room) (OpensEdge m room es) (spelled n) (drop behind bytes) (below_deep m room es n u b) f)
     below_fails Memory f = tt
 
     module _ (value : Archive) (last : ℕ) (read : IsBelowRead m room bytes behind value last) where
@@ -80,11 +87,16 @@ module _ (m : Bool) (room : ℕ) (es : List (Name × Node true)) (bytes : List �
       over : read.node.shape ≡ bare → IsNot 58 (drop last bytes)
       over none r e = read.alone none r (read.stands.spelled ∙ ap (λ s. text below s ++ drop last bytes) none ∙ e)
 
-      pub separator_fails : IsNot 44 (drop last bytes) → IsNot 125 (drop last bytes) → Fails (IsEdge m es) (OpensEdge m room es) bytes at (BadTree last)
+      pub separator_fails : IsNot 44 (drop last bytes) → IsNot 125 (drop last bytes)
+          → Fails (IsEdge m es) (OpensEdge m room es) bytes at (BadTree last)
       separator_fails comma brace = (
-        fault_behind IsSeparator (IsEdge m es) (λ y. read.node.shape ≡ bare → IsNot 58 y) (edge_text n read.node.shape) (separator_edge m es n read.node u b read.read.marks) (edge_separator m es n read.node) bytes at last last le stands_edge over (λ n k rest lt le none. is_not_part 58 (drop last bytes) n (over none) k rest lt le)
+        fault_behind IsSeparator (IsEdge m es) (λ y. read.node.shape ≡ bare → IsNot 58 y) (edge_text n read.node.shape)
+            (separator_edge m es n read.node u b read.read.marks) (edge_separator m es n read.node) bytes at last last le stands_edge over
+            (λ n k rest lt le none. is_not_part 58 (drop last bytes) n (over none) k rest lt le)
             (record { passed = 0; place = omega arith; longest = no_separator (drop last bytes) comma brace }),
-        λ d. shallow_below m room read.node read.read.shallow (drop last bytes) over (subst (BeginsWith (OpensBelow m room)) read.stands.spelled (deep_below m room es n (drop behind bytes) (subst (BeginsWith (OpensEdge m room es)) stands.spelled d))),
+        λ d. shallow_below m room read.node read.read.shallow (drop last bytes) over
+            (subst (BeginsWith (OpensBelow m room)) read.stands.spelled
+            (deep_below m room es n (drop behind bytes) (subst (BeginsWith (OpensEdge m room es)) stands.spelled d))),
       )
 
 -- ---- behind a name
@@ -105,7 +117,8 @@ pub read_empty : (m : Bool) (room : ℕ) (value : Archive) → value ≡ Some em
 read_empty m room value is = record { is = is; marks = empty_marks m; shallow = depth_empty room }
 
 pub read_marked : (m : Bool) (room : ℕ) (value : Archive) → m ≡ true → value ≡ Some marked → IsRead m room value marked
-read_marked m room value allowed is = record { is = is; marks = subst (HasAllowedMarks m) (sym shape_marked) (subst T (sym allowed) tt); shallow = depth_marked room }
+read_marked m room value allowed is =
+    record { is = is; marks = subst (HasAllowedMarks m) (sym shape_marked) (subst T (sym allowed) tt); shallow = depth_marked room }
 
 pub text_empty : text whole (empty {m = true}).shape ≡ 123 ∷ 125 ∷ []
 text_empty = ap (text whole) shape_empty
@@ -126,17 +139,21 @@ module _ (m : Bool) (room : ℕ) (bytes : List ℕ) (at : ℕ) (le : at ≤ leng
   }
 
   module _ (colon : StandsAt bytes at (58 ∷ []) (at + 1)) where
-    pub below_mark : (value : Archive) → m ≡ true → value ≡ Some marked → StandsAt bytes (at + 1) (33 ∷ []) (at + 1 + 1) → IsBelowRead m room bytes at value (at + 2)
+    pub below_mark : (value : Archive) → m ≡ true → value ≡ Some marked → StandsAt bytes (at + 1) (33 ∷ []) (at + 1 + 1)
+        → IsBelowRead m room bytes at value (at + 2)
     below_mark value allowed is there = record {
       node = marked;
       read = read_marked m room value allowed is;
-      stands = subst (λ p. StandsAt bytes at p (at + 2)) (sym (ap (text below) shape_marked)) (subst (λ e. StandsAt bytes at (58 ∷ 33 ∷ []) e) (two at) (joins bytes (58 ∷ []) (33 ∷ []) at (at + 1) (at + 1 + 1) colon there));
+      stands = subst (λ p. StandsAt bytes at p (at + 2)) (sym (ap (text below) shape_marked))
+          (subst (λ e. StandsAt bytes at (58 ∷ 33 ∷ []) e) (two at) (joins bytes (58 ∷ []) (33 ∷ []) at (at + 1) (at + 1 + 1) colon there));
       alone = λ none. absurd (let no : mark ≡ bare = sym shape_marked ∙ none in cc);
     }
 
-    pub full_fails : IsNot 123 (drop (at + 1) bytes) → (m ≡ true → IsNot 33 (drop (at + 1) bytes)) → Fails (IsBelow m) (OpensBelow m room) bytes at (BadTree (at + 1))
+    pub full_fails : IsNot 123 (drop (at + 1) bytes) → (m ≡ true → IsNot 33 (drop (at + 1) bytes))
+        → Fails (IsBelow m) (OpensBelow m room) bytes at (BadTree (at + 1))
     full_fails brace point = (
-      fault_behind (IsFull m) (IsBelow m) (λ _. Unit {0}) (58 ∷ []) (full_below m) (λ y _. below_full_back m y) bytes at (at + 1) (at + 1) le colon tt (λ _ _ _ _ _. tt)
+      fault_behind (IsFull m) (IsBelow m) (λ _. Unit {0}) (58 ∷ []) (full_below m) (λ y _. below_full_back m y) bytes at (at + 1) (at + 1) le
+          colon tt (λ _ _ _ _ _. tt)
           (record { passed = 0; place = omega arith; longest = no_full m (drop (at + 1) bytes) (no_opening m (drop (at + 1) bytes) brace point) }),
       λ d. let o = deep_colon m room (drop at bytes) d in brace o.0 (let e = sym colon.spelled ∙ o.1 in tail e),
     )
@@ -159,28 +176,35 @@ module _ (m : Bool) (room : ℕ) (bytes : List ℕ) (at : ℕ) (le : at ≤ leng
         is = opened.spelled;
       }
 
-      pub below_inside : (r : ℕ) → room ≡ r + 1 → (value : Archive) (end : ℕ) → IsInsideRead m (r + 1) bytes (at + 2) value end → IsBelowRead m room bytes at value end
+      pub below_inside : (r : ℕ) → room ≡ r + 1 → (value : Archive) (end : ℕ) → IsInsideRead m (r + 1) bytes (at + 2) value end
+          → IsBelowRead m room bytes at value end
       below_inside r is value end h = record {
         node = h.node;
         read = subst (λ k. IsRead m k value h.node) (sym is) h.read;
-        stands = subst (λ p. StandsAt bytes at p end) (ap (λ l. 58 ∷ l) (sym (whole_some h.node (λ e. let s = h.some in omega arith))) ∙ sym (below_full h.node.shape some)) (joins bytes (58 ∷ 123 ∷ []) (inside (edges h.node)) at (at + 2) end opened h.stands);
+        stands = subst (λ p. StandsAt bytes at p end) (ap (λ l. 58 ∷ l) (sym (whole_some h.node (λ e. let s = h.some in omega arith)))
+            ∙ sym (below_full h.node.shape some)) (joins bytes (58 ∷ 123 ∷ []) (inside (edges h.node)) at (at + 2) end opened h.stands);
         alone = λ none. absurd (some none);
       }
         where
           some : h.node.shape ≡ bare → ⊥
           some none = let n = none_shape h.node none in let s = h.some in omega arith
 
-      pub inside_fails : (r : ℕ) → room ≡ r + 1 → (fault : TextFault) → Fails (IsInside m) (OpensInside m r) bytes (at + 2) fault → Fails (IsBelow m) (OpensBelow m room) bytes at fault
+      pub inside_fails : (r : ℕ) → room ≡ r + 1 → (fault : TextFault) → Fails (IsInside m) (OpensInside m r) bytes (at + 2) fault
+          → Fails (IsBelow m) (OpensBelow m room) bytes at fault
       inside_fails r is (BadTree q) f =
-          let full = fault_behind (IsInside m) (IsFull m) (λ _. Unit {0}) (123 ∷ []) (inside_full m) (λ y _. full_inside m y) bytes (at + 1) (at + 2) q colon.within braced tt (λ _ _ _ _ _. tt) f.0 in (
-            fault_behind (IsFull m) (IsBelow m) (λ _. Unit {0}) (58 ∷ []) (full_below m) (λ y _. below_full_back m y) bytes at (at + 1) q le colon tt (λ _ _ _ _ _. tt) full,
+          let full = fault_behind (IsInside m) (IsFull m) (λ _. Unit {0}) (123 ∷ []) (inside_full m) (λ y _. full_inside m y) bytes (at + 1)
+          (at + 2) q colon.within braced tt (λ _ _ _ _ _. tt) f.0 in (
+            fault_behind (IsFull m) (IsBelow m) (λ _. Unit {0}) (58 ∷ []) (full_below m) (λ y _. below_full_back m y) bytes at (at + 1) q le
+                colon tt (λ _ _ _ _ _. tt) full,
             λ d. f.1 (deep_inside m room r is (drop (at + 2) bytes) (subst (BeginsWith (OpensBelow m room)) opened.spelled d)),
           )
-      inside_fails r is TooDeep f = subst (BeginsWith (OpensBelow m room)) (sym opened.spelled) (begins_behind (OpensInside m r) (OpensBelow m room) (58 ∷ 123 ∷ []) (drop (at + 2) bytes) (inside_deep m room r is) f)
+      inside_fails r is TooDeep f = subst (BeginsWith (OpensBelow m room)) (sym opened.spelled)
+          (begins_behind (OpensInside m r) (OpensBelow m room) (58 ∷ 123 ∷ []) (drop (at + 2) bytes) (inside_deep m room r is) f)
       inside_fails r is Memory f = tt
 
 -- an edge takes at least a byte
-pub edge_longer : (m : Bool) (room : ℕ) (es : List (Name × Node true)) (bytes : List ℕ) (at : ℕ) (n : Name) (value : Archive) (more : Bool) (end : ℕ) → at ≤ length bytes → IsEdgeRead m room es bytes at n value more end → at < end
+pub edge_longer : (m : Bool) (room : ℕ) (es : List (Name × Node true)) (bytes : List ℕ) (at : ℕ) (n : Name) (value : Archive) (more : Bool)
+    (end : ℕ) → at ≤ length bytes → IsEdgeRead m room es bytes at n value more end → at < end
 edge_longer m room es bytes at n value more end le h =
     let b = behind bytes (edge_text n h.child.shape ++ separator more ∷ []) at end le h.stands in
     let l = length-append (edge_text n h.child.shape) (separator more ∷ []) in

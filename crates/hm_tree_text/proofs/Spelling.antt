@@ -82,17 +82,20 @@ mark_mark whole x y e = cc
 mark_mark further x y e = cc
 mark_mark below x y e = cc
 
-pub apart : (p : Position) (a b : Shape) (x y : List ℕ) → (a ≡ bare → IsOver p x) → (b ≡ bare → IsOver p y) → text p a ++ x ≡ text p b ++ y → (a ≡ b) × (x ≡ y)
+pub apart : (p : Position) (a b : Shape) (x y : List ℕ) → (a ≡ bare → IsOver p x) → (b ≡ bare → IsOver p y) → text p a ++ x ≡ text p b ++ y
+    → (a ≡ b) × (x ≡ y)
 apart p bare bare x y ox oy e = (refl, bare_bare p x y e)
 apart p bare mark x y ox oy e = absurd (bare_mark p x y (ox refl) e)
 apart p bare (edge n c r) x y ox oy e = absurd (bare_edge p x _ n (ox refl) (e ∙ regroup (before p) (spelled n) (text below c) (text further r) y))
 apart p mark bare x y ox oy e = absurd (bare_mark p y x (oy refl) (sym e))
 apart p mark mark x y ox oy e = (refl, mark_mark p x y e)
 apart p mark (edge n c r) x y ox oy e = absurd (mark_edge p x _ (e ∙ append_assoc (before p) (spelled n ++ (text below c ++ text further r)) y))
-apart p (edge n c r) bare x y ox oy e = absurd (bare_edge p y _ n (oy refl) (sym e ∙ regroup (before p) (spelled n) (text below c) (text further r) x))
+apart p (edge n c r) bare x y ox oy e =
+    absurd (bare_edge p y _ n (oy refl) (sym e ∙ regroup (before p) (spelled n) (text below c) (text further r) x))
 apart p (edge n c r) mark x y ox oy e = absurd (mark_edge p y _ (sym e ∙ append_assoc (before p) (spelled n ++ (text below c ++ text further r)) x))
 apart p (edge n c r) (edge m d s) x y ox oy e =
-    let behind = before_apart p _ _ (sym (regroup (before p) (spelled n) (text below c) (text further r) x) ∙ e ∙ regroup (before p) (spelled m) (text below d) (text further s) y) in
+    let behind = before_apart p _ _ (sym (regroup (before p) (spelled n) (text below c) (text further r) x) ∙ e
+    ∙ regroup (before p) (spelled m) (text below d) (text further s) y) in
     let one = spelled_one n m (text below c ++ (text further r ++ x)) (text below d ++ (text further s ++ y)) behind in
     let two = apart below c d (text further r ++ x) (text further s ++ y) (λ _. over_further r x) (λ _. over_further s y) one.1 in
     let three = apart further r s x y (λ _. tt) (λ _. tt) two.1 in
@@ -105,15 +108,19 @@ separator_apart false true x y e = absurd (heads 125 44 x y e brace_comma)
 separator_apart false false x y e = (refl, cc)
 
 -- what stands behind a name, up to a separator
-pub below_apart : (c d : Shape) (a b : Bool) (x y : List ℕ) → text below c ++ separator a ∷ x ≡ text below d ++ separator b ∷ y → (c ≡ d) × (a ≡ b) × (x ≡ y)
+pub below_apart : (c d : Shape) (a b : Bool) (x y : List ℕ) → text below c ++ separator a ∷ x ≡ text below d ++ separator b ∷ y
+    → (c ≡ d) × (a ≡ b) × (x ≡ y)
 below_apart c d a b x y e =
     let two = apart below c d (separator a ∷ x) (separator b ∷ y) (λ _. over_separator a x) (λ _. over_separator b y) e in
     let three = separator_apart a b x y two.1 in
     (two.0, three.0, three.1)
 
 -- an edge with what stands behind it
-pub edge_apart : {k : Bool} (n m : Name) (c d : Node k) (a b : Bool) (x y : List ℕ) → edge_text n c.shape ++ separator a ∷ x ≡ edge_text m d.shape ++ separator b ∷ y → (n ≡ m) × (c ≡ d) × (a ≡ b) × (x ≡ y)
+pub edge_apart : {k : Bool} (n m : Name) (c d : Node k) (a b : Bool) (x y : List ℕ)
+    → edge_text n c.shape ++ separator a ∷ x ≡ edge_text m d.shape ++ separator b ∷ y → (n ≡ m) × (c ≡ d) × (a ≡ b) × (x ≡ y)
 edge_apart n m c d a b x y e =
-    let one = spelled_one n m (text below c.shape ++ separator a ∷ x) (text below d.shape ++ separator b ∷ y) (sym (append_assoc (spelled n) (text below c.shape) (separator a ∷ x)) ∙ e ∙ append_assoc (spelled m) (text below d.shape) (separator b ∷ y)) in
+    let one = spelled_one n m (text below c.shape ++ separator a ∷ x) (text below d.shape ++ separator b ∷ y)
+    (sym (append_assoc (spelled n) (text below c.shape) (separator a ∷ x)) ∙ e
+    ∙ append_assoc (spelled m) (text below d.shape) (separator b ∷ y)) in
     let two = below_apart c.shape d.shape a b x y one.1 in
     (one.0, same_node c d two.0, two.1, two.2)

@@ -8,7 +8,11 @@ use Rattle.std.proofs.lemmas.Str.{IsUtf8-append, IsUtf8-encode, encode_ascii}
 use Rattle.hm_tree_text.specs.Characters.{Continues}
 
 is_or_not : (b n : ℕ) → (b ≡ n) ⊎ (b ≡ n → ⊥)
-is_or_not b n = elim (cases_lt b n) [ inl l ↦ inr (λ e. omega arith) | inr g ↦ elim (cases_lt n b) [ inl l ↦ inr (λ e. omega arith) | inr h ↦ inl (omega arith) ] ]
+is_or_not b n = elim (cases_lt b n) [
+  | inl l ↦ inr (λ e. omega arith)
+  | inr g ↦ elim (cases_lt n b)
+      [ inl l ↦ inr (λ e. omega arith) | inr h ↦ inl (omega arith) ]
+]
 
 -- ---- the bytes of a character
 
@@ -54,7 +58,8 @@ utf8_3 b d e l h dl dh el eh e0 ed =
     ] in
     subst IsUtf8 (three c least (omega arith) ∙ (λ k. p k ∷ q k ∷ r k ∷ [])) (IsUtf8-encode c is)
 
-utf8_4 : (b d e f : ℕ) → 240 ≤ b → b < 245 → 128 ≤ d → d ≤ 191 → 128 ≤ e → e ≤ 191 → 128 ≤ f → f ≤ 191 → (b ≡ 240 → 144 ≤ d) → (b ≡ 244 → d ≤ 143) → IsUtf8 (b ∷ d ∷ e ∷ f ∷ [])
+utf8_4 : (b d e f : ℕ) → 240 ≤ b → b < 245 → 128 ≤ d → d ≤ 191 → 128 ≤ e → e ≤ 191 → 128 ≤ f → f ≤ 191 → (b ≡ 240 → 144 ≤ d)
+    → (b ≡ 244 → d ≤ 143) → IsUtf8 (b ∷ d ∷ e ∷ f ∷ [])
 utf8_4 b d e f l h dl dh el eh fl fh f0 f4 =
     let c : ℕ = (b - 240) * 262144 + (d - 128) * 4096 + (e - 128) * 64 + (f - 128) in
     let least : 65536 ≤ c = elim (is_or_not b 240) [ inl x ↦ (let y = f0 x in omega arith) | inr x ↦ omega arith ] in
@@ -161,7 +166,8 @@ pub data IsLed (b : ℕ) (r : List ℕ) : Type 0 where
   led_1 : b < 128 → IsUtf8 r → IsLed b r
   led_2 : (d : ℕ) (s : List ℕ) → 194 ≤ b → b < 224 → IsSecond b d → r ≡ d ∷ s → IsUtf8 s → IsLed b r
   led_3 : (d e : ℕ) (s : List ℕ) → 224 ≤ b → b < 240 → IsSecond b d → 128 ≤ e → e ≤ 191 → r ≡ d ∷ e ∷ s → IsUtf8 s → IsLed b r
-  led_4 : (d e f : ℕ) (s : List ℕ) → 240 ≤ b → b < 245 → IsSecond b d → 128 ≤ e → e ≤ 191 → 128 ≤ f → f ≤ 191 → r ≡ d ∷ e ∷ f ∷ s → IsUtf8 s → IsLed b r
+  led_4 : (d e f : ℕ) (s : List ℕ) → 240 ≤ b → b < 245 → IsSecond b d → 128 ≤ e → e ≤ 191 → 128 ≤ f → f ≤ 191 → r ≡ d ∷ e ∷ f ∷ s → IsUtf8 s
+      → IsLed b r
 
 both_true : (a b : Bool) → (a && b) ≡ true → (a ≡ true) × (b ≡ true)
 both_true true b e = (refl, e)
@@ -174,7 +180,8 @@ utf8_led b r (c ∷ cs, (s, e)) =
     let u : IsUtf8 (encodes cs) = (cs, (parts.1, refl)) in
     by (scalar_cases c parts.0) u (cases_lt c 128) (cases_lt c 2048) (cases_lt c 65536)
   where
-    by : (c < 55296) ⊎ ((57344 ≤ c) × (c < 1114112)) → IsUtf8 (encodes cs) → (c < 128) ⊎ (128 ≤ c) → (c < 2048) ⊎ (2048 ≤ c) → (c < 65536) ⊎ (65536 ≤ c) → IsLed b r
+    by : (c < 55296) ⊎ ((57344 ≤ c) × (c < 1114112)) → IsUtf8 (encodes cs) → (c < 128) ⊎ (128 ≤ c) → (c < 2048) ⊎ (2048 ≤ c)
+        → (c < 65536) ⊎ (65536 ≤ c) → IsLed b r
     by range u (inl l) _ _ =
         let f : ◌≡◌ {A = List ℕ} (c ∷ encodes cs) (b ∷ r) = ap (λ l. l ++ encodes cs) (sym (one c l)) ∙ e in
         let h : c ≡ b = cc in
@@ -184,18 +191,45 @@ utf8_led b r (c ∷ cs, (s, e)) =
         let f : ◌≡◌ {A = List ℕ} ((192 + c / 64) ∷ next c ∷ encodes cs) (b ∷ r) = ap (λ l. l ++ encodes cs) (sym (two c g l)) ∙ e in
         let h : 192 + c / 64 ≡ b = cc in
         let t : next c ∷ encodes cs ≡ r = cc in
-        led_2 (next c) (encodes cs) (omega arith) (omega arith) (record { low = omega arith; high = omega arith; e0 = λ e. omega arith; ed = λ e. omega arith; f0 = λ e. omega arith; f4 = λ e. omega arith }) (sym t) u
+        led_2 (next c) (encodes cs) (omega arith) (omega arith)
+        (record {
+          low = omega arith;
+          high = omega arith;
+          e0 = λ e. omega arith;
+          ed = λ e. omega arith;
+          f0 = λ e. omega arith;
+          f4 = λ e. omega arith;
+        }) (sym t) u
     by range u (inr _) (inr g) (inl l) =
-        let f : ◌≡◌ {A = List ℕ} ((224 + c / 4096) ∷ next (c / 64) ∷ next c ∷ encodes cs) (b ∷ r) = ap (λ l. l ++ encodes cs) (sym (three c g l)) ∙ e in
+        let f : ◌≡◌ {A = List ℕ} ((224 + c / 4096) ∷ next (c / 64) ∷ next c ∷ encodes cs) (b ∷ r) =
+        ap (λ l. l ++ encodes cs) (sym (three c g l)) ∙ e in
         let h : 224 + c / 4096 ≡ b = cc in
         let t : next (c / 64) ∷ next c ∷ encodes cs ≡ r = cc in
-        led_3 (next (c / 64)) (next c) (encodes cs) (omega arith) (omega arith) (record { low = omega arith; high = omega arith; e0 = λ e. omega arith; ed = λ e. elim range [ inl x ↦ omega arith | inr x ↦ omega arith ]; f0 = λ e. omega arith; f4 = λ e. omega arith }) (omega arith) (omega arith) (sym t) u
+        led_3 (next (c / 64)) (next c) (encodes cs) (omega arith) (omega arith)
+        (record {
+          low = omega arith;
+          high = omega arith;
+          e0 = λ e. omega arith;
+          ed = λ e. elim range [ inl x ↦ omega arith | inr x ↦ omega arith ];
+          f0 = λ e. omega arith;
+          f4 = λ e. omega arith;
+        }) (omega arith)
+        (omega arith) (sym t) u
     by range u (inr _) (inr _) (inr g) =
-        let f : ◌≡◌ {A = List ℕ} ((240 + c / 262144) ∷ next (c / 4096) ∷ next (c / 64) ∷ next c ∷ encodes cs) (b ∷ r) = ap (λ l. l ++ encodes cs) (sym (four c g)) ∙ e in
+        let f : ◌≡◌ {A = List ℕ} ((240 + c / 262144) ∷ next (c / 4096) ∷ next (c / 64) ∷ next c ∷ encodes cs) (b ∷ r) =
+        ap (λ l. l ++ encodes cs) (sym (four c g)) ∙ e in
         let h : 240 + c / 262144 ≡ b = cc in
         let t : next (c / 4096) ∷ next (c / 64) ∷ next c ∷ encodes cs ≡ r = cc in
         let top : c < 1114112 = elim range [ inl x ↦ omega arith | inr x ↦ x.1 ] in
-        led_4 (next (c / 4096)) (next (c / 64)) (next c) (encodes cs) (omega arith) (omega arith) (record { low = omega arith; high = omega arith; e0 = λ e. omega arith; ed = λ e. omega arith; f0 = λ e. omega arith; f4 = λ e. omega arith }) (omega arith) (omega arith) (omega arith) (omega arith) (sym t) u
+        led_4 (next (c / 4096)) (next (c / 64)) (next c) (encodes cs) (omega arith) (omega arith)
+        (record {
+          low = omega arith;
+          high = omega arith;
+          e0 = λ e. omega arith;
+          ed = λ e. omega arith;
+          f0 = λ e. omega arith;
+          f4 = λ e. omega arith;
+        }) (omega arith) (omega arith) (omega arith) (omega arith) (sym t) u
 
 pub led_utf8 : (b : ℕ) (r : List ℕ) → IsLed b r → IsUtf8 (b ∷ r)
 led_utf8 b r (led_1 l u) = IsUtf8-append (b ∷ []) r (utf8_1 b l) u
@@ -204,7 +238,8 @@ led_utf8 b r (led_2 d s l h second is u) =
 led_utf8 b r (led_3 d e s l h second el eh is u) =
     subst (λ r. IsUtf8 (b ∷ r)) (sym is) (IsUtf8-append (b ∷ d ∷ e ∷ []) s (utf8_3 b d e l h second.low second.high el eh second.e0 second.ed) u)
 led_utf8 b r (led_4 d e f s l h second el eh fl fh is u) =
-    subst (λ r. IsUtf8 (b ∷ r)) (sym is) (IsUtf8-append (b ∷ d ∷ e ∷ f ∷ []) s (utf8_4 b d e f l h second.low second.high el eh fl fh second.f0 second.f4) u)
+    subst (λ r. IsUtf8 (b ∷ r)) (sym is) (IsUtf8-append (b ∷ d ∷ e ∷ f ∷ []) s
+    (utf8_4 b d e f l h second.low second.high el eh fl fh second.f0 second.f4) u)
 
 -- ---- how a text goes on behind its first byte
 
@@ -227,14 +262,19 @@ module _ (b : ℕ) where
       by (led_3 d e s m h second el eh is u) = elim out [ inl o ↦ omega arith | inr o ↦ omega arith ]
       by (led_4 d e f s m h second el eh fl fh is u) = elim out [ inl o ↦ omega arith | inr o ↦ omega arith ]
 
-  pub begun_more : 194 ≤ b → b < 245 → (rest : List ℕ) → (IsUtf8 (b ∷ rest) → Continues (continuation_len b) (second_byte_min b) (second_byte_max b) rest) × (Continues (continuation_len b) (second_byte_min b) (second_byte_max b) rest → IsUtf8 (b ∷ rest))
+  pub begun_more : 194 ≤ b → b < 245 → (rest : List ℕ)
+      → (IsUtf8 (b ∷ rest) → Continues (continuation_len b) (second_byte_min b) (second_byte_max b) rest)
+      × (Continues (continuation_len b) (second_byte_min b) (second_byte_max b) rest → IsUtf8 (b ∷ rest))
   begun_more l h rest = (λ u. to (utf8_led b rest u), λ c. led_utf8 b rest (from rest (cases_lt b 224) (cases_lt b 240) c))
     where
       to : IsLed b rest → Continues (continuation_len b) (second_byte_min b) (second_byte_max b) rest
       to (led_1 low u) = absurd (omega arith)
-      to (led_2 d s m h second is u) = subst (λ n. Continues n (second_byte_min b) (second_byte_max b) rest) (sym (len_2 b m h)) (subst (Continues 1 (second_byte_min b) (second_byte_max b)) (sym is) (second_min b d second, second_max b d second, u))
-      to (led_3 d e s m h second el eh is u) = subst (λ n. Continues n (second_byte_min b) (second_byte_max b) rest) (sym (len_3 b m h)) (subst (Continues 2 (second_byte_min b) (second_byte_max b)) (sym is) (second_min b d second, second_max b d second, (el, eh, u)))
-      to (led_4 d e f s m h second el eh fl fh is u) = subst (λ n. Continues n (second_byte_min b) (second_byte_max b) rest) (sym (len_4 b m)) (subst (Continues 3 (second_byte_min b) (second_byte_max b)) (sym is) (second_min b d second, second_max b d second, (el, eh, (fl, fh, u))))
+      to (led_2 d s m h second is u) = subst (λ n. Continues n (second_byte_min b) (second_byte_max b) rest) (sym (len_2 b m h))
+          (subst (Continues 1 (second_byte_min b) (second_byte_max b)) (sym is) (second_min b d second, second_max b d second, u))
+      to (led_3 d e s m h second el eh is u) = subst (λ n. Continues n (second_byte_min b) (second_byte_max b) rest) (sym (len_3 b m h))
+          (subst (Continues 2 (second_byte_min b) (second_byte_max b)) (sym is) (second_min b d second, second_max b d second, (el, eh, u)))
+      to (led_4 d e f s m h second el eh fl fh is u) = subst (λ n. Continues n (second_byte_min b) (second_byte_max b) rest) (sym (len_4 b m))
+          (subst (Continues 3 (second_byte_min b) (second_byte_max b)) (sym is) (second_min b d second, second_max b d second, (el, eh, (fl, fh, u))))
 
       from_2 : b < 224 → (rest : List ℕ) → Continues 1 (second_byte_min b) (second_byte_max b) rest → IsLed b rest
       from_2 m [] c = absurd c
@@ -251,7 +291,8 @@ module _ (b : ℕ) where
       from_4 g (d ∷ (e ∷ [])) c = absurd c.2.2
       from_4 g (d ∷ (e ∷ (f ∷ s))) c = led_4 d e f s g h (is_second b d c.0 c.1) c.2.0 c.2.1 c.2.2.0 c.2.2.1 refl c.2.2.2
 
-      from : (rest : List ℕ) → (b < 224) ⊎ (224 ≤ b) → (b < 240) ⊎ (240 ≤ b) → Continues (continuation_len b) (second_byte_min b) (second_byte_max b) rest → IsLed b rest
+      from : (rest : List ℕ) → (b < 224) ⊎ (224 ≤ b) → (b < 240) ⊎ (240 ≤ b)
+          → Continues (continuation_len b) (second_byte_min b) (second_byte_max b) rest → IsLed b rest
       from rest (inl m) _ c = from_2 m rest (subst (λ n. Continues n (second_byte_min b) (second_byte_max b) rest) (len_2 b l m) c)
       from rest (inr g) (inl m) c = from_3 g m rest (subst (λ n. Continues n (second_byte_min b) (second_byte_max b) rest) (len_3 b g m) c)
       from rest (inr _) (inr g) c = from_4 g rest (subst (λ n. Continues n (second_byte_min b) (second_byte_max b) rest) (len_4 b g) c)
@@ -262,7 +303,8 @@ continues_some zero low high le = ([], utf8_nothing)
 continues_some (suc n) low high le = let next = continues_some n 128 191 (omega arith) in (low ∷ next.0, (omega arith, le, next.1))
 
 -- one byte on
-pub continues_next : (n low high b : ℕ) → (n ≡ 0 → ⊥) → low ≤ b → b ≤ high → (rest : List ℕ) → (Continues n low high (b ∷ rest) → Continues (n - 1) 128 191 rest) × (Continues (n - 1) 128 191 rest → Continues n low high (b ∷ rest))
+pub continues_next : (n low high b : ℕ) → (n ≡ 0 → ⊥) → low ≤ b → b ≤ high → (rest : List ℕ)
+    → (Continues n low high (b ∷ rest) → Continues (n - 1) 128 191 rest) × (Continues (n - 1) 128 191 rest → Continues n low high (b ∷ rest))
 continues_next zero low high b some l h rest = absurd (some refl)
 continues_next (suc n) low high b some l h rest =
     let same : suc n - 1 ≡ n = omega arith in
@@ -289,6 +331,7 @@ next_byte_below zero low high b rest le c = by (utf8_led b rest c)
     by (led_4 d e f s m h second el eh fl fh is u) = omega arith
 next_byte_below (suc n) low high b rest le c = let h = c.1 in omega arith
 
-pub begun_at : (n low high b : ℕ) (rest : List ℕ) → n ≡ 0 → (IsUtf8 (b ∷ rest) → Continues n low high (b ∷ rest)) × (Continues n low high (b ∷ rest) → IsUtf8 (b ∷ rest))
+pub begun_at : (n low high b : ℕ) (rest : List ℕ) → n ≡ 0 → (IsUtf8 (b ∷ rest) → Continues n low high (b ∷ rest))
+    × (Continues n low high (b ∷ rest) → IsUtf8 (b ∷ rest))
 begun_at zero low high b rest e = (λ u. u, λ u. u)
 begun_at (suc n) low high b rest e = absurd (omega arith)

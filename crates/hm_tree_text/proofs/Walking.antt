@@ -91,7 +91,12 @@ after_from (Some (a ∷ w)) b n l h = by (a == b) refl h
 after_least : (tie : Option Name) (b : ℕ) (n : Name) → IsAfter tie (b ∷ n) → IsLeast (left_of tie) b
 after_least None b n h = tt
 after_least (Some []) b n h = tt
-after_least (Some (a ∷ w)) b n h = elim (le_or_more a b) [ inl l ↦ l | inr m ↦ absurd (let g = greater_cmp a b w n (let e = m.1 in omega arith) in let no : Greater ≡ Less = sym g ∙ h in cc) ]
+after_least (Some (a ∷ w)) b n h =
+    elim (le_or_more a b) [
+      | inl l ↦ l
+      | inr m ↦ absurd (let g = greater_cmp a b w n (let e = m.1 in omega arith) in
+          let no : Greater ≡ Less = sym g ∙ h in cc)
+    ]
 
 -- ---- names that go on so
 
@@ -111,19 +116,25 @@ module _ (c : Character) (tie : Option Name) (ties : (w : Name) → tie ≡ Some
   next_name : (b : ℕ) → IsNext c (left_of tie) b → (n : Name) × Completes c (b ∷ n) × IsAfter tie (b ∷ n)
   next_name b h = by tie ties h.least
     where
-      by : (tie : Option Name) → ((w : Name) → tie ≡ Some w → Completes c w) → IsLeast (left_of tie) b → (n : Name) × Completes c (b ∷ n) × IsAfter tie (b ∷ n)
+      by : (tie : Option Name) → ((w : Name) → tie ≡ Some w → Completes c w) → IsLeast (left_of tie) b
+          → (n : Name) × Completes c (b ∷ n) × IsAfter tie (b ∷ n)
       by None t l = (h.completion, h.completes, tt)
       by (Some []) t l = (h.completion, h.completes, nothing_cmp b h.completion)
       by (Some (a ∷ w)) t l = elim (le_or_more b a) [
         | inl le ↦
-            let same : a ≡ b = omega arith in
-            (longer w, subst (λ d. Completes c (d ∷ longer w)) same (longer_completes (a ∷ w) (t (a ∷ w) refl)), subst (λ d. name_cmp (a ∷ w) (d ∷ longer w) ≡ Less) same (longer_greater (a ∷ w)))
+            let same : a ≡ b = omega arith in (
+              longer w,
+              subst (λ d. Completes c (d ∷ longer w)) same (longer_completes (a ∷ w) (t (a ∷ w) refl)),
+              subst (λ d. name_cmp (a ∷ w) (d ∷ longer w) ≡ Less) same (longer_greater (a ∷ w)),
+            )
         | inr m ↦ (h.completion, h.completes, less_cmp a b w h.completion (let e = m.1 in omega arith))
       ]
 
 -- ---- where no next byte stands
 
-module _ (c : Character) (tie : Option Name) (ties : (w : Name) → tie ≡ Some w → Completes c w) (opened : IsOpen c) (x : List ℕ) (none : ¬ (BeginsWith (IsNameRest c tie) x)) (no_next : (b : ℕ) (rest : List ℕ) → IsNext c (left_of tie) b → x ≡ spelled_byte b ++ rest → ⊥) (n : ℕ) (most : IsMostShared c (left_of tie) x n) where
+module _ (c : Character) (tie : Option Name) (ties : (w : Name) → tie ≡ Some w → Completes c w) (opened : IsOpen c) (x : List ℕ)
+    (none : ¬ (BeginsWith (IsNameRest c tie) x)) (no_next : (b : ℕ) (rest : List ℕ) → IsNext c (left_of tie) b → x ≡ spelled_byte b ++ rest → ⊥)
+    (n : ℕ) (most : IsMostShared c (left_of tie) x n) where
   goes_on : IsBegun (IsNameRest c tie) (take n x)
   goes_on = by n refl
     where
@@ -139,7 +150,8 @@ module _ (c : Character) (tie : Option Name) (ties : (w : Name) → tie ≡ Some
               name = one.0 ∷ name.0;
               completes = name.1;
               after = name.2;
-              is = sym (append_assoc (take n x) part.0 (escaped name.0 ++ 34 ∷ [])) ∙ ap (λ l. l ++ (escaped name.0 ++ 34 ∷ [])) (sym front) ∙ sym (append_assoc (spelled_byte one.0) (escaped name.0) (34 ∷ []));
+              is = sym (append_assoc (take n x) part.0 (escaped name.0 ++ 34 ∷ [])) ∙ ap (λ l. l ++ (escaped name.0 ++ 34 ∷ [])) (sym front)
+                  ∙ sym (append_assoc (spelled_byte one.0) (escaped name.0) (34 ∷ []));
             },
           )
 
@@ -154,11 +166,17 @@ module _ (c : Character) (tie : Option Name) (ties : (w : Name) → tie ≡ Some
       by : (name : Name) → Completes c name → IsAfter tie name → take m x ++ rest ≡ (escaped name ++ 34 ∷ []) ++ h.rest → m ≤ n
       by [] completes after e = elim (quote m x le e) [
         | inl z ↦ omega arith
-        | inr r ↦ absurd (none (record { part = 34 ∷ []; rest = r.0; is_form = record { name = []; completes = completes; after = after; is = refl }; is = r.1 }))
+        | inr r ↦ absurd (none (record {
+          part = 34 ∷ [];
+          rest = r.0;
+          is_form = record { name = []; completes = completes; after = after; is = refl };
+          is = r.1;
+        }))
       ]
       by (b ∷ name) completes after e =
           let next : IsNext c (left_of tie) b = record { completion = name; completes = completes; least = after_least tie b name after } in
-          elim (shared_taken m x (spelled_byte b) rest _ le (e ∙ append_assoc (spelled_byte b ++ escaped name) (34 ∷ []) h.rest ∙ append_assoc (spelled_byte b) (escaped name) (34 ∷ h.rest))) [
+          elim (shared_taken m x (spelled_byte b) rest _ le (e ∙ append_assoc (spelled_byte b ++ escaped name) (34 ∷ []) h.rest
+          ∙ append_assoc (spelled_byte b) (escaped name) (34 ∷ h.rest))) [
             | inl l ↦ (let each = most.each b next in omega arith)
             | inr r ↦ absurd (no_next b r.0 next r.1)
           ]
@@ -188,7 +206,8 @@ pub record WalkedAll (start bytes : List ℕ) (at : ℕ) (c : Character) (left :
   pub within : at ≤ length bytes
   pub each : (last : Option Name) → IsLeftOf last start → ¬ (BeginsWith (IsNameRest complete last) bytes) → Walked last bytes at c left
 
-module _ (bytes : List ℕ) (at : ℕ) (le : at ≤ length bytes) (c : Character) (left : List ℕ) (b n : ℕ) (next : Character) (s : IsStep c left (drop at bytes) b n next) where
+module _ (bytes : List ℕ) (at : ℕ) (le : at ≤ length bytes) (c : Character) (left : List ℕ) (b n : ℕ) (next : Character)
+    (s : IsStep c left (drop at bytes) b n next) where
   rest_is : drop (at + n) bytes ≡ s.rest
   rest_is = sym (drop-drop n at bytes) ∙ ap (drop n) s.is ∙ drop_at (spelled_byte b) s.rest n (sym s.size)
 
@@ -207,10 +226,12 @@ module _ (bytes : List ℕ) (at : ℕ) (le : at ≤ length bytes) (c : Character
     back : (y : List ℕ) → BeginsWith (IsNameRest c tie) (spelled_byte b ++ y) → BeginsWith (IsNameRest next (tie_behind tie b)) y
     back y h = by h.is_form.name h.is_form.completes h.is_form.after (h.is ∙ ap (λ l. l ++ h.rest) h.is_form.is)
       where
-        by : (name : Name) → Completes c name → IsAfter tie name → spelled_byte b ++ y ≡ (escaped name ++ 34 ∷ []) ++ h.rest → BeginsWith (IsNameRest next (tie_behind tie b)) y
+        by : (name : Name) → Completes c name → IsAfter tie name → spelled_byte b ++ y ≡ (escaped name ++ 34 ∷ []) ++ h.rest
+            → BeginsWith (IsNameRest next (tie_behind tie b)) y
         by [] completes after e = absurd (spelled_byte_quote b y h.rest e)
         by (d ∷ name) completes after e =
-            let one = spelled_byte_one b d y _ (e ∙ append_assoc (spelled_byte d ++ escaped name) (34 ∷ []) h.rest ∙ append_assoc (spelled_byte d) (escaped name) (34 ∷ h.rest)) in
+            let one = spelled_byte_one b d y _ (e ∙ append_assoc (spelled_byte d ++ escaped name) (34 ∷ []) h.rest
+            ∙ append_assoc (spelled_byte d) (escaped name) (34 ∷ h.rest)) in
             record {
               part = escaped name ++ 34 ∷ [];
               rest = h.rest;
@@ -242,7 +263,8 @@ module _ (bytes : List ℕ) (at : ℕ) (le : at ≤ length bytes) (c : Character
     longest_step k h =
         subst (λ j. IsLongestPart (IsNameRest c tie) (drop at bytes) (j + k)) (sym s.size)
         (subst (λ x. IsLongestPart (IsNameRest c tie) x (length (spelled_byte b) + k)) (sym s.is)
-        (longest_behind (IsNameRest next (tie_behind tie b)) (IsNameRest c tie) (λ _. Unit {0}) (spelled_byte b) into (λ y _. back y) s.rest k tt (λ _ _ _ _. tt) h))
+        (longest_behind (IsNameRest next (tie_behind tie b)) (IsNameRest c tie) (λ _. Unit {0}) (spelled_byte b) into (λ y _. back y) s.rest k
+        tt (λ _ _ _ _. tt) h))
 
   step_one : (last : Option Name) → Walked last bytes at c left → Walked last bytes (at + n) next (left_behind left b)
   step_one last w =
@@ -252,7 +274,8 @@ module _ (bytes : List ℕ) (at : ℕ) (le : at ≤ length bytes) (c : Character
         left_is = ap (λ v. left_behind v b) w.left_is ∙ left_tie w.tie b;
         ties = λ v e. (s.goes_on v).0 (w.ties (b ∷ v) (tie_was w.tie b v e));
         none = λ h. w.none (begins w.tie l (subst (BeginsWith (IsNameRest next (tie_behind w.tie b))) rest_is h));
-        longest = λ k h. subst (IsLongestPart (IsNameRest complete last) bytes) (let e : at + (n + k) ≡ at + n + k = omega arith in e) (w.longest (n + k) (longest_step w.tie l k (subst (λ x. IsLongestPart (IsNameRest next (tie_behind w.tie b)) x k) rest_is h)));
+        longest = λ k h. subst (IsLongestPart (IsNameRest complete last) bytes) (let e : at + (n + k) ≡ at + n + k = omega arith in e)
+            (w.longest (n + k) (longest_step w.tie l k (subst (λ x. IsLongestPart (IsNameRest next (tie_behind w.tie b)) x k) rest_is h)));
       }
 
   pub walked_more : (start : List ℕ) → WalkedAll start bytes at c left → WalkedAll start bytes (at + n) next (left_behind left b)
@@ -262,10 +285,15 @@ module _ (bytes : List ℕ) (at : ℕ) (le : at ≤ length bytes) (c : Character
     each = λ last h none. step_one last (w.each last h none);
   }
 
-pub walked_end : (start bytes : List ℕ) (at : ℕ) (c : Character) (left : List ℕ) (k : ℕ) → WalkedAll start bytes at c left → ((b : ℕ) (rest : List ℕ) → IsNext c left b → drop at bytes ≡ spelled_byte b ++ rest → ⊥) → IsMostShared c left (drop at bytes) k → (last : Option Name) → IsLeftOf last start → ¬ (BeginsWith (IsNameRest complete last) bytes) → IsLongestPart (IsNameRest complete last) bytes (at + k)
+pub walked_end : (start bytes : List ℕ) (at : ℕ) (c : Character) (left : List ℕ) (k : ℕ) → WalkedAll start bytes at c left
+    → ((b : ℕ) (rest : List ℕ) → IsNext c left b → drop at bytes ≡ spelled_byte b ++ rest → ⊥) → IsMostShared c left (drop at bytes) k
+    → (last : Option Name) → IsLeftOf last start → ¬ (BeginsWith (IsNameRest complete last) bytes)
+    → IsLongestPart (IsNameRest complete last) bytes (at + k)
 walked_end start bytes at c left k all no_next most last h none =
     let w = all.each last h none in
-    w.longest k (fault_here c w.tie w.ties all.opened (drop at bytes) w.none (λ b rest next. no_next b rest (subst (λ v. IsNext c v b) (sym w.left_is) next)) k (subst (λ v. IsMostShared c v (drop at bytes) k) w.left_is most))
+    w.longest k (fault_here c w.tie w.ties all.opened (drop at bytes) w.none
+    (λ b rest next. no_next b rest (subst (λ v. IsNext c v b) (sym w.left_is) next)) k
+    (subst (λ v. IsMostShared c v (drop at bytes) k) w.left_is most))
 
 -- ---- the first quote
 
@@ -282,15 +310,22 @@ module _ (last : Option Name) where
   quote_back y h =
       let f = h.is_form in
       let e : ◌≡◌ {A = List ℕ} (34 ∷ y) (34 ∷ ((escaped f.name ++ 34 ∷ []) ++ h.rest)) = h.is ∙ ap (λ l. l ++ h.rest) f.is in
-      record { part = escaped f.name ++ 34 ∷ []; rest = h.rest; is_form = record { name = f.name; completes = f.is_text; after = f.after; is = refl }; is = cc }
+      record {
+        part = escaped f.name ++ 34 ∷ [];
+        rest = h.rest;
+        is_form = record { name = f.name; completes = f.is_text; after = f.after; is = refl };
+        is = cc;
+      }
 
   pub none_behind : (bytes y : List ℕ) → bytes ≡ 34 ∷ y → ¬ (BeginsWith (IsName last) bytes) → ¬ (BeginsWith (IsNameRest complete last) y)
   none_behind bytes y e none h = none (subst (BeginsWith (IsName last)) (sym e) (quote_begins y h))
 
-  pub fault_behind_quote : (bytes y : List ℕ) (k : ℕ) → bytes ≡ 34 ∷ y → IsLongestPart (IsNameRest complete last) y k → IsLongestPart (IsName last) bytes (1 + k)
+  pub fault_behind_quote : (bytes y : List ℕ) (k : ℕ) → bytes ≡ 34 ∷ y → IsLongestPart (IsNameRest complete last) y k
+      → IsLongestPart (IsName last) bytes (1 + k)
   fault_behind_quote bytes y k e h =
       subst (λ x. IsLongestPart (IsName last) x (1 + k)) (sym e)
-      (longest_behind (IsNameRest complete last) (IsName last) (λ _. Unit {0}) (34 ∷ []) (λ y h. ([], subst (IsName last) (sym (append-nil (34 ∷ y))) (quoted y h))) (λ y _. quote_back y) y k tt (λ _ _ _ _. tt) h)
+      (longest_behind (IsNameRest complete last) (IsName last) (λ _. Unit {0}) (34 ∷ [])
+      (λ y h. ([], subst (IsName last) (sym (append-nil (34 ∷ y))) (quoted y h))) (λ y _. quote_back y) y k tt (λ _ _ _ _. tt) h)
 
   -- without a quote nothing stands
   pub no_quote : (left bytes : List ℕ) → IsLeftOf last left → IsNot 34 bytes → IsLongestPart (IsName last) bytes 0
@@ -353,26 +388,34 @@ module _ (c : Character) (left bytes : List ℕ) where
 -- ---- the byte at the front
 
 -- where none below 128 is spelled at the front, and no byte stands there for itself, none is
-pub no_byte : (bytes : List ℕ) → ((b : ℕ) (rest : List ℕ) → is_plain b ≡ true → ¬ (bytes ≡ b ∷ rest)) → ((b : ℕ) (rest : List ℕ) → b < 128 → ¬ (bytes ≡ spelled_byte b ++ rest)) → (b : ℕ) (rest : List ℕ) → ¬ (bytes ≡ spelled_byte b ++ rest)
+pub no_byte : (bytes : List ℕ) → ((b : ℕ) (rest : List ℕ) → is_plain b ≡ true → ¬ (bytes ≡ b ∷ rest))
+    → ((b : ℕ) (rest : List ℕ) → b < 128 → ¬ (bytes ≡ spelled_byte b ++ rest)) → (b : ℕ) (rest : List ℕ) → ¬ (bytes ≡ spelled_byte b ++ rest)
 no_byte bytes no_plain low b rest e = by (kind b)
   where
     by : Kind b → ⊥
     by (plain h p) = no_plain b rest h (e ∙ ap (λ l. l ++ rest) p)
-    by (backslashed h p) = low b rest (elim (or_cases (b == 34) (b == 92) h) [ inl l ↦ (let f = eqb-true b 34 l in omega arith) | inr l ↦ (let f = eqb-true b 92 l in omega arith) ]) e
+    by (backslashed h p) = low b rest (elim (or_cases (b == 34) (b == 92) h)
+        [ inl l ↦ (let f = eqb-true b 34 l in omega arith) | inr l ↦ (let f = eqb-true b 92 l in omega arith) ]) e
     by (control h p) = low b rest h e
 
-pub byte_behind_plain : (bytes : List ℕ) (r : Option (ℕ × ℕ)) → ((b : ℕ) (rest : List ℕ) → is_plain b ≡ true → ¬ (bytes ≡ b ∷ rest)) → MatchOption r ((b : ℕ) (rest : List ℕ) → b < 128 → ¬ (bytes ≡ spelled_byte b ++ rest)) (λ found. (rest : List ℕ) × (found.1 ≡ length (spelled_byte found.0)) × (bytes ≡ spelled_byte found.0 ++ rest)) → IsByteAt bytes r
+pub byte_behind_plain : (bytes : List ℕ) (r : Option (ℕ × ℕ)) → ((b : ℕ) (rest : List ℕ) → is_plain b ≡ true → ¬ (bytes ≡ b ∷ rest))
+    → MatchOption r ((b : ℕ) (rest : List ℕ) → b < 128 → ¬ (bytes ≡ spelled_byte b ++ rest))
+    (λ found. (rest : List ℕ) × (found.1 ≡ length (spelled_byte found.0)) × (bytes ≡ spelled_byte found.0 ++ rest)) → IsByteAt bytes r
 byte_behind_plain bytes None none h = no_byte bytes none h
 byte_behind_plain bytes (Some found) none h = h
 
 -- what is said of a slice to the end, said of the bytes from its place on
-pub step_at : (c : Character) (left bytes : List ℕ) (at b n : ℕ) (next : Character) → IsStep c left (take (length bytes - at) (drop at bytes)) b n next → IsStep c left (drop at bytes) b n next
+pub step_at : (c : Character) (left bytes : List ℕ) (at b n : ℕ) (next : Character)
+    → IsStep c left (take (length bytes - at) (drop at bytes)) b n next → IsStep c left (drop at bytes) b n next
 step_at c left bytes at b n next s = subst (λ x. IsStep c left x b n next) (take_rest bytes at) s
 
-pub none_at : (c : Character) (left bytes : List ℕ) (at : ℕ) → ((b : ℕ) (rest : List ℕ) → IsNext c left b → ¬ (take (length bytes - at) (drop at bytes) ≡ spelled_byte b ++ rest)) → (b : ℕ) (rest : List ℕ) → IsNext c left b → drop at bytes ≡ spelled_byte b ++ rest → ⊥
+pub none_at : (c : Character) (left bytes : List ℕ) (at : ℕ)
+    → ((b : ℕ) (rest : List ℕ) → IsNext c left b → ¬ (take (length bytes - at) (drop at bytes) ≡ spelled_byte b ++ rest))
+    → (b : ℕ) (rest : List ℕ) → IsNext c left b → drop at bytes ≡ spelled_byte b ++ rest → ⊥
 none_at c left bytes at h b rest next e = h b rest next (take_rest bytes at ∙ e)
 
-pub most_at : (c : Character) (left bytes : List ℕ) (at n : ℕ) → IsMostShared c left (take (length bytes - at) (drop at bytes)) n → IsMostShared c left (drop at bytes) n
+pub most_at : (c : Character) (left bytes : List ℕ) (at n : ℕ) → IsMostShared c left (take (length bytes - at) (drop at bytes)) n
+    → IsMostShared c left (drop at bytes) n
 most_at c left bytes at n m = subst (λ x. IsMostShared c left x n) (take_rest bytes at) m
 
 pub rest_behind : (bytes : List ℕ) → StandsAt bytes 0 (34 ∷ []) 1 → bytes ≡ 34 ∷ take (length bytes - 1) (drop 1 bytes)

@@ -48,15 +48,19 @@ module _ (m : Bool) (bytes : List ℕ) where
     whole_read value end h = record {
       node = h.node;
       read = h.read;
-      stands = subst (λ p. StandsAt bytes 0 p end) (sym (whole_some h.node (λ e. let s = h.some in omega arith))) (joins bytes (123 ∷ []) (inside (edges h.node)) 0 1 end brace h.stands);
+      stands = subst (λ p. StandsAt bytes 0 p end) (sym (whole_some h.node (λ e. let s = h.some in omega arith)))
+          (joins bytes (123 ∷ []) (inside (edges h.node)) 0 1 end brace h.stands);
     }
 
-    pub whole_fails : IsNot 125 (drop 1 bytes) → (fault : TextFault) → Fails (IsInside m) (OpensInside m 999) bytes 1 fault → Fails (IsWhole m) (Opens m 1001) bytes 0 fault
+    pub whole_fails : IsNot 125 (drop 1 bytes) → (fault : TextFault) → Fails (IsInside m) (OpensInside m 999) bytes 1 fault
+        → Fails (IsWhole m) (Opens m 1001) bytes 0 fault
     whole_fails not (BadTree q) f = (
-      fault_behind (IsInside m) (IsWhole m) (IsNot 125) (123 ∷ []) (inside_whole m) (λ y ok. whole_inside m y ok) bytes 0 1 q (omega arith) brace not (λ n. is_not_part 125 (drop 1 bytes) n not) f.0,
+      fault_behind (IsInside m) (IsWhole m) (IsNot 125) (123 ∷ []) (inside_whole m) (λ y ok. whole_inside m y ok) bytes 0 1 q (omega arith)
+          brace not (λ n. is_not_part 125 (drop 1 bytes) n not) f.0,
       λ d. f.1 (root_deep m 1001 (drop 1 bytes) (subst (BeginsWith (Opens m 1001)) brace.spelled d)),
     )
-    whole_fails not TooDeep f = subst (BeginsWith (Opens m 1001)) (sym brace.spelled) (begins_behind (OpensInside m 999) (Opens m 1001) (123 ∷ []) (drop 1 bytes) (λ s o. o) f)
+    whole_fails not TooDeep f = subst (BeginsWith (Opens m 1001)) (sym brace.spelled)
+        (begins_behind (OpensInside m 999) (Opens m 1001) (123 ∷ []) (drop 1 bytes) (λ s o. o) f)
     whole_fails not Memory f = tt
 
   -- ---- the line feed
@@ -68,7 +72,12 @@ module _ (m : Bool) (bytes : List ℕ) where
   begins_deep d = (d.part, d.rest, d.is_form, d.is)
 
   file_whole : (s : List ℕ) → IsFile m s → BeginsWith (IsWhole m) s
-  file_whole s f = record { part = text whole f.node.shape; rest = line_feed; is_form = record { node = f.node; marks = f.marks; is = refl }; is = f.is }
+  file_whole s f = record {
+    part = text whole f.node.shape;
+    rest = line_feed;
+    is_form = record { node = f.node; marks = f.marks; is = refl };
+    is = f.is;
+  }
 
   pub file_fails : (fault : TextFault) → Fails (IsWhole m) (Opens m 1001) bytes 0 fault → Faults m (IsFile m) bytes fault
   file_fails (BadTree at) f =
@@ -80,8 +89,15 @@ module _ (m : Bool) (bytes : List ℕ) where
         place = subst (IsLongestBegun (IsFile m) bytes) same (record {
           within = l.within;
           begun =
-              let b = l.begun in
-              (b.0 ++ line_feed, record { node = b.1.node; marks = b.1.marks; is = sym (append_assoc (take f.0.passed bytes) b.0 line_feed) ∙ ap (λ s. s ++ line_feed) b.1.is });
+              let b = l.begun in (
+                b.0 ++ line_feed,
+                record {
+                  node = b.1.node;
+                  marks = b.1.marks;
+                  is = sym (append_assoc (take f.0.passed bytes) b.0 line_feed)
+                      ∙ ap (λ s. s ++ line_feed) b.1.is;
+                },
+              );
           longest = λ n le h. l.longest n h.0 le (file_whole _ h.1);
         });
       }
@@ -96,7 +112,8 @@ module _ (m : Bool) (bytes : List ℕ) where
     front_end = let b = behind bytes (text whole r.node.shape) 0 end (omega arith) r.stands in omega arith
 
     not_deep : ¬ (IsTooDeep m bytes)
-    not_deep d = shallow_whole m 1001 (omega arith) r.node (let s = r.read.shallow in omega arith) (drop end bytes) (subst (BeginsWith (Opens m 1001)) r.stands.spelled (deep_begins d))
+    not_deep d = shallow_whole m 1001 (omega arith) r.node (let s = r.read.shallow in omega arith) (drop end bytes)
+        (subst (BeginsWith (Opens m 1001)) r.stands.spelled (deep_begins d))
 
     -- what a file that begins with this node goes on with
     goes_on : (y : List ℕ) → IsFile m (text whole r.node.shape ++ y) → y ≡ line_feed
@@ -106,7 +123,8 @@ module _ (m : Bool) (bytes : List ℕ) where
     a_file = record { node = r.node; marks = r.read.marks; is = refl }
 
     -- the longest beginning of a file ends in what stands behind the node
-    behind_front : (x : List ℕ) (k : ℕ) → drop end bytes ≡ x → k ≤ length x → IsBegun (IsFile m) (text whole r.node.shape ++ take k x) → ((n : ℕ) (rest : List ℕ) → n ≤ length x → take n x ++ rest ≡ line_feed → n ≤ k) → IsLongestBegun (IsFile m) bytes (end + k)
+    behind_front : (x : List ℕ) (k : ℕ) → drop end bytes ≡ x → k ≤ length x → IsBegun (IsFile m) (text whole r.node.shape ++ take k x)
+        → ((n : ℕ) (rest : List ℕ) → n ≤ length x → take n x ++ rest ≡ line_feed → n ≤ k) → IsLongestBegun (IsFile m) bytes (end + k)
     behind_front x k is le begun least = record {
       within = let a = ap length whole_is in let b = length-append (text whole r.node.shape) x in let c = front_end in omega arith;
       begun = subst (IsBegun (IsFile m)) (sym (taken k)) begun;
@@ -123,7 +141,8 @@ module _ (m : Bool) (bytes : List ℕ) where
         by n within h (inl l) = omega arith
         by n within h (inr (j, e)) =
             let t : take n bytes ≡ text whole r.node.shape ++ take (j + 1) x = ap (λ i. take i bytes) e ∙ taken (j + 1) in
-            let f = goes_on (take (j + 1) x ++ h.0) (subst (IsFile m) (ap (λ l. l ++ h.0) t ∙ append_assoc (text whole r.node.shape) (take (j + 1) x) h.0) h.1) in
+            let f = goes_on (take (j + 1) x ++ h.0)
+            (subst (IsFile m) (ap (λ l. l ++ h.0) t ∙ append_assoc (text whole r.node.shape) (take (j + 1) x) h.0) h.1) in
             let a = ap length whole_is in
             let b = length-append (text whole r.node.shape) x in
             let c = front_end in
@@ -134,7 +153,10 @@ module _ (m : Bool) (bytes : List ℕ) where
     no_feed not = record {
       not_deep = not_deep;
       no_file = λ f. not [] (goes_on (drop end bytes) (subst (IsFile m) r.stands.spelled f));
-      place = subst (IsLongestBegun (IsFile m) bytes) (let z : end + 0 ≡ end = omega arith in z) (behind_front (drop end bytes) 0 refl (omega arith) (line_feed, subst (IsFile m) (ap (λ l. l ++ line_feed) (sym (append-nil (text whole r.node.shape)))) a_file) (λ n rest le e. by n (drop end bytes) rest le e not));
+      place = subst (IsLongestBegun (IsFile m) bytes) (let z : end + 0 ≡ end = omega arith in z)
+          (behind_front (drop end bytes) 0 refl (omega arith)
+          (line_feed, subst (IsFile m) (ap (λ l. l ++ line_feed) (sym (append-nil (text whole r.node.shape)))) a_file)
+          (λ n rest le e. by n (drop end bytes) rest le e not));
     }
       where
         by : (n : ℕ) (x rest : List ℕ) → n ≤ length x → take n x ++ rest ≡ line_feed → IsNot 10 x → n ≤ 0
@@ -149,8 +171,10 @@ module _ (m : Bool) (bytes : List ℕ) where
         by [] e = let a = length-drop (end + 1) bytes in let b = ap length e in absurd (omega arith)
         by (c ∷ x) e = record {
           not_deep = not_deep;
-          no_file = λ f. let g : ◌≡◌ {A = List ℕ} (10 ∷ c ∷ x) line_feed = sym is ∙ goes_on (drop end bytes) (subst (IsFile m) r.stands.spelled f) in cc;
-          place = behind_front (10 ∷ c ∷ x) 1 is (omega arith) ([], subst (IsFile m) (sym (append-nil (text whole r.node.shape ++ 10 ∷ []))) a_file) least;
+          no_file = λ f. let g : ◌≡◌ {A = List ℕ} (10 ∷ c ∷ x) line_feed =
+              sym is ∙ goes_on (drop end bytes) (subst (IsFile m) r.stands.spelled f) in cc;
+          place = behind_front (10 ∷ c ∷ x) 1 is (omega arith)
+              ([], subst (IsFile m) (sym (append-nil (text whole r.node.shape ++ 10 ∷ []))) a_file) least;
         }
           where
             is : drop end bytes ≡ 10 ∷ c ∷ x
@@ -165,7 +189,8 @@ module _ (m : Bool) (bytes : List ℕ) where
     file_read feed le = record {
       node = r.node;
       read = r.read;
-      is = r.stands.spelled ∙ ap (λ l. text whole r.node.shape ++ l) (feed.spelled ∙ ap (λ l. 10 ∷ l) (nothing (drop (end + 1) bytes) (let l = length-drop (end + 1) bytes in omega arith)));
+      is = r.stands.spelled ∙ ap (λ l. text whole r.node.shape ++ l)
+          (feed.spelled ∙ ap (λ l. 10 ∷ l) (nothing (drop (end + 1) bytes) (let l = length-drop (end + 1) bytes in omega arith)));
     }
       where
         nothing : (l : List ℕ) → length l ≡ 0 → l ≡ []
@@ -179,7 +204,8 @@ unmarked_sound : (w : Bool) (s : Shape) → T (is_node true w s) → HasAllowedM
 unmarked_sound w bare h n = tt
 unmarked_sound w mark h n = absurd n
 unmarked_sound w (edge k c r) h n =
-    both (leads k r) _ (first _ _ h) (both _ _ (unmarked_sound true c (first _ _ (second (leads k r) _ h)) n.0) (unmarked_sound false r (second (is_node true true c) _ (second (leads k r) _ h)) n.1))
+    both (leads k r) _ (first _ _ h) (both _ _ (unmarked_sound true c (first _ _ (second (leads k r) _ h)) n.0)
+    (unmarked_sound false r (second (is_node true true c) _ (second (leads k r) _ h)) n.1))
 
 sound_unmarked : (w : Bool) (s : Shape) → T (is_node false w s) → HasAllowedMarks false s
 sound_unmarked w bare h = tt
@@ -194,7 +220,8 @@ pub file_tree : (s : List ℕ) → IsTreeFile s → IsFile false s
 unfolding recorded
 file_tree s f = record { node = recorded f.0; marks = sound_unmarked true f.0.shape f.0.sound; is = f.1 }
 
-faults_as : (m : Bool) (F G : List ℕ → Type 0) → ((s : List ℕ) → F s → G s) → ((s : List ℕ) → G s → F s) → (bytes : List ℕ) (fault : TextFault) → Faults m F bytes fault → Faults m G bytes fault
+faults_as : (m : Bool) (F G : List ℕ → Type 0) → ((s : List ℕ) → F s → G s) → ((s : List ℕ) → G s → F s) → (bytes : List ℕ) (fault : TextFault)
+    → Faults m F bytes fault → Faults m G bytes fault
 faults_as m F G to from bytes (BadTree at) h = record {
   not_deep = h.not_deep;
   no_file = λ g. h.no_file (from bytes g);
@@ -242,7 +269,8 @@ some_bytes zero bytes rest le e = refl
 some_bytes (suc n) [] rest le e = absurd (omega arith)
 some_bytes (suc n) (b ∷ bytes) rest le e = let no : ⊥ = cc in absurd no
 
-pub archive_faults : (bytes : List ℕ) → (bytes ≡ [] → ⊥) → (fault : TextFault) → Faults true (IsFile true) bytes fault → Faults true IsArchiveFile bytes fault
+pub archive_faults : (bytes : List ℕ) → (bytes ≡ [] → ⊥) → (fault : TextFault) → Faults true (IsFile true) bytes fault
+    → Faults true IsArchiveFile bytes fault
 archive_faults bytes some (BadTree at) h = record {
   not_deep = h.not_deep;
   no_file = λ g. h.no_file (file_archive bytes some g);

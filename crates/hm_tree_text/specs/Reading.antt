@@ -129,7 +129,8 @@ pub record IsWholeRead (m : Bool) (room : ℕ) (bytes : List ℕ) (value : Archi
   pub stands : StandsAt bytes 0 (text whole node.shape) end
 
 -- an edge behind others
-pub record IsEdgeRead (m : Bool) (room : ℕ) (es : List (Name × Node true)) (bytes : List ℕ) (start : ℕ) (name : Name) (value : Archive) (more : Bool) (end : ℕ) : Type 0 where
+pub record IsEdgeRead (m : Bool) (room : ℕ) (es : List (Name × Node true)) (bytes : List ℕ) (start : ℕ) (name : Name) (value : Archive)
+    (more : Bool) (end : ℕ) : Type 0 where
   pub child : Node true
   pub is_text : IsUtf8 name
   pub after : T (is_behind name es)

@@ -14,8 +14,10 @@ use Rattle.hm_reconcile.proofs.reconcile_owned.Goals as goal
 
 pub conflicts_of-requires : goal.conflicts_of-requires
 conflicts_of-requires c =
-    held_contested c.args.schema.now c.args.schema.now.root (given c.args.archive c.args.left c.args.right) (outcome_of c.in_ok-made.made) c.in_ok-made.made.held
-    (subst (λ i. IsOutcome c.args.schema.now i (given c.args.archive c.args.left c.args.right) (outcome_of c.in_ok-made.made)) c.root.ensures.root c.in_ok-made.ensures.outcome) c.in_ok-made.ensures.held
+    held_contested c.args.schema.now c.args.schema.now.root (given c.args.archive c.args.left c.args.right) (outcome_of c.in_ok-made.made)
+    c.in_ok-made.made.held
+    (subst (λ i. IsOutcome c.args.schema.now i (given c.args.archive c.args.left c.args.right) (outcome_of c.in_ok-made.made))
+    c.root.ensures.root c.in_ok-made.ensures.outcome) c.in_ok-made.ensures.held
 
 pub returns-clause-reconciled : goal.returns-clause-reconciled
 returns-clause-reconciled c = record {
@@ -23,7 +25,8 @@ returns-clause-reconciled c = record {
   best = outcome_maximal c.args.schema.now c.args.schema.now.root before after outcome;
   only = outcome_only c.args.schema.now c.args.schema.now.root before after outcome;
   conflicts = remain;
-  once = λ other conflicts with. once_with c.args.schema.now c.args.schema.now.root before other after conflicts c.in_ok-conflicts.conflicts.items with (record { outcome = outcome; remain = remain });
+  once = λ other conflicts with. once_with c.args.schema.now c.args.schema.now.root before other after conflicts
+      c.in_ok-conflicts.conflicts.items with (record { outcome = outcome; remain = remain });
   explained = explained c.args.schema.now c.args.schema.now.root before after c.in_ok-conflicts.conflicts.items outcome remain;
   apart = marks_differ c.args.schema.now c.args.schema.now.root before after c.requires.members outcome;
 }
@@ -38,7 +41,8 @@ returns-clause-reconciled c = record {
     outcome = subst (λ i. IsOutcome c.args.schema.now i before after) c.root.ensures.root c.in_ok-made.ensures.outcome
 
     remain : AreConflicts c.args.schema.now c.args.schema.now.root (views before) (state c.in_ok-made.made.archive) c.in_ok-conflicts.conflicts.items
-    remain = held_conflicts c.args.schema.now c.args.schema.now.root before after c.in_ok-made.made.held outcome c.in_ok-made.ensures.held c.in_ok-conflicts.conflicts.items c.in_ok-conflicts.ensures
+    remain = held_conflicts c.args.schema.now c.args.schema.now.root before after c.in_ok-made.made.held outcome c.in_ok-made.ensures.held
+        c.in_ok-conflicts.conflicts.items c.in_ok-conflicts.ensures
 
 -- ---- there is one outcome, whether memory suffices or not
 

@@ -9,9 +9,12 @@ use Rattle.hm_certify.proofs.carried.all_judged.Goals as goal
 
 pub loop-name-preserved : goal.loop-name-preserved
 loop-name-preserved c =
-    All-more (IsJudged (archive_or_none (option_copied c.args.archive)) c.args.mine.now c.args.other.now c.args.names.now) c.args.list.now c.loop-name.name-index c.name-item.result (omega arith)
-    c.loop-name.invariant (subst (IsJudged (archive_or_none (option_copied c.args.archive)) c.args.mine.now c.args.other.now c.args.names.now) c.name-item.is (c.is_judged.ensures.0 c.if-not-is_judged.false))
+    All-more (IsJudged (archive_or_none (option_copied c.args.archive)) c.args.mine.now c.args.other.now c.args.names.now) c.args.list.now
+    c.loop-name.name-index c.name-item.result (omega arith)
+    c.loop-name.invariant (subst (IsJudged (archive_or_none (option_copied c.args.archive)) c.args.mine.now c.args.other.now c.args.names.now)
+    c.name-item.is (c.is_judged.ensures.0 c.if-not-is_judged.false))
 
 pub returns : goal.returns
 returns c = is_so (
-    subst (All (IsJudged (archive_or_none (option_copied c.args.archive)) c.args.mine.now c.args.other.now c.args.names.now)) (take_all c.loop-name.name-index c.args.list.now (omega arith)) c.loop-name.invariant)
+    subst (All (IsJudged (archive_or_none (option_copied c.args.archive)) c.args.mine.now c.args.other.now c.args.names.now))
+    (take_all c.loop-name.name-index c.args.list.now (omega arith)) c.loop-name.invariant)

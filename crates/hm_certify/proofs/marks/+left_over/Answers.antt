@@ -21,5 +21,6 @@ loop-place-preserved t c =
 
 pub returns : goal.returns
 returns t c =
-    let all = passed_all c.args.archive.now c.loop-place.place (omega (arith, c.count-place-end.ensures)) (λ m. c.in_default.not-Marked (c.root.ensures ∙ m)) in
+    let all = passed_all c.args.archive.now c.loop-place.place (omega (arith, c.count-place-end.ensures))
+    (λ m. c.in_default.not-Marked (c.root.ensures ∙ m)) in
     omega (arith, c.loop-place.invariant)

@@ -7,8 +7,10 @@ use Rattle.hm_certify.proofs.marks.all_topmost.Goals as goal
 
 pub loop-conflict-preserved : goal.loop-conflict-preserved
 loop-conflict-preserved c =
-    one_more_holds (λ x. IsTopmostMark (state c.args.archive.now) x.path) c.args.conflicts.now c.loop-conflict.conflict-index c.conflict-item.result (omega arith) c.conflict-item.is
+    one_more_holds (λ x. IsTopmostMark (state c.args.archive.now) x.path) c.args.conflicts.now c.loop-conflict.conflict-index
+    c.conflict-item.result (omega arith) c.conflict-item.is
     c.loop-conflict.invariant (c.is_topmost.ensures.0 c.if-not-is_topmost.false)
 
 pub returns : goal.returns
-returns c = is_so (all_hold (λ x. IsTopmostMark (state c.args.archive.now) x.path) c.args.conflicts.now c.loop-conflict.conflict-index (omega arith) c.loop-conflict.invariant)
+returns c = is_so (all_hold (λ x. IsTopmostMark (state c.args.archive.now) x.path) c.args.conflicts.now c.loop-conflict.conflict-index
+    (omega arith) c.loop-conflict.invariant)

@@ -14,7 +14,8 @@ IsWithinIfBefore o k j c = name_cmp j k ≡ Less → IsWithin (Some c) (under j 
 
 pub returns-then-not-is_within_if_before : goal.returns-then-not-is_within_if_before
 returns-then-not-is_within_if_before c = is_not (λ all.
-    says_no c.is_within_if_before.ensures c.if-not-is_within_if_before.true (all _ _ (below_edge c.args.tree.now c.loop-place.place _ _ c.edge.ensures)))
+    says_no c.is_within_if_before.ensures c.if-not-is_within_if_before.true
+    (all _ _ (below_edge c.args.tree.now c.loop-place.place _ _ c.edge.ensures)))
 
 pub loop-place-preserved : goal.loop-place-preserved
 loop-place-preserved c =
@@ -22,4 +23,5 @@ loop-place-preserved c =
     c.loop-place.invariant c.edge.ensures (c.is_within_if_before.ensures.0 c.if-not-is_within_if_before.false)
 
 pub returns : goal.returns
-returns c = is_so (each_below (IsWithinIfBefore c.args.archive.now c.args.name.now) c.args.tree.now c.loop-place.place (omega (arith, c.count-place-end.ensures)) c.loop-place.invariant)
+returns c = is_so (each_below (IsWithinIfBefore c.args.archive.now c.args.name.now) c.args.tree.now c.loop-place.place
+    (omega (arith, c.count-place-end.ensures)) c.loop-place.invariant)

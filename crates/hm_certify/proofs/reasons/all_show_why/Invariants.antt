@@ -6,4 +6,5 @@ use Rattle.hm_report.specs.Reasons.{ShowsWhy}
 use Rattle.hm_certify.proofs.reasons.all_show_why.Given as goal
 
 abbrev pub invariant-loop-conflict : goal.invariant-loop-conflict
-invariant-loop-conflict l = All (λ (c : Conflict). ShowsWhy l.schema l.schema.root (views (given l.archive l.left l.right)) c.path c.why) (take l.conflict-index l.conflicts)
+invariant-loop-conflict l = All (λ (c : Conflict). ShowsWhy l.schema l.schema.root (views (given l.archive l.left l.right)) c.path c.why)
+    (take l.conflict-index l.conflicts)

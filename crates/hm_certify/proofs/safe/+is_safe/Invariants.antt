@@ -11,4 +11,5 @@ abbrev pub decreases-is_safe : goal.decreases-is_safe
 decreases-is_safe l = goal.size-is_safe l
 
 abbrev pub invariant-loop-place : goal.invariant-loop-place
-invariant-loop-place l = AllBefore (λ k c. IsSafe (views (step k (trio_of l.before))) (views (step k (record { archive = l.archive; left = Some l.left; right = Some l.right })))) (edges_here l.archive) l.place
+invariant-loop-place l = AllBefore (λ k c. IsSafe (views (step k (trio_of l.before)))
+    (views (step k (record { archive = l.archive; left = Some l.left; right = Some l.right })))) (edges_here l.archive) l.place

@@ -21,8 +21,11 @@ loop-place-preserved c =
           let node = w.in_ok-build_node.field-0 in
           let lines = w.lines_of_node-lines.ensures ∙ behind_is c.args.entries.now place in
           let built = subst (λ (z : List EntryValue). IsBuilt id z (node_value node)) lines w.in_ok-build_node.ensures in
-          let more = next_node id es nodes place entry at c.loop-place.invariant (sym c.begins_node.ensures ∙ w.if-begins_node.true) (node_value node) built in
-          subst (AreBuilt id es (place + 1)) (sym (ap (λ v. map node_value v.items) w.nodes-is ∙ ap (map node_value) w.in_ok-push.ensures.items ∙ map_push node_value c.loop-place.nodes.items node)) more
+          let more = next_node id es nodes place entry at c.loop-place.invariant (sym c.begins_node.ensures ∙ w.if-begins_node.true)
+          (node_value node) built in
+          subst (AreBuilt id es (place + 1))
+          (sym (ap (λ v. map node_value v.items) w.nodes-is ∙ ap (map node_value) w.in_ok-push.ensures.items
+          ∙ map_push node_value c.loop-place.nodes.items node)) more
       | else-begins_node w ↦
           let same = next_line id es nodes place entry at c.loop-place.invariant (sym c.begins_node.ensures ∙ w.if-begins_node.false) in
           subst (AreBuilt id es (place + 1)) (sym (ap (λ v. map node_value v.items) w.nodes-is)) same

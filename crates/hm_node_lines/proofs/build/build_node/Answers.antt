@@ -10,7 +10,8 @@ pub returns : goal.returns
 returns c = record {
   shapes = c.in_ok-shapes.ensures;
   children = rw c.in_ok-children.ensures at c.in_ok-sort_by.ensures.permutation;
-  ascending = c.in_ok-sort_by.ensures.sorted (λ x y. is_lt (name_cmp x.0 y.0)) (ranks_by name_total (λ (e : Name × NodeId). e.0)) (answers_always _ _ _ (λ f a r f' called. search rules));
+  ascending = c.in_ok-sort_by.ensures.sorted (λ x y. is_lt (name_cmp x.0 y.0)) (ranks_by name_total (λ (e : Name × NodeId). e.0))
+      (answers_always _ _ _ (λ f a r f' called. search rules));
   other = c.first_other.ensures;
   twins = c.new.ensures.items;
 }

@@ -23,9 +23,11 @@ returns c =
     elim c.if-is_empty_named.branch [
       | then-is_empty_named+in_ok-empty_node+in_ok-push w ↦
           let node = w.in_ok-empty_node.field-0 in
-          let more = with_empty es sound id places (map node_value nodes) (length xs) all c.in_ok-nodes.ensures own (c.is_empty_named.ensures.0 w.if-is_empty_named.true) in
+          let more = with_empty es sound id places (map node_value nodes) (length xs) all c.in_ok-nodes.ensures own
+          (c.is_empty_named.ensures.0 w.if-is_empty_named.true) in
           subst (AreNodesOf es own)
-          (sym (ap (λ v. map node_value v.items) w.nodes-is ∙ ap (map node_value) w.in_ok-push.ensures.items ∙ map_push node_value nodes node ∙ ap (λ (n : NodeValue). map node_value nodes ++ n ∷ []) w.in_ok-empty_node.ensures))
+          (sym (ap (λ v. map node_value v.items) w.nodes-is ∙ ap (map node_value) w.in_ok-push.ensures.items ∙ map_push node_value nodes node
+          ∙ ap (λ (n : NodeValue). map node_value nodes ++ n ∷ []) w.in_ok-empty_node.ensures))
           more
       | else-is_empty_named w ↦
           let not_named = λ (named : NamesEmpty es own). true≢false (sym (c.is_empty_named.ensures.1 named) ∙ w.if-is_empty_named.false) in

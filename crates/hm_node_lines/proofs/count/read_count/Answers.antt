@@ -11,4 +11,5 @@ pub returns-in_default-2 : goal.returns-in_default-2
 returns-in_default-2 c = no_least _ _ c.digits_length.ensures _ c.split_at.ensures.front (rw c.in_default-2.is at c.in_ok-least.ensures)
 
 pub returns-in-None : goal.returns-in-None
-returns-in-None c = no_most _ _ c.digits_length.ensures _ _ c.split_at.ensures.back c.in-Some.ensures.cases.1 (rw c.in-None.is at c.in_ok-most.ensures)
+returns-in-None c = no_most _ _ c.digits_length.ensures _ _ c.split_at.ensures.back c.in-Some.ensures.cases.1
+    (rw c.in-None.is at c.in_ok-most.ensures)

@@ -10,4 +10,5 @@ returns-in_default-parse c = no_number c.in-Ok.text.now _ c.in_default-parse.ens
 
 pub returns : goal.returns
 returns c =
-    no_spelling c.in-Ok.text.now _ c.as_str.result.now c.in-Ok-parse.number c.in-Ok-parse.ensures.value.0 c.in-Ok.ensures.cases.0 (c.as_str.ensures.value ∙ c.in_ok-decimal.ensures.ok) (sym c.eq.ensures ∙ c.if-eq.false)
+    no_spelling c.in-Ok.text.now _ c.as_str.result.now c.in-Ok-parse.number c.in-Ok-parse.ensures.value.0 c.in-Ok.ensures.cases.0
+    (c.as_str.ensures.value ∙ c.in_ok-decimal.ensures.ok) (sym c.eq.ensures ∙ c.if-eq.false)

@@ -10,8 +10,11 @@ loop-line-init c = none_read _ _ (ap entry_values c.in_ok-entries.ensures.items)
 
 pub loop-line-preserved : goal.loop-line-preserved
 loop-line-preserved c =
-    read_one _ _ _ c.loop-line.invariant _ _ _ (entry_value c.in_ok-read_entry.field-0) c.in-Some.ensures.steps c.in_ok-read_entry.ensures (ap entry_values c.in_ok-push.ensures.items ∙ simp map-append)
+    read_one _ _ _ c.loop-line.invariant _ _ _ (entry_value c.in_ok-read_entry.field-0) c.in-Some.ensures.steps c.in_ok-read_entry.ensures
+    (ap entry_values c.in_ok-push.ensures.items ∙ simp map-append)
 
 pub returns : goal.returns
 returns c =
-    subst (λ lines. AllZip IsEntry lines (entry_values c.loop-line.entries.items)) (c.into_iter-line-iterator.ensures.into_iter_gives ∙ c.lines-line-items.ensures.value) (all_read _ _ _ c.loop-line.invariant c.in-None.ensures.steps.0)
+    subst (λ lines. AllZip IsEntry lines (entry_values c.loop-line.entries.items))
+    (c.into_iter-line-iterator.ensures.into_iter_gives ∙ c.lines-line-items.ensures.value)
+    (all_read _ _ _ c.loop-line.invariant c.in-None.ensures.steps.0)

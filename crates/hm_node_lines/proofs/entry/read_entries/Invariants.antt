@@ -4,4 +4,5 @@ use Rattle.hm_node_lines.specs.Entries.{EntryValue, IsEntry, entry_values}
 use Rattle.hm_node_lines.proofs.entry.read_entries.Given as goal
 
 abbrev pub invariant-loop-line : goal.invariant-loop-line
-invariant-loop-line l = (more : List EntryValue) → AllZip IsEntry l.line-iterator more → AllZip IsEntry l.initial.line-iterator (entry_values l.entries.items ++ more)
+invariant-loop-line l = (more : List EntryValue) → AllZip IsEntry l.line-iterator more
+    → AllZip IsEntry l.initial.line-iterator (entry_values l.entries.items ++ more)

@@ -21,17 +21,24 @@ overflow_add-place c =
 pub loop-entry-preserved : goal.loop-entry-preserved
 loop-entry-preserved c =
     subst (λ (z : List EntryValue × BTreeMap (String Global) ℕ × ℕ). ArePlaced c.args.naming z.0 z.1 z.2)
-    (λ i. (sym (one_more c.args.entries.now c.loop-entry.entry-index c.entry-item.result c.loop-entry-test.true c.entry-item.is) i, c.match-name.firsts, c.match-name.place))
+    (λ i. (
+      sym (one_more c.args.entries.now c.loop-entry.entry-index c.entry-item.result c.loop-entry-test.true c.entry-item.is) i,
+      c.match-name.firsts,
+      c.match-name.place,
+    ))
     (elim c.match-name.branch [
       | in-Some+in_ok-keep_first w ↦
-          subst (λ (z : BTreeMap (String Global) ℕ × ℕ). ArePlaced c.args.naming (before ++ read ∷ []) z.0 z.1) (λ i. (sym w.firsts-is i, sym w.place-is i))
+          subst (λ (z : BTreeMap (String Global) ℕ × ℕ). ArePlaced c.args.naming (before ++ read ∷ []) z.0 z.1)
+          (λ i. (sym w.firsts-is i, sym w.place-is i))
           (placed_name c.args.naming before read c.loop-entry.firsts c.loop-entry.place c.loop-entry.invariant w.in-Some.name.now
           (sym c.name.ensures ∙ ap option_copied w.in-Some.is)
           w.keep_first.new.firsts
           w.in_ok-keep_first.ensures)
       | in_default w ↦
-          subst (λ (z : BTreeMap (String Global) ℕ × ℕ). ArePlaced c.args.naming (before ++ read ∷ []) z.0 z.1) (λ i. (sym w.firsts-is i, sym w.place-is i))
-          (placed_none c.args.naming before read c.loop-entry.firsts c.loop-entry.place c.loop-entry.invariant (sym c.name.ensures ∙ ap option_copied w.in_default.is))
+          subst (λ (z : BTreeMap (String Global) ℕ × ℕ). ArePlaced c.args.naming (before ++ read ∷ []) z.0 z.1)
+          (λ i. (sym w.firsts-is i, sym w.place-is i))
+          (placed_none c.args.naming before read c.loop-entry.firsts c.loop-entry.place c.loop-entry.invariant
+          (sym c.name.ensures ∙ ap option_copied w.in_default.is))
     ])
   where
     before : List EntryValue
@@ -41,4 +48,5 @@ loop-entry-preserved c =
     read = entry_value c.entry-item.result
 
 pub returns : goal.returns
-returns c = places_end c.args.naming c.args.entries.now c.loop-entry.entry-index c.loop-entry.firsts c.loop-entry.place c.loop-entry.invariant (search rules)
+returns c = places_end c.args.naming c.args.entries.now c.loop-entry.entry-index c.loop-entry.firsts c.loop-entry.place c.loop-entry.invariant
+    (search rules)

@@ -8,11 +8,17 @@ use Rattle.hm_node_lines.proofs.judge.has_unlisted.Goals as goal
 
 pub loop-name-preserved : goal.loop-name-preserved
 loop-name-preserved c =
-    all_next (Lists (around (lines_of c.args.line.now) (suc c.args.line.now.place))) c.args.names.now c.loop-name.name-index c.name-item.result c.loop-name-test.true c.name-item.is c.loop-name.invariant (c.if-not-is_listed.ensures.0 refl)
+    all_next (Lists (around (lines_of c.args.line.now) (suc c.args.line.now.place))) c.args.names.now c.loop-name.name-index c.name-item.result
+    c.loop-name-test.true c.name-item.is c.loop-name.invariant (c.if-not-is_listed.ensures.0 refl)
 
 pub returns-then-not-is_listed : goal.returns-then-not-is_listed
-returns-then-not-is_listed c = always (c.name-item.result, (c.loop-name.name-index, c.loop-name-test.true, sym c.name-item.is), λ listed. refuted (c.if-not-is_listed.ensures.1 listed))
+returns-then-not-is_listed c = always (
+  c.name-item.result,
+  (c.loop-name.name-index, c.loop-name-test.true, sym c.name-item.is),
+  λ listed. refuted (c.if-not-is_listed.ensures.1 listed),
+)
 
 pub returns : goal.returns
 returns c = never (λ some. some.2 (All-contains (Lists (around (lines_of c.args.line.now) (suc c.args.line.now.place))) c.args.names.now some.0
-    (all_done (Lists (around (lines_of c.args.line.now) (suc c.args.line.now.place))) c.args.names.now c.loop-name.name-index c.loop-name-test.false c.loop-name.invariant) some.1))
+    (all_done (Lists (around (lines_of c.args.line.now) (suc c.args.line.now.place))) c.args.names.now c.loop-name.name-index
+    c.loop-name-test.false c.loop-name.invariant) some.1))

@@ -18,9 +18,11 @@ returns c = turned c.is_first.result
     (λ first. not_bad es i (edge name child) c.requires.says (record {
       housed = λ inside none. c.if-line-eq0.false (c.requires.known.before.nodes ∙ none);
       names = one_name (IsNode es) child (c.if-not-is_node.ensures.0 refl);
-      rest = listed_again es i name child c.requires.says (sym (c.requires.known.section.listed name) ∙ c.is_first.ensures.0 first ∙ ap Some c.requires.known.before.edges);
+      rest = listed_again es i name child c.requires.says (sym (c.requires.known.section.listed name) ∙ c.is_first.ensures.0 first
+          ∙ ap Some c.requires.known.before.edges);
     }))
-    (λ none. listed_twice c.requires.says (twice_listed es i name child c.requires.says (λ first. none (c.is_first.ensures.1 (c.requires.known.section.listed name ∙ first ∙ ap Some (sym c.requires.known.before.edges))))))
+    (λ none. listed_twice c.requires.says (twice_listed es i name child c.requires.says
+    (λ first. none (c.is_first.ensures.1 (c.requires.known.section.listed name ∙ first ∙ ap Some (sym c.requires.known.before.edges))))))
   where
     es : List EntryValue
     es = lines_of c.args.line.now

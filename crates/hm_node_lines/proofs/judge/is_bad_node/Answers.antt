@@ -10,11 +10,13 @@ use Rattle.hm_node_lines.proofs.Judging.{always, turned, not_bad, refuted, decla
 use Rattle.hm_node_lines.proofs.judge.is_bad_node.Goals as goal
 
 pub returns-then-line-ge-MOST_NODES : goal.returns-then-line-ge-MOST_NODES
-returns-then-line-ge-MOST_NODES c = always (too_many_nodes c.requires.says (subst (λ n. 1000 ≤ n) c.requires.known.before.nodes c.if-line-ge-MOST_NODES.true))
+returns-then-line-ge-MOST_NODES c =
+    always (too_many_nodes c.requires.says (subst (λ n. 1000 ≤ n) c.requires.known.before.nodes c.if-line-ge-MOST_NODES.true))
 
 pub returns-then-line-eq0 : goal.returns-then-line-eq0
 returns-then-line-eq0 c = always (no_shape c.requires.says (λ shape. (has_shape (behind (lines_of c.args.line.now) c.args.line.now.place)).0 shape
-    (ap (count_by is_shape) (sym (around_begun (lines_of c.args.line.now) c.args.line.now.place (says (node c.args.name.now)) c.requires.says refl)) ∙ sym c.requires.known.section.shapes ∙ c.if-line-eq0.true)))
+    (ap (count_by is_shape) (sym (around_begun (lines_of c.args.line.now) c.args.line.now.place (says (node c.args.name.now)) c.requires.says
+    refl)) ∙ sym c.requires.known.section.shapes ∙ c.if-line-eq0.true)))
 
 pub returns : goal.returns
 returns c = turned c.is_first.result
@@ -22,13 +24,18 @@ returns c = turned c.is_first.result
       housed = λ f. absurd (refuted f);
       names = λ w e. let no : ⊥ = cc in absurd no;
       rest = (
-        declared_again es i name c.requires.says (sym (c.requires.known.declared name) ∙ c.is_first.ensures.0 first ∙ ap Some c.requires.known.before.nodes),
+        declared_again es i name c.requires.says (sym (c.requires.known.declared name) ∙ c.is_first.ensures.0 first
+            ∙ ap Some c.requires.known.before.nodes),
         λ e. refuted (c.if-is_empty_node.ensures.1 e),
-        λ none. none ((has_shape (behind es i)).1 (λ zero. c.if-line-eq0.false (c.requires.known.section.shapes ∙ ap (count_by is_shape) (around_begun es i (says (node name)) c.requires.says refl) ∙ zero))),
+        λ none. none ((has_shape (behind es i)).1
+            (λ zero. c.if-line-eq0.false (c.requires.known.section.shapes
+            ∙ ap (count_by is_shape) (around_begun es i (says (node name)) c.requires.says refl) ∙ zero))),
         subst (λ n. n < 1000) c.requires.known.before.nodes c.if-line-ge-MOST_NODES.false,
       );
     }))
-    (λ none. declared_twice c.requires.says (twice_declared es i name c.requires.says (λ first. none (c.is_first.ensures.1 (c.requires.known.declared name ∙ first ∙ ap Some (sym c.requires.known.before.nodes))))))
+    (λ none. declared_twice c.requires.says
+    (twice_declared es i name c.requires.says
+    (λ first. none (c.is_first.ensures.1 (c.requires.known.declared name ∙ first ∙ ap Some (sym c.requires.known.before.nodes))))))
   where
     es : List EntryValue
     es = lines_of c.args.line.now

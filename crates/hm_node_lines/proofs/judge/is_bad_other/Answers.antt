@@ -24,7 +24,8 @@ returns c = turned (before.others == 0)
       names = one_name (IsNode es) child (c.if-not-is_node.ensures.0 refl);
       rest = λ spoken. (has_others (earlier es i)).0 spoken (sym c.requires.known.before.others ∙ eqb-true before.others 0 zero);
     }))
-    (λ some. others_twice c.requires.says ((has_others (earlier es i)).1 (λ none. some (equals before.others 0 (c.requires.known.before.others ∙ none)))))
+    (λ some. others_twice c.requires.says
+    ((has_others (earlier es i)).1 (λ none. some (equals before.others 0 (c.requires.known.before.others ∙ none)))))
   where
     es : List EntryValue
     es = lines_of c.args.line.now

@@ -15,7 +15,8 @@ pub returns-then-line-eq0 : goal.returns-then-line-eq0
 returns-then-line-eq0 c = always (in_no_node c.requires.says refl (sym c.requires.known.before.nodes ∙ c.if-line-eq0.true))
 
 pub returns-then-line-ge-MOST_SHAPES : goal.returns-then-line-ge-MOST_SHAPES
-returns-then-line-ge-MOST_SHAPES c = always (too_many_shapes c.requires.says (subst (λ n. 256 ≤ n) c.requires.known.before.shapes c.if-line-ge-MOST_SHAPES.true))
+returns-then-line-ge-MOST_SHAPES c =
+    always (too_many_shapes c.requires.says (subst (λ n. 256 ≤ n) c.requires.known.before.shapes c.if-line-ge-MOST_SHAPES.true))
 
 pub returns-then-is_turned : goal.returns-then-is_turned
 returns-then-is_turned c = let above = c.if-is_turned.ensures.0 refl in always (least_above_most c.requires.says above.1 above.2)
@@ -23,17 +24,23 @@ returns-then-is_turned c = let above = c.if-is_turned.ensures.0 refl in always (
 pub returns-then-not-may_count : goal.returns-then-not-may_count
 returns-then-not-may_count c = always (no_others_to_count c.requires.says
     (λ none. refuted (c.if-not-may_count.ensures.1 (inl none)))
-    (λ spoken. refuted (c.if-not-may_count.ensures.1 (inr (subst SpeaksOfOthers (sym (around_next (lines_of c.args.line.now) c.args.line.now.place (says (shape (shape_value c.args.parts.now))) c.requires.says refl)) spoken)))))
+    (λ spoken. refuted (c.if-not-may_count.ensures.1
+    (inr (subst SpeaksOfOthers
+    (sym (around_next (lines_of c.args.line.now) c.args.line.now.place (says (shape (shape_value c.args.parts.now))) c.requires.says refl))
+    spoken)))))
 
 pub returns-then-has_unlisted : goal.returns-then-has_unlisted
 returns-then-has_unlisted c =
     let lacking = c.if-has_unlisted.ensures.0 refl in
     always (unlisted_name c.requires.says
     (subst (λ z. Contains z lacking.0) (c.deref.ensures.value ∙ c.in_ok-names.ensures) lacking.1)
-    (λ listed. lacking.2 (subst (λ z. Lists z lacking.0) (sym (around_next (lines_of c.args.line.now) c.args.line.now.place (says (shape (shape_value c.args.parts.now))) c.requires.says refl)) listed)))
+    (λ listed. lacking.2 (subst (λ z. Lists z lacking.0)
+    (sym (around_next (lines_of c.args.line.now) c.args.line.now.place (says (shape (shape_value c.args.parts.now))) c.requires.says refl))
+    listed)))
 
 pub returns : goal.returns
-returns c = by c.has_double.result (subst (λ z. IfOk c.has_double.result (λ found. IsTrue found ↔ HasDouble z)) (c.deref-2.ensures.value ∙ c.in_ok-names.ensures) c.has_double.ensures)
+returns c = by c.has_double.result (subst (λ z. IfOk c.has_double.result (λ found. IsTrue found ↔ HasDouble z))
+    (c.deref-2.ensures.value ∙ c.in_ok-names.ensures) c.has_double.ensures)
   where
     es : List EntryValue
     es = lines_of c.args.line.now
@@ -48,7 +55,12 @@ returns c = by c.has_double.result (subst (λ z. IfOk c.has_double.result (λ fo
     node_lines = around_next es i (says (shape parts)) c.requires.says refl
 
     all_listed : (k : Name) → Contains (names_of_shape parts) k → ¬ (¬ (Lists (around es i) k))
-    all_listed k there none = refuted (c.if-has_unlisted.ensures.1 (k, subst (λ z. Contains z k) (sym (c.deref.ensures.value ∙ c.in_ok-names.ensures)) there, λ listed. none (subst (λ z. Lists z k) node_lines listed)))
+    all_listed k there none =
+        refuted (c.if-has_unlisted.ensures.1 (
+          k,
+          subst (λ z. Contains z k) (sym (c.deref.ensures.value ∙ c.in_ok-names.ensures)) there,
+          λ listed. none (subst (λ z. Lists z k) node_lines listed),
+        ))
 
     counted : MayCount es i parts.count → ¬ (IsNoneCounted parts.count) → ¬ (¬ (SpeaksOfOthers (around es i)))
     counted (inl none) some silent = some none
@@ -67,7 +79,8 @@ returns c = by c.has_double.result (subst (λ z. IfOk c.has_double.result (λ fo
       );
     })
 
-    by : (r : Result Bool Memory) → IfOk r (λ found. IsTrue found ↔ HasDouble (names_of_shape parts)) → IfOk r (λ bad. IsTrue bad ↔ IsBadNodeLine es i)
+    by : (r : Result Bool Memory) → IfOk r (λ found. IsTrue found ↔ HasDouble (names_of_shape parts))
+        → IfOk r (λ bad. IsTrue bad ↔ IsBadNodeLine es i)
     by (Err e) h = tt
     by (Ok true) h = (λ t. name_twice c.requires.says (h.0 refl), λ bad. refl)
     by (Ok false) h = (λ f. absurd (refuted f), λ bad. absurd (single (λ twice. refuted (h.1 twice)) bad))

@@ -8,7 +8,8 @@ use Rattle.hm_node_lines.proofs.Judging.{turned, equals, refuted}
 use Rattle.hm_node_lines.proofs.judge.may_count.Goals as goal
 
 pub returns : goal.returns
-returns c = turned (c.args.line.now.section.now.others == 0) (λ zero. not_spoken (eqb-true _ 0 zero)) (λ some. inr ((has_others lines).1 (λ none. some (equals _ 0 (c.requires.section.others ∙ none)))))
+returns c = turned (c.args.line.now.section.now.others == 0) (λ zero. not_spoken (eqb-true _ 0 zero))
+    (λ some. inr ((has_others lines).1 (λ none. some (equals _ 0 (c.requires.section.others ∙ none)))))
   where
     lines : List EntryValue
     lines = around (lines_of c.args.line.now) (suc c.args.line.now.place)

@@ -17,6 +17,7 @@ counted (e ∷ es) =
 pub returns : goal.returns
 returns c =
     count_from_yields_List c.filter.result _ c.count.ensures.ran
-    (YieldsList-from_filter _ (λ (e : Entry). begins_node (entry_value e)) (YieldsList-from_slice c.args.entries.now cc) c.filter.ensures.closure (λ x b q k. search (rules, tests)))
+    (YieldsList-from_filter _ (λ (e : Entry). begins_node (entry_value e)) (YieldsList-from_slice c.args.entries.now cc)
+    c.filter.ensures.closure (λ x b q k. search (rules, tests)))
     ∙ length-filter (λ (e : Entry). begins_node (entry_value e)) c.args.entries.now
     ∙ counted c.args.entries.now

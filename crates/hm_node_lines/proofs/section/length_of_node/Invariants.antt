@@ -7,7 +7,8 @@ use Rattle.hm_node_lines.proofs.section.length_of_node.Given as goal
 abbrev pub invariant-loop-length : goal.invariant-loop-length
 invariant-loop-length l = record {
   within : l.length ≤ length l.entries;
-  same : prefix_len (λ e. not (begins_node (entry_value e))) l.entries ≡ l.length + prefix_len (λ e. not (begins_node (entry_value e))) (drop l.length l.entries);
+  same : prefix_len (λ e. not (begins_node (entry_value e))) l.entries ≡ l.length + prefix_len (λ e. not (begins_node (entry_value e)))
+      (drop l.length l.entries);
 }
 
 abbrev pub decreases-loop-length : goal.decreases-loop-length

@@ -11,12 +11,15 @@ pub returns-then-begins_node : goal.returns-then-begins_node
 returns-then-begins_node c =
     let at = entry_at c.args.entries.now c.args.place c.index-entries-place.result c.requires.place c.index-entries-place.is in
     subst (λ z. IfOk c.read_section.result (IsSection z))
-    (behind_is c.args.entries.now c.args.place ∙ sym (around_begun (entry_values c.args.entries.now) c.args.place (entry_value c.index-entries-place.result) at (sym c.begins_node.ensures ∙ c.if-begins_node.true)))
+    (behind_is c.args.entries.now c.args.place
+    ∙ sym (around_begun (entry_values c.args.entries.now) c.args.place (entry_value c.index-entries-place.result) at
+    (sym c.begins_node.ensures ∙ c.if-begins_node.true)))
     c.read_section.ensures
 
 pub returns : goal.returns
 returns c =
     let at = entry_at c.args.entries.now c.args.place c.index-entries-place.result c.requires.place c.index-entries-place.is in
     subst (λ z. IsSection z c.args.before)
-    (sym (around_next (entry_values c.args.entries.now) c.args.place (entry_value c.index-entries-place.result) at (sym c.begins_node.ensures ∙ c.if-begins_node.false)))
+    (sym (around_next (entry_values c.args.entries.now) c.args.place (entry_value c.index-entries-place.result) at
+    (sym c.begins_node.ensures ∙ c.if-begins_node.false)))
     c.requires.before

@@ -9,15 +9,18 @@ returns-in_default c = no_token _ _ _ c.loop-tokens.invariant (rw c.in_default.i
 pub returns-then-length-rest : goal.returns-then-length-rest
 returns-then-length-rest c =
     let f = rw c.in-Some.is at c.in_ok-token.ensures in
-    rw c.in_ok-push.ensures.items (last_read c.loop-tokens.rest.now c.in-Some.token c.in-Some.length f.0 f.2 f.3 _ _ c.loop-tokens.invariant (drop_all c.in-Some.length c.loop-tokens.rest.now (omega (arith, c.if-length-rest.true))))
+    rw c.in_ok-push.ensures.items (last_read c.loop-tokens.rest.now c.in-Some.token c.in-Some.length f.0 f.2 f.3 _ _ c.loop-tokens.invariant
+    (drop_all c.in-Some.length c.loop-tokens.rest.now (omega (arith, c.if-length-rest.true))))
 
 pub returns-then-gap-eq0 : goal.returns-then-gap-eq0
 returns-then-gap-eq0 c =
-    step_none _ _ _ c.loop-tokens.invariant _ _ (rw c.in-Some.is at c.in_ok-token.ensures) _ c.behind-tail.ensures _ c.gap_length-gap.ensures c.if-gap-eq0.true c.if-length-rest.false
+    step_none _ _ _ c.loop-tokens.invariant _ _ (rw c.in-Some.is at c.in_ok-token.ensures) _ c.behind-tail.ensures _ c.gap_length-gap.ensures
+    c.if-gap-eq0.true c.if-length-rest.false
 
 pub behind-rest-requires : goal.behind-rest-requires
 behind-rest-requires c = gap_within _ _ c.gap_length-gap.ensures
 
 pub loop-tokens-preserved : goal.loop-tokens-preserved
 loop-tokens-preserved c =
-    step_on _ _ _ c.loop-tokens.invariant _ _ (rw c.in-Some.is at c.in_ok-token.ensures) _ c.behind-tail.ensures _ c.gap_length-gap.ensures c.if-gap-eq0.false _ c.behind-rest.ensures _ c.in_ok-push.ensures.items
+    step_on _ _ _ c.loop-tokens.invariant _ _ (rw c.in-Some.is at c.in_ok-token.ensures) _ c.behind-tail.ensures _ c.gap_length-gap.ensures
+    c.if-gap-eq0.false _ c.behind-rest.ensures _ c.in_ok-push.ensures.items

@@ -11,4 +11,5 @@ returns-in_err-insert-clause-err c =
 pub returns-clause-ok : goal.returns-clause-ok
 returns-clause-ok c =
     let same : c.in_ok-to_vec.field-0.items ≡ c.args.bytes.now = search rules in
-    contents_of-insert c.args.files.now c.insert.new.self c.in_ok-key.key c.in_ok-to_vec.field-0 _ _ (c.in_ok-key.ensures.ok ∙ c.text.ensures.value) same c.in_ok-insert.ensures.updates
+    contents_of-insert c.args.files.now c.insert.new.self c.in_ok-key.key c.in_ok-to_vec.field-0 _ _
+    (c.in_ok-key.ensures.ok ∙ c.text.ensures.value) same c.in_ok-insert.ensures.updates

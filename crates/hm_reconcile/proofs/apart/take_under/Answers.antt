@@ -15,7 +15,8 @@ loop-first-preserved-in-Less c =
     record {
       sorted = rest_sorted n es rest e c.loop-first.invariant.sorted is;
       same = found_behind n es rest e c.loop-first.invariant.sorted is n less ∙ c.loop-first.invariant.same;
-      later = λ k after. found_behind n es rest e c.loop-first.invariant.sorted is k (later_too n es rest e c.loop-first.invariant.sorted is k less after) ∙ c.loop-first.invariant.later k after;
+      later = λ k after. found_behind n es rest e c.loop-first.invariant.sorted is k
+          (later_too n es rest e c.loop-first.invariant.sorted is k less after) ∙ c.loop-first.invariant.later k after;
     }
 
 pub returns-in-Some-pop_front-clause-taken : goal.returns-in-Some-pop_front-clause-taken
@@ -35,12 +36,14 @@ returns-in-Some-pop_front-clause-later c =
     let rest = c.pop_front-in-Equal.new.self.items in
     let e = c.in-Some.first.now in
     let is = front_rest es rest e c.in-Some.ensures.item.3.0 c.in-Some.ensures.lookup c.pop_front-in-Equal.ensures.rest in
-    λ k after. found_behind n es rest e c.loop-first.invariant.sorted is k (tied_later e.0 n k (sym c.order.ensures ∙ c.in-Equal.is) after) ∙ c.loop-first.invariant.later k after
+    λ k after. found_behind n es rest e c.loop-first.invariant.sorted is k (tied_later e.0 n k (sym c.order.ensures ∙ c.in-Equal.is) after)
+    ∙ c.loop-first.invariant.later k after
 
 pub returns-clause-taken : goal.returns-clause-taken
 returns-clause-taken c =
     c.missing.ensures ∙ elim c.match-front.branch [
       | in-Some+in-Equal+in-None w ↦ absurd (false≢true (w.in-None.ensures.variant.1 (w.in-Some.ensures.variant.0 refl)))
-      | in-Some+in-Greater w ↦ not_there c.args.name.now c.loop-first.rest.items w.in-Some.first.now c.loop-first.invariant.sorted w.in-Some.ensures.item.3.0 w.in-Some.ensures.lookup (sym w.order.ensures ∙ w.in-Greater.is) ∙ c.loop-first.invariant.same
+      | in-Some+in-Greater w ↦ not_there c.args.name.now c.loop-first.rest.items w.in-Some.first.now c.loop-first.invariant.sorted
+          w.in-Some.ensures.item.3.0 w.in-Some.ensures.lookup (sym w.order.ensures ∙ w.in-Greater.is) ∙ c.loop-first.invariant.same
       | in_default w ↦ none_left c.args.name.now c.loop-first.rest.items w.in_default.ensures.item.3 ∙ c.loop-first.invariant.same
     ]

@@ -12,7 +12,8 @@ loop-path-preserved c = record {
   paths =
       ap (map (λ (x : Conflict). x.path)) c.in_ok-push.ensures.items ∙ map-append (λ (x : Conflict). x.path) c.loop-path.conflicts.items (here ∷ [])
       ∙ ap (λ (paths : List Path). paths ++ c.in-Some.path ∷ []) c.loop-path.invariant.paths;
-  each = subst (All shows) (sym c.in_ok-push.ensures.items) (All-push shows c.loop-path.conflicts.items here c.loop-path.invariant.each c.in_ok-why.ensures);
+  each = subst (All shows) (sym c.in_ok-push.ensures.items)
+      (All-push shows c.loop-path.conflicts.items here c.loop-path.invariant.each c.in_ok-why.ensures);
 }
   where
     here : Conflict

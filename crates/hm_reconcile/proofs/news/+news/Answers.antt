@@ -11,7 +11,8 @@ use Rattle.hm_reconcile.proofs.FirstNews.{news_at_root, news_missing, news_below
 use Rattle.hm_reconcile.proofs.news.+news.Goals as goal
 
 pub first_news-returns-in_default : goal.first_news-returns-in_default
-first_news-returns-in_default t c = news_at_root c.args.archive.now c.args.tree.now c.root_path.result c.root_path.ensures (λ present. c.in_default.not-Present (c.root.ensures ∙ present))
+first_news-returns-in_default t c = news_at_root c.args.archive.now c.args.tree.now c.root_path.result c.root_path.ensures
+    (λ present. c.in_default.not-Present (c.root.ensures ∙ present))
 
 pub first_news-news_under-requires : goal.first_news-news_under-requires
 first_news-news_under-requires t c =
@@ -22,7 +23,8 @@ first_news-news_under-requires t c =
 pub first_news-returns-in-Some : goal.first_news-returns-in-Some
 first_news-returns-in-Some t c =
     let here = MatchOption-at_some _ _ _ c.in-Some.is c.in_ok-path.ensures in
-    let whole = news_below c.args.archive.now c.args.tree.now (sym c.root.ensures ∙ c.in-Present.is) c.loop-place.place c.edge.result.0.now c.edge.result.1.now c.edge.ensures c.loop-place.invariant c.in-Some.path here in
+    let whole = news_below c.args.archive.now c.args.tree.now (sym c.root.ensures ∙ c.in-Present.is) c.loop-place.place c.edge.result.0.now
+    c.edge.result.1.now c.edge.ensures c.loop-place.invariant c.in-Some.path here in
     subst (IsFirst (IsNews (state c.args.archive.now) (state (Some c.args.tree.now)))) (sym items) whole
   where
     named : c.in_ok-copy.field-0 ∷ c.path.inside.names.items ≡ c.edge.result.0.now ∷ c.in-Some.path
@@ -33,7 +35,8 @@ first_news-returns-in-Some t c =
 
 pub first_news-loop-place-preserved : goal.first_news-loop-place-preserved
 first_news-loop-place-preserved t c =
-    within_more c.args.tree.now c.args.archive.now c.loop-place.place c.edge.result.0.now c.edge.result.1.now c.edge.ensures c.loop-place.invariant (MatchOption-at_none _ _ c.in_default-2.is c.in_ok-path.ensures)
+    within_more c.args.tree.now c.args.archive.now c.loop-place.place c.edge.result.0.now c.edge.result.1.now c.edge.ensures
+    c.loop-place.invariant (MatchOption-at_none _ _ c.in_default-2.is c.in_ok-path.ensures)
 
 pub first_news-returns : goal.first_news-returns
 first_news-returns t c =
@@ -41,4 +44,5 @@ first_news-returns t c =
     (all_done (IsEdgeWithin c.args.archive.now) (edges c.args.tree.now) c.loop-place.place (search rules) c.loop-place.invariant)
 
 pub news_under-returns-in-None : goal.news_under-returns-in-None
-news_under-returns-in-None t c = news_missing c.args.archive.now c.args.name.now c.args.tree.now c.root_path.result c.root_path.ensures c.in-None.ensures
+news_under-returns-in-None t c = news_missing c.args.archive.now c.args.name.now c.args.tree.now c.root_path.result c.root_path.ensures
+    c.in-None.ensures

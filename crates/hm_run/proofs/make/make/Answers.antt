@@ -6,7 +6,8 @@ use Rattle.hm_run.proofs.make.make.Goals as goal
 pub returns-in-Some : goal.returns-in-Some
 returns-in-Some c =
     made c.spell_for_all.result (inputs_of c.args.inputs) (all_as c.in-Some.side.now) []
-    (c.in-Some.ensures.outcome c.args.inputs.schema c.args.inputs.schema.root c.requires.members) (no_conflicts (inputs_of c.args.inputs) c.in-Some.side.now) c.spell_for_all.ensures.texts c.spell_for_all.ensures.tells
+    (c.in-Some.ensures.outcome c.args.inputs.schema c.args.inputs.schema.root c.requires.members)
+    (no_conflicts (inputs_of c.args.inputs) c.in-Some.side.now) c.spell_for_all.ensures.texts c.spell_for_all.ensures.tells
 
 pub returns : goal.returns
 returns c =

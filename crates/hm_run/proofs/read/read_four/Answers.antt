@@ -19,7 +19,8 @@ returns-in_err-schema c = then_stop itself inputs_of _ _ _ _ (search rules) c.in
 
 pub returns-in_err-archive : goal.returns-in_err-archive
 unfolding ReadsFour
-returns-in_err-archive c = then_go inputs_of _ _ _ _ c.in_ok-schema.ensures.0 (then_stop itself inputs_of _ _ _ _ (search rules) c.in_err-archive.ensures)
+returns-in_err-archive c = then_go inputs_of _ _ _ _ c.in_ok-schema.ensures.0
+    (then_stop itself inputs_of _ _ _ _ (search rules) c.in_err-archive.ensures)
 
 pub returns-in_err-left : goal.returns-in_err-left
 unfolding ReadsFour
@@ -35,4 +36,8 @@ returns-in_err-right c =
 
 pub returns : goal.returns
 unfolding ReadsFour
-returns c = (goes_on c.in_ok-schema.ensures.0 (goes_on c.in_ok-archive.ensures.0 (goes_on c.in_ok-left.ensures.0 (goes_on c.in_ok-right.ensures.0 refl))), refl)
+returns c = (
+  goes_on c.in_ok-schema.ensures.0
+      (goes_on c.in_ok-archive.ensures.0 (goes_on c.in_ok-left.ensures.0 (goes_on c.in_ok-right.ensures.0 refl))),
+  refl,
+)

@@ -5,10 +5,28 @@ use Rattle.hm_run.proofs.sync.run.Goals as goal
 
 pub returns : goal.returns
 returns g c =
-    let before : Outside = record { contents = g.S.Store.contents c.args.store.now; failed = g.S.Store.failed c.args.store.now; written = g.K.Sink.written c.args.out.now; faults = g.K.Sink.faults c.args.out.now } in
-    let after : Outside = record { contents = g.S.Store.contents c.work-work.new.store; failed = g.S.Store.failed c.work-work.new.store; written = g.K.Sink.written c.put_output-put.new.out; faults = g.K.Sink.faults c.put_output-put.new.out } in
+    let before : Outside = record {
+      contents = g.S.Store.contents c.args.store.now;
+      failed = g.S.Store.failed c.args.store.now;
+      written = g.K.Sink.written c.args.out.now;
+      faults = g.K.Sink.faults c.args.out.now;
+    } in
+    let after : Outside = record {
+      contents = g.S.Store.contents c.work-work.new.store;
+      failed = g.S.Store.failed c.work-work.new.store;
+      written = g.K.Sink.written c.put_output-put.new.out;
+      faults = g.K.Sink.faults c.put_output-put.new.out;
+    } in
     let ending : Ending = record { work = c.work-work.result; put = c.put_output-put.result } in
-    let so : EndsAs ending c.args.words.now before after = record { works = c.work-work.ensures; puts = record { written = c.put_output-put.ensures.written; faults = c.put_output-put.ensures.faults; silent = c.put_output-put.ensures.silent } } in
+    let so : EndsAs ending c.args.words.now before after =
+    record {
+      works = c.work-work.ensures;
+      puts = record {
+        written = c.put_output-put.ensures.written;
+        faults = c.put_output-put.ensures.faults;
+        silent = c.put_output-put.ensures.silent;
+      };
+    } in
     record {
       ends = (ending, c.status_of.ensures, so);
       synchronised = λ at. synchronised ending c.args.words.now before after c.status_of.result c.status_of.ensures so at;

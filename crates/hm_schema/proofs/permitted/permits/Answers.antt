@@ -24,5 +24,8 @@ returns-then-fits_listed g c = (
 pub returns : goal.returns
 returns g c = (
   λ f. absurd (false≢true f),
-  λ some. absurd (none_is (λ s. Fits (node_value c.args.node.now) s (g.N.Named.names c.args.names.now)) c.args.node.now.shapes.items (subst (λ l. All (λ s. ¬ (Fits (node_value c.args.node.now) s (g.N.Named.names c.args.names.now))) l) c.deref-shape-items.ensures.value (all_done (λ s. ¬ (Fits (node_value c.args.node.now) s (g.N.Named.names c.args.names.now))) c.deref-shape-items.result.now _ (search rules) c.loop-shape.invariant)) some),
+  λ some. absurd (none_is (λ s. Fits (node_value c.args.node.now) s (g.N.Named.names c.args.names.now)) c.args.node.now.shapes.items
+      (subst (λ l. All (λ s. ¬ (Fits (node_value c.args.node.now) s (g.N.Named.names c.args.names.now))) l) c.deref-shape-items.ensures.value
+      (all_done (λ s. ¬ (Fits (node_value c.args.node.now) s (g.N.Named.names c.args.names.now))) c.deref-shape-items.result.now _
+      (search rules) c.loop-shape.invariant)) some),
 )

@@ -3,5 +3,25 @@ use Rattle.hm_schema.proofs.tests.two_of_three.Goals as goal
 
 pub new-requires-2 : goal.new-requires-2
 new-requires-2 c =
-    rw (c.in_ok-push-8.ensures.items, c.in_ok-push-7.ensures.items, c.new-nodes.ensures.items, c.in_ok-leaf.ensures, c.in_ok-push-6.ensures.items, c.in_ok-push-5.ensures.items, c.in_ok-push-4.ensures.items, c.new-children.ensures.items, c.in_ok-push-3.ensures.items, c.in_ok-push-2.ensures.items, c.in_ok-push.ensures.items, c.new-shapes.ensures.items, c.in_ok-either.ensures, c.in_ok-either-2.ensures, c.in_ok-either-3.ensures, c.in_ok-from_text.ensures, c.in_ok-from_text-2.ensures, c.in_ok-from_text-3.ensures, c.new.ensures.items)
+    rw (
+      c.in_ok-push-8.ensures.items,
+      c.in_ok-push-7.ensures.items,
+      c.new-nodes.ensures.items,
+      c.in_ok-leaf.ensures,
+      c.in_ok-push-6.ensures.items,
+      c.in_ok-push-5.ensures.items,
+      c.in_ok-push-4.ensures.items,
+      c.new-children.ensures.items,
+      c.in_ok-push-3.ensures.items,
+      c.in_ok-push-2.ensures.items,
+      c.in_ok-push.ensures.items,
+      c.new-shapes.ensures.items,
+      c.in_ok-either.ensures,
+      c.in_ok-either-2.ensures,
+      c.in_ok-either-3.ensures,
+      c.in_ok-from_text.ensures,
+      c.in_ok-from_text-2.ensures,
+      c.in_ok-from_text-3.ensures,
+      c.new.ensures.items,
+    )
     (two_of_three_formed _ _ _ letters_rise)

@@ -2,4 +2,5 @@ use Rattle.std.proofs.lemmas.Iterator.Consumers.{nth_from_yields_List, YieldsLis
 use Rattle.hm_schema_text.proofs.head.line_at.Goals as goal
 
 pub returns : goal.returns
-returns c = nth_from_yields_List c.nth.result _ c.args.place c.nth.ensures.ran (YieldsList-from_first (λ x. x.now) (λ rest. rest) _ c.lines.ensures.value)
+returns c = nth_from_yields_List c.nth.result _ c.args.place c.nth.ensures.ran
+    (YieldsList-from_first (λ x. x.now) (λ rest. rest) _ c.lines.ensures.value)

@@ -13,7 +13,8 @@ loop-place-preserved c =
     record {
       lines =
           ap (λ n. n + c.from-lines.result) c.loop-place.invariant.lines
-          ∙ ap (λ n. lines_before (entry_values c.args.entries.now) c.loop-place.place + n) (c.from-lines.ensures ∙ ap from_bool c.is_counted-counted.ensures)
+          ∙ ap (λ n. lines_before (entry_values c.args.entries.now) c.loop-place.place + n)
+          (c.from-lines.ensures ∙ ap from_bool c.is_counted-counted.ensures)
           ∙ lines_next (entry_values c.args.entries.now) c.loop-place.place (entry_value c.index-entries-place.result) at;
       few = few_next _ _ c.is_counted-counted.result c.from-lines.ensures c.loop-place.invariant.few (λ yes one. elim c.else-counted.branch [
         | else-counted-via-then-counted+else-lines-eq1 w ↦ w.if-lines-eq1.false one

@@ -5,4 +5,5 @@ use Rattle.hm_tree.specs.LineEnds.{line_ends}
 use Rattle.hm_tree.proofs.cleaning.clean_bytes.Given as goal
 
 abbrev pub invariant-loop-byte : goal.invariant-loop-byte
-invariant-loop-byte l = l.kept.items ++ filter is_kept (line_ends l.behind_return (drop l.byte-index l.bytes)) ≡ filter is_kept (line_ends false l.bytes)
+invariant-loop-byte l = l.kept.items ++ filter is_kept (line_ends l.behind_return (drop l.byte-index l.bytes)) ≡ filter is_kept
+    (line_ends false l.bytes)

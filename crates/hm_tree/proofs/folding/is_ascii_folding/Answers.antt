@@ -7,7 +7,8 @@ loop-byte-init c = lower_start _
 
 pub loop-byte-preserved : goal.loop-byte-preserved
 loop-byte-preserved c =
-    lower_more c.args.bytes.now c.loop-byte.byte-index c.loop-byte.is_lower _ c.loop-byte-test.true c.if-byte-gt127.false (ap (λ b. c.loop-byte.is_lower && not b) c.is_ascii_uppercase.ensures.value) c.loop-byte.invariant
+    lower_more c.args.bytes.now c.loop-byte.byte-index c.loop-byte.is_lower _ c.loop-byte-test.true c.if-byte-gt127.false
+    (ap (λ b. c.loop-byte.is_lower && not b) c.is_ascii_uppercase.ensures.value) c.loop-byte.invariant
 
 pub returns : goal.returns
 returns c = lower_all c.args.bytes.now c.loop-byte.byte-index c.loop-byte.is_lower c.loop-byte-test.false c.loop-byte.invariant

@@ -7,13 +7,15 @@ use Rattle.hm_tree.proofs.spelling.unescape.Goals as goal
 pub loop-at-preserved : goal.loop-at-preserved
 loop-at-preserved c =
     let found = rw (take_rest c.args.bytes.now c.loop-at.at) at c.in-Some.ensures in
-    let more = read_more c.args.bytes.now c.loop-at.at c.loop-at.text.items c.loop-at.invariant.read c.in-Some.byte c.in-Some.length c.loop-at.invariant.within found.0 found.1 in
+    let more = read_more c.args.bytes.now c.loop-at.at c.loop-at.text.items c.loop-at.invariant.read c.in-Some.byte c.in-Some.length
+    c.loop-at.invariant.within found.0 found.1 in
     record { within = more.0; read = more.1 ∙ ap escaped (sym c.in_ok-push-in-Some.ensures.items) }
 
 pub returns-in-None : goal.returns-in-None
 returns-in-None c =
     let none = rw (take_rest c.args.bytes.now c.loop-at.at) at c.in-None.ensures in
-    read_none c.args.bytes.now c.loop-at.at c.loop-at.text.items c.loop-at.invariant.read none (no_quote_at c.args.bytes.now c.loop-at.at c.loop-at-test.true c.if-bytes-at-ne34.true)
+    read_none c.args.bytes.now c.loop-at.at c.loop-at.text.items c.loop-at.invariant.read none
+    (no_quote_at c.args.bytes.now c.loop-at.at c.loop-at-test.true c.if-bytes-at-ne34.true)
 
 pub returns-else-at-bytes : goal.returns-else-at-bytes
 returns-else-at-bytes c =

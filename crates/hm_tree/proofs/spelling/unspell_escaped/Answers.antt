@@ -10,8 +10,11 @@ returns-in_default c = λ name rest text. behind_quote c.args.rest.now (rw c.in_
 pub returns-in-Ok : goal.returns-in-Ok
 returns-in-Ok c =
     let found = rw c.in-Some.is at c.in_ok-text.ensures in
-    let same = c.in_ok-from_string-in-Ok.ensures.value ∙ ap (λ v. v.items) c.in-Ok.ensures.ok in
-    (subst IsUtf8 (sym c.in_ok-from_string-in-Ok.ensures.value) (IsUtf8-string_bytes c.in-Ok.text), omega (arith, found.0), with_quotes c.args.rest.now c.in-Some.text.items c.in-Some.length found.1 ∙ ap spelled (sym same))
+    let same = c.in_ok-from_string-in-Ok.ensures.value ∙ ap (λ v. v.items) c.in-Ok.ensures.ok in (
+      subst IsUtf8 (sym c.in_ok-from_string-in-Ok.ensures.value) (IsUtf8-string_bytes c.in-Ok.text),
+      omega (arith, found.0),
+      with_quotes c.args.rest.now c.in-Some.text.items c.in-Some.length found.1 ∙ ap spelled (sym same),
+    )
 
 pub returns : goal.returns
 returns c = λ name rest text e.

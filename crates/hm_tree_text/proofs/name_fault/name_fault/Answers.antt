@@ -9,7 +9,8 @@ returns-then-not-is_at c = no_quote _ _ _ c.text_of-left.ensures (λ r e. not_fa
 pub overflow_add-result : goal.overflow_add-result
 overflow_add-result c =
     let there = c.if-not-is_at.ensures.there refl in
-    let le : 1 + c.rest_fault.result ≤ length c.args.bytes.now = place_within c.args.bytes.now 1 c.rest_fault.result there.within c.rest_fault.ensures.within in
+    let le : 1 + c.rest_fault.result ≤ length c.args.bytes.now =
+    place_within c.args.bytes.now 1 c.rest_fault.result there.within c.rest_fault.ensures.within in
     search rules
 
 pub returns : goal.returns

@@ -13,7 +13,10 @@ pub returns-then-is_at-clause-text : goal.returns-then-is_at-clause-text
 returns-then-is_at-clause-text g c = whole_empty _ _ (c.if-not-is_at.ensures.there refl) _ c.empty.ensures (c.if-is_at.ensures.there refl)
 
 pub returns-clause-text : goal.returns-clause-text
-returns-clause-text g c = if_ok _ _ c.read_inside.result (λ read h. whole_read _ _ (c.if-not-is_at.ensures.there refl) _ _ h) c.read_inside.ensures.text
+returns-clause-text g c = if_ok _ _ c.read_inside.result (λ read h. whole_read _ _ (c.if-not-is_at.ensures.there refl) _ _ h)
+    c.read_inside.ensures.text
 
 pub returns-clause-fault : goal.returns-clause-fault
-returns-clause-fault g c = if_err _ _ c.read_inside.result (λ fault h. whole_fails _ _ (c.if-not-is_at.ensures.there refl) (λ r e. not_false (c.if-is_at.ensures.only r e)) fault h) c.read_inside.ensures.fault
+returns-clause-fault g c = if_err _ _ c.read_inside.result
+    (λ fault h. whole_fails _ _ (c.if-not-is_at.ensures.there refl) (λ r e. not_false (c.if-is_at.ensures.only r e)) fault h)
+    c.read_inside.ensures.fault

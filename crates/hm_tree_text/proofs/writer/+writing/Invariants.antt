@@ -10,4 +10,5 @@ abbrev pub decreases-put_below : goal.decreases-put_below
 decreases-put_below g l = 2 * depth (g.N.Written.node l.node.now) + 1
 
 abbrev pub invariant-put_whole-loop-place : goal.invariant-put_whole-loop-place
-invariant-put_whole-loop-place g l = l.text.items ++ inside (drop l.place (edges (g.N.Written.node l.node))) ≡ l.fn.text.items ++ 123 ∷ inside (edges (g.N.Written.node l.node))
+invariant-put_whole-loop-place g l = l.text.items ++ inside (drop l.place (edges (g.N.Written.node l.node))) ≡ l.fn.text.items ++ 123 ∷ inside
+    (edges (g.N.Written.node l.node))

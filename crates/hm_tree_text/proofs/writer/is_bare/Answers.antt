@@ -8,4 +8,7 @@ pub returns-then-is_marked : goal.returns-then-is_marked
 returns-then-is_marked g c = (λ e. absurd (not_false e), λ none. absurd (bare_unmarked _ none (sym c.is_marked.ensures ∙ c.if-is_marked.true)))
 
 pub returns : goal.returns
-returns g c = (λ e. shape_none _ (sym c.is_marked.ensures ∙ c.if-is_marked.false) (sym c.count.ensures ∙ eqb-true _ _ e), λ none. eq-eqb _ _ (c.count.ensures ∙ none_shape _ none))
+returns g c = (
+  λ e. shape_none _ (sym c.is_marked.ensures ∙ c.if-is_marked.false) (sym c.count.ensures ∙ eqb-true _ _ e),
+  λ none. eq-eqb _ _ (c.count.ensures ∙ none_shape _ none),
+)

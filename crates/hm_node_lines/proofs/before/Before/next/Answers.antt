@@ -13,7 +13,8 @@ pub returns-then-begins_node : goal.returns-then-begins_node
 returns-then-begins_node c =
     let is = entry_at c.args.entries.now c.args.place c.index-entries-place.result c.requires.place c.index-entries-place.is in
     rw (add-one, c.from.ensures, c.is_counted.ensures)
-    (begun (entry_values c.args.entries.now) c.args.place (entry_value c.index-entries-place.result) is c.args.self c.requires.before (sym c.begins_node.ensures ∙ c.if-begins_node.true))
+    (begun (entry_values c.args.entries.now) c.args.place (entry_value c.index-entries-place.result) is c.args.self c.requires.before
+    (sym c.begins_node.ensures ∙ c.if-begins_node.true))
 
 pub overflow_add-result-2 : goal.overflow_add-result-2
 overflow_add-result-2 c = let few = edges_few (entry_values c.args.entries.now) c.args.place in grind (arith, common_steps)
@@ -27,5 +28,16 @@ overflow_add-result-4 c = let few = earlier_few (entry_values c.args.entries.now
 pub returns : goal.returns
 returns c =
     let is = entry_at c.args.entries.now c.args.place c.index-entries-place.result c.requires.place c.index-entries-place.is in
-    rw (add-one, c.from.ensures, c.is_counted.ensures, c.from-2.ensures, c.is_some.ensures ∙ seen c.listed.result ∙ ap is_some c.listed.ensures, c.from-3.ensures, c.speaks_of_others.ensures, c.from-4.ensures, c.is_shape.ensures)
-    (inside (entry_values c.args.entries.now) c.args.place (entry_value c.index-entries-place.result) is c.args.self c.requires.before (sym c.begins_node.ensures ∙ c.if-begins_node.false))
+    rw (
+      add-one,
+      c.from.ensures,
+      c.is_counted.ensures,
+      c.from-2.ensures,
+      c.is_some.ensures ∙ seen c.listed.result ∙ ap is_some c.listed.ensures,
+      c.from-3.ensures,
+      c.speaks_of_others.ensures,
+      c.from-4.ensures,
+      c.is_shape.ensures,
+    )
+    (inside (entry_values c.args.entries.now) c.args.place (entry_value c.index-entries-place.result) is c.args.self c.requires.before
+    (sym c.begins_node.ensures ∙ c.if-begins_node.false))

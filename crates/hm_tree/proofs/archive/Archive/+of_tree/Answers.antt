@@ -6,7 +6,8 @@ use Rattle.hm_tree.proofs.archive.Archive.+of_tree.Goals as goal
 
 pub loop-place-preserved : goal.loop-place-preserved
 loop-place-preserved t c =
-    c.in_ok-push.ensures.items ∙ rw (c.loop-place.invariant, c.in_ok-name.ensures.value, c.in_ok-child.ensures) (more_recorded c.args.tree.now c.loop-place.place c.edge.result.0.now c.edge.result.1.now c.edge.ensures)
+    c.in_ok-push.ensures.items ∙ rw (c.loop-place.invariant, c.in_ok-name.ensures.value, c.in_ok-child.ensures)
+    (more_recorded c.args.tree.now c.loop-place.place c.edge.result.0.now c.edge.result.1.now c.edge.ensures)
 
 pub invariant_of-result : goal.invariant_of-result
 invariant_of-result t c =

@@ -5,6 +5,7 @@ use Rattle.hm_tree.proofs.name.Name.cleaned.Goals as goal
 
 pub unreachable-requires : goal.unreachable-requires
 unreachable-requires c =
-    let text : IsUtf8 c.in_ok-bytes.bytes.items = subst IsUtf8 (sym (c.in_ok-bytes.ensures ∙ ap cleaned c.as_bytes-2.ensures.value)) (cleaned_utf8 c.args.text.now c.utf8.text) in
+    let text : IsUtf8 c.in_ok-bytes.bytes.items = subst IsUtf8 (sym (c.in_ok-bytes.ensures ∙ ap cleaned c.as_bytes-2.ensures.value))
+    (cleaned_utf8 c.args.text.now c.utf8.text) in
     let ok = c.in-Err.ensures.succeeds text in
     let no : ⊥ = cc in no

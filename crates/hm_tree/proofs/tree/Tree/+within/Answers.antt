@@ -28,9 +28,13 @@ returns-then-not-within t c = (
 pub loop-place-preserved : goal.loop-place-preserved
 loop-place-preserved t c =
     let yes = c.within.ensures.0 (search rules) in
-    within_more c.args.self.now c.args.archive.now c.loop-place.place c.edge.result.0.now c.edge.result.1.now c.edge.ensures c.loop-place.invariant (subst (λ (a : Archive). IsWithin (Some c.edge.result.1.now) a) c.in-Some.ensures.0 yes)
+    within_more c.args.self.now c.args.archive.now c.loop-place.place c.edge.result.0.now c.edge.result.1.now c.edge.ensures
+    c.loop-place.invariant (subst (λ (a : Archive). IsWithin (Some c.edge.result.1.now) a) c.in-Some.ensures.0 yes)
 
 pub returns : goal.returns
 returns t c =
-    let all = take_all c.loop-place.place (edges c.args.self.now) (omega (arith, c.count-place-end.ensures)) in
-    (λ _. within_all c.args.self.now c.args.archive.now (search rules) (subst (All (IsEdgeWithin c.args.archive.now)) all c.loop-place.invariant), λ _. refl)
+    let all = take_all c.loop-place.place (edges c.args.self.now) (omega (arith, c.count-place-end.ensures)) in (
+      λ _. within_all c.args.self.now c.args.archive.now (search rules)
+          (subst (All (IsEdgeWithin c.args.archive.now)) all c.loop-place.invariant),
+      λ _. refl,
+    )

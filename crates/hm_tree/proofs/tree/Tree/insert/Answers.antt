@@ -11,7 +11,11 @@ insert_edge-requires c = let e = ap length (edges_seen _ _ c.self.invariant.edge
 
 pub invariant_of-self-in-Err : goal.invariant_of-self-in-Err
 invariant_of-self-in-Err c = record {
-  edges = rw (c.in_ok-insert_edge-in-Err.ensures.ok, insert_is _ _ c.self.invariant.edges c.self.view_is c.args.name c.args.child c.in-Err.at c.in-Err.ensures.absent) (edges_put _ _ _ c.utf8-2.ensures (edges_are _));
+  edges = rw (
+    c.in_ok-insert_edge-in-Err.ensures.ok,
+    insert_is _ _ c.self.invariant.edges c.self.view_is c.args.name c.args.child c.in-Err.at
+        c.in-Err.ensures.absent,
+  ) (edges_put _ _ _ c.utf8-2.ensures (edges_are _));
   deep =
       let a = most_insert (λ (e : Name × Node false). depth e.1 + 1) c.self.inside.edges.items c.in-Err.at (c.args.name, c.args.child) in
       let e = c.child-in-Err.invariant.deep in
@@ -24,4 +28,5 @@ returns-in-Ok-clause-ok c = absurd (not_None _ (sym (c.in-Ok.ensures.found.found
 
 pub returns-in_ok-insert_edge-in-Err-clause-ok : goal.returns-in_ok-insert_edge-in-Err-clause-ok
 returns-in_ok-insert_edge-in-Err-clause-ok c =
-    ap node (c.in_ok-insert_edge-in-Err.ensures.ok ∙ insert_is _ _ c.self.invariant.edges c.self.view_is c.args.name c.args.child c.in-Err.at c.in-Err.ensures.absent)
+    ap node (c.in_ok-insert_edge-in-Err.ensures.ok ∙ insert_is _ _ c.self.invariant.edges c.self.view_is c.args.name c.args.child c.in-Err.at
+    c.in-Err.ensures.absent)
