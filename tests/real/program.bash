@@ -1,27 +1,16 @@
 # shellcheck shell=bash
-# The examples of the README, and the launcher.
+# The examples, and the launcher.
 
-first_example() {
-    begin 'the first example'
-    cp "$top"/examples/first/* .
-    for slot in archive left right; do
-        sed 's/}$/,"Katherine Johnson":{"email":{"katherine@example.org"}}}/' "$top/examples/first/left" >../want/$slot
-    done
-    cp schema ../want/schema
-    run sync "$PWD/schema" "$PWD/archive" "$PWD/left" "$PWD/right" >../out
-    ends 0 agreed
-    finish
-}
-
-example_of_a_conflict() {
-    begin 'the example of a conflict'
-    cp "$top"/examples/conflict/* .
-    local ada='"Ada Lovelace":{"email":{"ada@example.org"},"phone":{"+44 20 7946 0123"}}'
-    make ../want/archive "{$ada,\"Bob\":!}"
-    make ../want/left "{$ada}"
-    make ../want/right "{$ada,\"Bob\":{\"phone\":{\"+1 555 0102\",\"+1 555 0199\"}}}"
-    run sync "$top/examples/first/schema" archive left right >../out
-    ends 1 $'conflict /"Bob" lost /"Bob"/"phone"/"+1 555 0199"\nconflicts 1'
+# Each example has the files before, the words, the output, the status, and those files that are others afterwards.
+example() {
+    local of=$1 words
+    begin "the example ${of##*/}"
+    cp "$of"/before/* .
+    cp "$of"/before/* ../want
+    [[ ! -d $of/after ]] || cp "$of"/after/* ../want
+    mapfile -t words <"$of/words"
+    run "${words[@]}" >../out
+    ends "$(<"$of/status")" "$(<"$of/output")"
     finish
 }
 
@@ -36,8 +25,9 @@ launcher() {
     finish
 }
 
-first_example
-example_of_a_conflict
+for of in "$top"/examples/*; do
+    example "$of"
+done
 if [[ -z ${HARMONY:-} ]]; then
     launcher
 else

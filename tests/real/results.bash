@@ -8,6 +8,9 @@ node Value\n  other filled Empty\n  shape + 1..1'
 # A schema by which two names can't stand together.
 readonly EITHER=$'harmony schema 1\nroot R\nnode R\n  edge y Empty\n  edge z Empty\n  shape ? y\n  shape ? z'
 
+# A schema of entries that have one value each.
+readonly VALUES=$'harmony schema 1\nroot R\nnode R\n  other any V\n  shape + 0..\nnode V\n  other any Empty\n  shape + 1..1'
+
 # check TITLE, archive A B before, STATUS LINES, archive A B afterwards
 check() {
     begin "$1"
@@ -24,6 +27,30 @@ names_apart() {
     with_schema "$EITHER"
     sync
     ends 1 $'conflict / names {"y","z"} {"y","z"}\nconflicts 1'
+    finish
+}
+
+# A thousand entries of one value, which both sides have replaced by another: each is told, in the order of their paths.
+many_conflicts() {
+    local entry='"%04d":{"%s"}' marked='"%04d":!' line='conflict /"%04d" names {"new","other"} {"new","other"}\n'
+    local old='' new='' other='' marks='' lines='' i
+    for ((i = 1; i <= 1000; i++)); do
+        # shellcheck disable=SC2059
+        printf -v old "%s,$entry" "$old" $i old
+        # shellcheck disable=SC2059
+        printf -v new "%s,$entry" "$new" $i new
+        # shellcheck disable=SC2059
+        printf -v other "%s,$entry" "$other" $i other
+        # shellcheck disable=SC2059
+        printf -v marks "%s,$marked" "$marks" $i
+        # shellcheck disable=SC2059
+        printf -v lines "%s$line" "$lines" $i
+    done
+    begin 'a thousand conflicts'
+    files "{${old:1}}" "{${new:1}}" "{${other:1}}" "{${marks:1}}" "{${new:1}}" "{${other:1}}"
+    with_schema "$VALUES"
+    sync
+    ends 1 "${lines}conflicts 1000"
     finish
 }
 
@@ -90,6 +117,7 @@ check 'beside a conflict' '{"a":{"1"},"b"}' '{"a":{"2"},"b"}' '{"b","c"}' 1 \
     $'conflict /"a" lost /"a"/"2"\nconflicts 1' \
     '{"a":!,"b","c"}' '{"a":{"2"},"b","c"}' '{"b","c"}'
 names_apart
+many_conflicts
 check 'no archive, equal' absent "$NEW" "$NEW" 0 agreed "$NEW" "$NEW" "$NEW"
 check 'no archive, different' absent "$NEW" "$OTHER" 0 agreed "$BOTH" "$BOTH" "$BOTH"
 check 'empty archive, equal' empty "$NEW" "$NEW" 0 agreed "$NEW" "$NEW" "$NEW"
