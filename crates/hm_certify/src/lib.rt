@@ -1,4 +1,8 @@
 //! Checking a reconciling that somebody else made, without trusting who made it.
+//!
+//! Each place of the new trees is looked at beside what stood there before (`standing`): whether the result is safe
+//! there (`safe`), whether the conflicts are those of the topmost marks (`marks`), and whether each shows why
+//! (`reasons`). The check knows no way to find an outcome, needs no code of who does, and takes no memory.
 #![tactic(auto)]
 
 mod carried;

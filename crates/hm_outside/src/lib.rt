@@ -1,4 +1,9 @@
 //! The outside: stores of files and sinks for output.
+//!
+//! A store and a sink are traits, whose clauses say what a caller can rely on: what a load tells of the contents, what
+//! a replace leaves, and that a failed call is in the list of failed calls. They say it of stores and sinks that tell
+//! what they hold, as those in memory do; real files and the standard output tell nothing, and for them the clauses on
+//! failed calls alone say something.
 #![tactic(auto)]
 
 mod file;

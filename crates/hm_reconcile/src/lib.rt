@@ -1,4 +1,10 @@
 //! Reconciling two replicas against the archive of what they last agreed on.
+//!
+//! Under each name one of a few things happens: what one side alone has, or both have alike, is settled as a whole
+//! (`side`, `whole`); what both have is gone through name by name (`node`), once it is known which names the sides are
+//! to have and that the schema permits them (`carried`, `names`). Then the topmost marks of the new archive are listed
+//! (`marks`), and for each of them what shows why is found in what the old archive held there (`conflicts`,
+//! `reasons`). Nothing is copied that can be moved.
 #![tactic(auto)]
 
 mod apart;

@@ -1,4 +1,11 @@
 //! Schemas: which names may stand at each place of a tree.
+//!
+//! A schema has nodes, and one of them is its root. A node lists names, each with the node of what stands below it,
+//! and says of which class the others are and which node they lead to. Its shapes say which names may stand together:
+//! those that a shape requires, those that it leaves open, and how many unlisted ones there are (`specs/Permitted`). A
+//! tree is a member where at each of its paths the node that the path leads to permits the names there
+//! (`specs/Membership`). Two names of a node may be twins, below which the same stands; a schema that is read from a
+//! file has none.
 #![tactic(auto)]
 
 mod named;

@@ -1,4 +1,10 @@
 //! Names, trees of names, and archives of what two replicas last agreed on.
+//!
+//! A name is a text, a tree a finite map from names to trees, and an archive a tree in which a mark may stand for what
+//! the replicas don't agree about, or nothing where they never agreed (`specs/Nodes`, `specs/Archives`). Names are in
+//! the order of their bytes, and so are the edges of a node and the paths of a tree. All that is said above of values
+//! is said of the state that they have at each path: missing, present or marked (`specs/States`). A call that needs
+//! memory answers `Memory` where there is none, and then nothing has changed.
 #![tactic(auto)]
 
 mod archive;
