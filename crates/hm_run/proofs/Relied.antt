@@ -27,7 +27,7 @@ use Rattle.hm_report.proofs.Explained.{explained}
 use Rattle.hm_run.specs.Reads.{Trees}
 use Rattle.hm_run.specs.Verdict.{Synced, AreRead, texts_of, Becomes, IsReport, Plan, Plans, PlansFrom, VerdictOf, Verdict, conflicts_status, stop_state}
 use Rattle.hm_run.specs.Work.{IsDone, IsRefused, Works}
-use Rattle.hm_run.specs.Endings.{Outside, HasPut, EndsAs, TellsConflicts, old_trio, new_trio, IsPlan, IsSynchronised, IsReported, IsComplete}
+use Rattle.hm_run.specs.Endings.{Outside, HasPut, EndsAs, TellsConflicts, old_trio, new_trio, IsPlan, IsSynchronised, IsReported, IsCarriedOut, IsComplete}
 use Rattle.hm_run.proofs.Once.{verdict_once}
 use Rattle.hm_run.proofs.Working.{IsOfSchema, of_schema, members_of}
 
@@ -37,9 +37,6 @@ use Rattle.hm_run.proofs.Working.{IsOfSchema, of_schema, members_of}
 record IsFounded (plan : Plan) : Type 0 where
   outcome : Becomes plan.before plan.after
   of_schema : IsOfSchema plan.before
-
-same_refusal : (p q : Refusal) → ◌≡◌ {A = Result Plan Refusal} (Err p) (Err q) → p ≡ q
-same_refusal p q e = cc
 
 plan_is : (p q : Plan) → ◌≡◌ {A = Result Plan Refusal} (Ok p) (Ok q) → p ≡ q
 plan_is p q e = cc
@@ -248,62 +245,43 @@ module _ (words : List Name) (before after : Outside) where
     put_whole (Ok output) put.Memory h = inl refl
     put_whole (Err stop) put.Memory h = inl refl
 
+    carried_out : (work : Result Output Stop) (answer : Put) → HasPut work answer before after → (r : Result Plan Refusal)
+        → Verdict c words r → IsCarriedOut c (work_status work) after.contents r
+        → IsComplete words c (put_status work answer) after.contents
+    carried_out work answer h r first out other k =
+        let one = verdict_once c (meaning words) r other first k in
+        ⊎_elim (λ five. inl five) (λ whole. inr (subst (IsCarriedOut c (put_status work answer) after.contents) one
+        (subst (λ n. IsCarriedOut c n after.contents r) (sym whole) out))) (put_whole work answer h)
+
     complete_by : (work : Result Output Stop) (answer : Put) → Ended work answer → IsComplete words c (put_status work answer) after.contents
     complete_by (Ok output) answer h =
         let done = is_done h c told in
-        let only = (is_plan words c done.state.plan done.state.planned).only in record {
-          carried_out = λ plan k.
-              let same : done.state.plan ≡ plan = plan_is done.state.plan plan (sym (only (Ok plan) k)) in
-              ⊎_elim (λ five. inl five) (λ whole. inr (
-                subst (λ (p : Plan). TellsConflicts p (put_status (Ok output) answer)) same
-                    (subst (TellsConflicts done.state.plan) (sym whole) (status_told done.state.plan output done.tells)),
-                done.state.is ∙ ap (λ (p : Plan). Some (stop_state c p 3)) same,
-              )) (put_whole (Ok output) answer h.1);
-          refused = λ other k. absurd (let e = only (Err other) k in let no : ⊥ = cc in no);
-        }
+        carried_out (Ok output) answer h.1 (Ok done.state.plan) done.state.planned
+        (status_told done.state.plan output done.tells, done.state.is)
     complete_by (Err (Refused refusal)) answer h =
-        let refused = is_refused h c told in record {
-          carried_out = λ plan k. absurd (let e = verdict_once c (meaning words) (Ok plan) (Err refusal) k refused.first in let no : ⊥ = cc in no);
-          refused = λ other k. ⊎_elim (λ five. inl five)
-              (λ whole. inr (
-                whole ∙ ap refusal_status
-                    (same_refusal refusal other (verdict_once c (meaning words) (Err refusal) (Err other) refused.first k)),
-                refused.same,
-              ))
-              (put_whole (Err (Refused refusal)) answer h.1);
-        }
+        let refused = is_refused h c told in
+        carried_out (Err (Refused refusal)) answer h.1 (Err refusal) refused.first (refl, refused.same)
     complete_by (Err (Fault kind at)) answer h =
         absurd (worked_fault (meaning words) before.contents after.contents before.failed after.failed kind at same_failed h.0)
-    complete_by (Err Memory) answer h = record { carried_out = λ plan k. inl (spent answer); refused = λ other k. inl (spent answer) }
+    complete_by (Err Memory) answer h = λ r k. inl (spent answer)
 
-module _ (ending : Ending) (words : List Name) (before after : Outside) (status : ℕ) (is : status ≡ status_of ending)
-    (h : EndsAs ending words before after) where
-  abbrev ended : Ended words before after ending.work ending.put
-  ended = (h.works, h.puts)
-
+-- what a user relies on after a run that ended with a status
+pub record IsRelied (words : List Name) (before after : Outside) (status : ℕ) : Type 0 where
   pub synchronised : (status ≡ 0) ⊎ (status ≡ 1) → WhereTold before.contents (λ c. IsSynchronised words c status after.contents)
-  synchronised at =
-      let P : ℕ → Type 0 = λ n. (n ≡ 0) ⊎ (n ≡ 1) in
-      let Q : ℕ → Type 0 = λ n. WhereTold before.contents (λ c. IsSynchronised words c n after.contents) in
-      subst Q (sym is) (synchronised_by words before after ending.work ending.put (low_status ending.work ending.put (subst P is at)) ended)
-
   pub reported : (status ≡ 0) ⊎ (status ≡ 1)
       → WhereTold before.contents (λ c. WhereTold before.written (λ w. IsReported words c w status after.written))
-  reported at =
-      let P : ℕ → Type 0 = λ n. (n ≡ 0) ⊎ (n ≡ 1) in
-      let Q : ℕ → Type 0 = λ n. WhereTold before.contents (λ c. WhereTold before.written (λ w. IsReported words c w n after.written)) in
-      subst Q (sym is) (reported_by words before after ending.work ending.put (low_status ending.work ending.put (subst P is at)) ended)
-
   pub refused : (status ≡ 2) ⊎ (status ≡ 3) → WhereTold before.contents (λ c. after.contents ≡ Some c)
-  refused at =
-      let P : ℕ → Type 0 = λ n. (n ≡ 2) ⊎ (n ≡ 3) in
-      refused_by words before after ending.work ending.put (subst P is at) ended
-
   pub complete : after.failed ≡ before.failed → after.faults ≡ before.faults
       → WhereTold before.contents (λ c. IsComplete words c status after.contents)
-  complete f s c told =
-      let Q : ℕ → Type 0 = λ n. IsComplete words c n after.contents in
-      subst Q (sym is) (complete_by words before after f s c told ending.work ending.put ended)
+
+pub relied : (ending : Ending) (words : List Name) (before after : Outside) (status : ℕ)
+    → status ≡ status_of ending → EndsAs ending words before after → IsRelied words before after status
+relied ending words before after status is h = subst (IsRelied words before after) (sym is) (record {
+  synchronised = λ s. synchronised_by words before after ending.work ending.put (low_status ending.work ending.put s) (h.works, h.puts);
+  reported = λ s. reported_by words before after ending.work ending.put (low_status ending.work ending.put s) (h.works, h.puts);
+  refused = λ s. refused_by words before after ending.work ending.put s (h.works, h.puts);
+  complete = λ f s c told. complete_by words before after f s c told ending.work ending.put (h.works, h.puts);
+})
 
 -- ---- the work of some words
 

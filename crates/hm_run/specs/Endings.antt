@@ -96,9 +96,11 @@ pub record IsReported (words : List Name) (c : Contents) (w : List ℕ) (status 
   pub explained : AreExplained plan.before.schema plan.before.schema.root (views (old_trio plan)) (views (new_trio plan)) conflicts
   pub apart : (p : Path) → IsTopmostMark (state plan.after.archive) p → Differ (views (new_trio plan)) p
 
--- where there is a plan and nothing outside fails, it is carried out, unless memory runs out
-pub record IsComplete (words : List Name) (c : Contents) (status : ℕ) (left : Option Contents) : Type 0 where
-  pub carried_out : (plan : Plan) → Verdict c words (Ok plan)
-      → (status ≡ 5) ⊎ (TellsConflicts plan status × (left ≡ Some (stop_state c plan 3)))
-  pub refused : (refusal : Refusal) → Verdict c words (Err refusal)
-      → (status ≡ 5) ⊎ ((status ≡ refusal_status refusal) × (left ≡ Some c))
+-- what was to be done is done: a plan is carried out, or nothing has changed after the refusal
+abbrev pub IsCarriedOut : Contents → ℕ → Option Contents → Result Plan Refusal → Type 0
+IsCarriedOut c status left (Ok plan) = TellsConflicts plan status × (left ≡ Some (stop_state c plan 3))
+IsCarriedOut c status left (Err refusal) = (status ≡ refusal_status refusal) × (left ≡ Some c)
+
+-- where nothing outside fails, what was to be done is done, unless memory runs out
+abbrev pub IsComplete : List Name → Contents → ℕ → Option Contents → Type 0
+IsComplete words c status left = (r : Result Plan Refusal) → Verdict c words r → (status ≡ 5) ⊎ IsCarriedOut c status left r

@@ -1,6 +1,6 @@
 use Rattle.hm_command.specs.declared.ending.Ending.{Ending}
 use Rattle.hm_run.specs.Endings.{Outside, EndsAs}
-use Rattle.hm_run.proofs.Relied.{synchronised, reported, refused, complete}
+use Rattle.hm_run.proofs.Relied.{relied}
 use Rattle.hm_run.proofs.sync.run.Goals as goal
 
 pub returns : goal.returns
@@ -27,10 +27,10 @@ returns g c =
         silent = c.put_output-put.ensures.silent;
       };
     } in
-    record {
+    let all = relied ending c.args.words.now before after c.status_of.result c.status_of.ensures so in record {
       ends = (ending, c.status_of.ensures, so);
-      synchronised = λ at. synchronised ending c.args.words.now before after c.status_of.result c.status_of.ensures so at;
-      reported = λ at. reported ending c.args.words.now before after c.status_of.result c.status_of.ensures so at;
-      refused = λ at. refused ending c.args.words.now before after c.status_of.result c.status_of.ensures so at;
-      complete = λ f s. complete ending c.args.words.now before after c.status_of.result c.status_of.ensures so f s;
+      synchronised = all.synchronised;
+      reported = all.reported;
+      refused = all.refused;
+      complete = all.complete;
     }
