@@ -1,15 +1,15 @@
-pub mod Along
-pub mod CarriedNames
-pub mod Certified
-pub mod ConflictPaths
-pub mod EachEdge
-pub mod FirstNews
-pub mod MarksAlong
-pub mod MarksCounted
-pub mod PathOrder
-pub mod SafeBelow
-pub mod SafeCases
-pub mod SafeTests
-pub mod Showing
-pub mod Steps
-pub mod Verdicts
+mod Along
+mod CarriedNames
+mod Certified
+mod ConflictPaths
+mod EachEdge
+mod FirstNews
+mod MarksAlong
+mod MarksCounted
+mod PathOrder
+mod SafeBelow
+mod SafeCases
+mod SafeTests
+mod Showing
+mod Steps
+mod Verdicts

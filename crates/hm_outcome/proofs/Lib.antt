@@ -1,5 +1,5 @@
 pub mod Marks
-pub mod Forced
+mod Forced
 pub mod Best
 pub mod Settled
 pub mod OneSided
@@ -7,7 +7,7 @@ pub mod Downward
 pub mod Search
 pub mod SortedLists
 pub mod TopmostLists
-pub mod Examples
+mod Examples
 pub mod Apart
 pub mod Alone
 pub mod Gathered

@@ -1,3 +1,3 @@
-pub mod Contents
+mod Contents
 pub mod Risen
-pub mod Files
+mod Files

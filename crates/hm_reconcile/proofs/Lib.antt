@@ -1,14 +1,14 @@
-pub mod Passing
-pub mod Falling
-pub mod Nodes
-pub mod TopmostAppend
-pub mod FirstNews
-pub mod CarriedNames
-pub mod Shown
-pub mod Fronts
-pub mod Under
-pub mod Held
-pub mod SameNames
-pub mod Naming
-pub mod Alike
-pub mod Steps
+mod Passing
+mod Falling
+mod Nodes
+mod TopmostAppend
+mod FirstNews
+mod CarriedNames
+mod Shown
+mod Fronts
+mod Under
+mod Held
+mod SameNames
+mod Naming
+mod Alike
+mod Steps

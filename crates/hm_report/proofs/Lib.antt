@@ -1,5 +1,5 @@
 pub mod Explained
 pub mod Once
-pub mod Sets
+mod Sets
 pub mod FirstNews
 pub mod Existence

@@ -1,2 +1,2 @@
-pub mod Examples
+mod Examples
 pub mod Shallow

@@ -1,8 +1,8 @@
 pub mod NamesOf
-pub mod Fitting
+mod Fitting
 pub mod Lists
 pub mod Members
-pub mod References
+mod References
 pub mod Outside
-pub mod Small
+mod Small
 pub mod Decided

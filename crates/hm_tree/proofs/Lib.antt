@@ -1,21 +1,21 @@
 pub mod Texts
 pub mod Sorted
 pub mod Depths
-pub mod Deepest
+mod Deepest
 pub mod States
 pub mod PathLaws
 pub mod Paths
-pub mod Steps
+mod Steps
 pub mod Utf8Names
 pub mod DepthLaws
 pub mod Extent
 pub mod Kept
 pub mod Presence
-pub mod Spelled
-pub mod Classed
-pub mod Compared
-pub mod Folded
-pub mod CleanText
+mod Spelled
+mod Classed
+mod Compared
+mod Folded
+mod CleanText
 pub mod SpelledText
 pub mod NameSets
 pub mod Ascending

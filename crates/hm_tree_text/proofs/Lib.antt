@@ -1,4 +1,4 @@
-pub mod Spelling
+mod Spelling
 pub mod TextUtf8
 pub mod Laws
 mod Places
