@@ -1,5 +1,6 @@
 //! Reads a schema, an archive and two replicas, reconciles them and certifies the outcome, as far as the word says.
 #![tactic(auto)]
+
 ghost use Rattle.std.specs.Prelude.{IfOk};
 ghost use Rattle.hm_schema.specs.Membership.{HasNoTwins};
 

@@ -19,9 +19,9 @@ new-requires-2 c =
       c.in_ok-either.ensures,
       c.in_ok-either-2.ensures,
       c.in_ok-either-3.ensures,
-      c.in_ok-from_text.ensures,
-      c.in_ok-from_text-2.ensures,
-      c.in_ok-from_text-3.ensures,
+      c.in_ok-from_text.ensures.value,
+      c.in_ok-from_text-2.ensures.value,
+      c.in_ok-from_text-3.ensures.value,
       c.new.ensures.items,
     )
     (two_of_three_formed _ _ _ letters_rise)
