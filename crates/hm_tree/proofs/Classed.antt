@@ -6,7 +6,7 @@ use Rattle.std.proofs.lemmas.List.Elements.{All-cons}
 use Rattle.std.proofs.lemmas.Bool.{eqb-true, cases_Bool, true≢false, and_from, cond_both}
 use Rattle.hm_tree.specs.Names.{Name}
 use Rattle.hm_tree.specs.Cleaned.{is_kept, cleaned}
-use Rattle.hm_tree.specs.LineEnds.{line_ends, has_no_return, line_ends_same, cleaned-line_ends}
+use Rattle.hm_tree.proofs.LineEnds.{line_ends, has_no_return, line_ends_same, cleaned-line_ends}
 
 kept_no_return : (b : ℕ) → is_kept b ≡ true → not (b == 13) ≡ true
 kept_no_return b h = elim (cases_Bool (b == 13)) [
@@ -35,5 +35,9 @@ All_filtered (b ∷ t) =
 
 pub kept_from_clean : (t : Name) → cleaned t ≡ t → All (λ b. IsTrue (is_kept b)) t
 kept_from_clean t e = subst (All (λ b. IsTrue (is_kept b))) (sym (cleaned-line_ends t) ∙ e) (All_filtered (line_ends false t))
+
+-- what is cleaned is clean
+pub cleaned-cleaned : (t : Name) → cleaned (cleaned t) ≡ cleaned t
+cleaned-cleaned t = clean_from_kept (cleaned t) (subst (All (λ b. IsTrue (is_kept b))) (sym (cleaned-line_ends t)) (All_filtered (line_ends false t)))
 
 pub ruleset clean_laws = (clean_from_kept, kept_from_clean)

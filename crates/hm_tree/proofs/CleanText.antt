@@ -10,7 +10,8 @@ use Rattle.std.proofs.lemmas.List.Elements.{All-cons, All-filter, filter-append}
 use Rattle.std.proofs.lemmas.Str.{IsUtf8-nil, IsUtf8-append, IsUtf8-from_ascii, encode_ascii, inside_one}
 use Rattle.std.proofs.lemmas.Str.Ascii.{IsAscii-from_all}
 use Rattle.hm_tree.specs.Cleaned.{is_kept, cleaned}
-use Rattle.hm_tree.specs.LineEnds.{line_end, line_ends, cleaned-line_ends}
+use Rattle.hm_tree.specs.LineEnds.{line_end}
+use Rattle.hm_tree.proofs.LineEnds.{line_ends, cleaned-line_ends}
 
 abbrev cleaned_from : Bool → List ℕ → List ℕ
 cleaned_from behind t = filter is_kept (line_ends behind t)

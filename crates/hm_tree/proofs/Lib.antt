@@ -12,6 +12,7 @@ pub mod Extent
 pub mod Kept
 pub mod Presence
 mod Spelled
+mod LineEnds
 mod Classed
 mod Compared
 mod Folded

@@ -7,7 +7,7 @@ ghost use Rattle.std.proofs.lemmas.Cmp.{eq_by_cmp_equiv};
 ghost use Rattle.hm_tree.specs.Names.{name_cmp};
 ghost use Rattle.hm_tree.specs.NameLaws.{name_total};
 ghost use Rattle.hm_tree.specs.Cleaned.{cleaned};
-ghost use Rattle.hm_tree.specs.Classes.{IsInClass};
+ghost use Rattle.hm_tree.specs.Classes.{IsClean, IsInClass};
 
 use crate::class::{Class, is_filled, is_trimmed};
 use crate::cleaning::{clean_bytes, is_clean};
@@ -60,6 +60,7 @@ impl Name {
     /// ASCII other than tab and LF are dropped.
     pub fn cleaned(alloc: Global, text: &str) -> Result<Name, Memory>
         ensures value { IfOk result (λ name. name ≡ cleaned text.now) }
+        ensures clean { IfOk result (λ name. IsClean name) }
         ensures utf8 { IfOk result (λ name. IsUtf8 name) }
     {
         if is_clean(text.as_bytes()) {
@@ -85,8 +86,8 @@ impl Name {
         }
     }
 
-    /// A name's bytes are UTF-8, which a proof knows once this was called. It does nothing.
-    pub fn utf8(&self)
+    // A name's bytes are UTF-8, which a proof knows once this was called. It does nothing.
+    pub(crate) fn utf8(&self)
         ensures { IsUtf8 self.now }
     {
         let _ = &self.text;

@@ -2,7 +2,7 @@ use Rattle.std.proofs.Common.{◌++◌, sym, ap, ◌∙◌}
 use Rattle.std.specs.List.{filter}
 use Rattle.std.proofs.lemmas.List.{append-nil, drop_all}
 use Rattle.hm_tree.specs.Cleaned.{is_kept}
-use Rattle.hm_tree.specs.LineEnds.{line_ends, cleaned-line_ends}
+use Rattle.hm_tree.proofs.LineEnds.{line_ends, cleaned-line_ends}
 use Rattle.hm_tree.proofs.cleaning.clean_bytes.Goals as goal
 
 pub returns : goal.returns

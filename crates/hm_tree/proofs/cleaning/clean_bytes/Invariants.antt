@@ -1,7 +1,7 @@
 use Rattle.std.proofs.Common.{◌≡◌, ◌++◌, drop, false}
 use Rattle.std.specs.List.{filter}
 use Rattle.hm_tree.specs.Cleaned.{is_kept}
-use Rattle.hm_tree.specs.LineEnds.{line_ends}
+use Rattle.hm_tree.proofs.LineEnds.{line_ends}
 use Rattle.hm_tree.proofs.cleaning.clean_bytes.Given as goal
 
 abbrev pub invariant-loop-byte : goal.invariant-loop-byte
