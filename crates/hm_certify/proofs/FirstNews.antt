@@ -1,18 +1,16 @@
 -- The first news of a side, looked for down the tree.
-use Rattle.std.proofs.Common.{◌≡◌, ◌≢◌, ◌⊎◌, ◌↔◌, ℕ, ◌+◌, ◌<◌, ◌≤◌, length, drop, get_or, Bool, false, IsTrue, [], ◌∷◌, Option, Some, None, refl, sym, ap, subst, ◌∙◌, inl, inr}
+use Rattle.std.proofs.Common.{◌≡◌, ◌≢◌, ◌↔◌, ℕ, ◌+◌, ◌<◌, ◌≤◌, length, drop, get_or, Bool, false, IsTrue, [], ◌∷◌, Option, Some, refl, sym, ap, subst, ◌∙◌, inl, inr}
 use Rattle.std.specs.Ordering.{ordering_then}
-use Rattle.std.specs.declared.cmp.Ordering.TheVariants.{Less}
 use Rattle.std.proofs.lemmas.List.{drop_all}
 use Rattle.hm_tree.specs.declared.archive.State.{State}
-use Rattle.hm_tree.specs.declared.archive.State.TheVariants.{Missing, Present, Marked}
-use Rattle.hm_tree.specs.Names.{Name, name_cmp}
+use Rattle.hm_tree.specs.declared.archive.State.TheVariants.{Present, Marked}
+use Rattle.hm_tree.specs.Names.{Name}
 use Rattle.hm_tree.specs.Nodes.{Tree, below}
 use Rattle.hm_tree.specs.Archives.{Archive, under}
-use Rattle.hm_tree.specs.States.{Path, state, Has}
+use Rattle.hm_tree.specs.States.{Path, state}
 use Rattle.hm_tree.proofs.States.{state_root, state_down}
 use Rattle.hm_tree.specs.PathOrder.{path_cmp, IsFirst}
 use Rattle.hm_tree.proofs.PathLaws.{first_as, first_below}
-use Rattle.hm_outcome.proofs.Marks.{has_and_lacks}
 use Rattle.hm_outcome.proofs.Downward.{state_under}
 use Rattle.hm_outcome.proofs.Search.{is_present}
 use Rattle.hm_report.proofs.FirstNews.{NewsOf, news_at_root, news_below}

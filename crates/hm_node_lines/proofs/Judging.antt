@@ -1,5 +1,5 @@
 -- When a line is bad, by what it says.
-use Rattle.std.proofs.Common.{◌≡◌, ◌≢◌, ◌⊎◌, inl, inr, ℕ, suc, ◌+◌, ◌<◌, Bool, true, false, List, [], ◌∷◌, ◌++◌, length, take, drop, Option, Some, None, refl, sym, ap, ◌∙◌, subst, count_by, arith}
+use Rattle.std.proofs.Common.{◌≡◌, ◌≢◌, ◌⊎◌, inl, inr, ℕ, suc, ◌<◌, Bool, true, false, List, [], ◌∷◌, ◌++◌, length, take, drop, Option, Some, None, refl, sym, ap, ◌∙◌, subst, count_by, arith}
 use Rattle.std.specs.Prelude.{codes, ◌==◌, IsTrue, is_some, not}
 use mathlib.Core.Bool.{true≢false}
 use Rattle.std.specs.List.{Contains}

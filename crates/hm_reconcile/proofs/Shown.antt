@@ -1,11 +1,10 @@
 -- What shows why a path is contested, by what stands there.
-use Rattle.std.proofs.Common.{◌≡◌, ◌≢◌, ◌↔◌, inl, inr, Bool, [], ◌∷◌, ◌++◌, Option, Some, None, refl, sym, ap, subst, ◌∙◌}
+use Rattle.std.proofs.Common.{◌≡◌, ◌≢◌, ◌↔◌, inl, inr, Bool, [], ◌∷◌, ◌++◌, Option, Some, None, sym, ap, subst, ◌∙◌}
 use Rattle.hm_tree.specs.declared.archive.State.TheVariants.{Present, Marked}
 use Rattle.hm_tree.specs.Nodes.{Node, Tree}
 use Rattle.hm_tree.specs.Archives.{Archive}
 use Rattle.hm_tree.specs.States.{Path, state, at_path, IsWithin, View, down}
 use Rattle.hm_tree.proofs.Paths.{state_at, state_here, stands, stands_not}
-use Rattle.hm_tree.proofs.PathLaws.{first_as}
 use Rattle.hm_safety.specs.Views.{Views}
 use Rattle.hm_safety.specs.Changes.{IsLost}
 use Rattle.hm_schema.specs.Values.{Names}

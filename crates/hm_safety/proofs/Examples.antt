@@ -1,16 +1,15 @@
 -- The definitions, tried on small trees: what has changed, what clashes, and results that aren't safe.
-use Rattle.std.proofs.Common.{◌≡◌, ◌≢◌, List, [], ◌∷◌, ◌++◌, Option, Some, None, refl, sym, ◌∙◌, inl, inr}
+use Rattle.std.proofs.Common.{◌≡◌, ◌≢◌, [], ◌∷◌, ◌++◌, Some, refl, inl, inr}
 use Rattle.std.specs.Prelude.{codes, Bool, false, true, T}
-use Rattle.hm_tree.specs.declared.archive.State.{State}
 use Rattle.std.specs.Str.{is_utf8}
 use Rattle.hm_tree.specs.declared.archive.State.TheVariants.{Missing, Present, Marked}
 use Rattle.hm_tree.specs.Names.{Name, name_cmp}
-use Rattle.hm_tree.specs.Nodes.{bare, mark, edge, is_node, both, Node, Tree, empty, marked, edges, edges_of, is_marked}
-use Rattle.hm_tree.specs.Archives.{Archive, recorded}
+use Rattle.hm_tree.specs.Nodes.{bare, mark, edge, is_node, both, Tree, marked, edges, edges_of, is_marked}
+use Rattle.hm_tree.specs.Archives.{Archive}
 use Rattle.hm_tree.specs.States.{Path, state}
 use Rattle.hm_tree.proofs.Texts.{ascii_test}
-use Rattle.hm_safety.specs.Views.{Views, Agree, both_present, both_missing}
-use Rattle.hm_safety.specs.Changes.{HasChanged, Clash, IsLost}
+use Rattle.hm_safety.specs.Views.{Views, Agree, both_present}
+use Rattle.hm_safety.specs.Changes.{HasChanged, Clash}
 use Rattle.hm_safety.specs.Safety.{IsTopmostMark, IsSafe}
 
 abbrev before : Archive → Tree → Tree → Views
