@@ -1,5 +1,5 @@
 -- What is put behind a line in two steps.
-use Rattle.std.proofs.Common.{◌≡◌, ℕ, List, [], ◌∷◌, ◌++◌, Result, sym, ap, ◌∙◌}
+use Rattle.std.proofs.Common.{◌≡◌, ℕ, List, ◌++◌, Result, sym, ap, ◌∙◌}
 use Rattle.std.specs.Prelude.{OnOk}
 use Rattle.std.proofs.lemmas.List.{append_assoc}
 use Rattle.std.proofs.lemmas.Result.{on_ok_weaker}
@@ -10,11 +10,3 @@ behind_both r line mid new first second third is h =
     on_ok_weaker r
     (λ e. e ∙ ap (λ l. l ++ (second ++ third)) is ∙ append_assoc line first (second ++ third)
     ∙ ap (λ l. line ++ l) (sym (append_assoc first second third))) h
-
--- the same with one byte between
-pub behind_pushed : {E : Type 0} (r : Result (Unit {0}) E) (line mid pushed new first : List ℕ) (byte : ℕ) (third : List ℕ)
-    → mid ≡ line ++ first → pushed ≡ mid ++ byte ∷ [] → OnOk r (new ≡ pushed ++ third)
-    → OnOk r (new ≡ line ++ (first ++ byte ∷ [] ++ third))
-behind_pushed r line mid pushed new first byte third is more h =
-    behind_both r line mid new first (byte ∷ []) third is
-    (on_ok_weaker r (λ e. e ∙ ap (λ l. l ++ third) more ∙ append_assoc mid (byte ∷ []) third) h)

@@ -3,8 +3,7 @@ use Rattle.std.proofs.Common.{◌≡◌, List, ◌∷◌, find, Option, Some, No
 use Rattle.std.specs.Option.{option_map, option_or}
 use Rattle.hm_files.specs.declared.slot.Slot.{Slot}
 use Rattle.hm_files.specs.Files.{File}
-use Rattle.hm_command.specs.Words.{has_name_of, first_pair}
-use Rattle.hm_command.specs.Files.{slot_of, slot_pair}
+use Rattle.hm_command.specs.Words.{has_name_of, first_pair, slot_of, slot_pair}
 
 module _ (f : File) (fs : List File) where
   here : (found : Option File) (rest : Option (File × File)) (s : Slot) → slot_of found ≡ Some s

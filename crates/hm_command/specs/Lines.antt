@@ -62,9 +62,8 @@ stop_text Memory = []
 
 -- the line of a run that stopped so, with a line feed behind it; none for want of memory
 abbrev pub line_of : Stop → List ℕ
-line_of (Refused refusal) = stop_text (Refused refusal) ++ 10 ∷ []
-line_of (Fault kind at) = stop_text (Fault kind at) ++ 10 ∷ []
 line_of Memory = []
+line_of stop = stop_text stop ++ 10 ∷ []
 
 -- what a run whose work came to this has to say
 abbrev pub output_of : Result Output Stop → List ℕ
@@ -75,8 +74,7 @@ output_of (Err stop) = line_of stop
 
 abbrev pub refusal_status : Refusal → ℕ
 refusal_status Usage = 2
-refusal_status (SameName one two) = 3
-refusal_status (At at fault) = 3
+refusal_status _ = 3
 
 -- of a run whose work came to this, where all that it had to say was put out
 abbrev pub work_status : Result Output Stop → ℕ
@@ -87,10 +85,9 @@ work_status (Err Memory) = 5
 
 -- a fault of the sink while an output was put has a status of its own; while a line was put it has none
 abbrev pub put_status : Result Output Stop → Put → ℕ
-put_status work put.Done = work_status work
-put_status (Ok output) put.Failed = 6
-put_status (Err stop) put.Failed = work_status (Err stop)
 put_status work put.Memory = 5
+put_status (Ok output) put.Failed = 6
+put_status work answer = work_status work
 
 abbrev pub status_of : Ending → ℕ
 status_of ending = put_status ending.work ending.put

@@ -1,12 +1,14 @@
 -- What the words behind the program's name mean.
-use Rattle.std.specs.Prelude.{Bool, false, not, ◌||◌, ◌==◌, if◌then◌else◌, List, [], ◌∷◌, find, codes, Option, Some, None, Result, Ok, Err}
+use Rattle.std.specs.Prelude.{◌≡◌, Bool, false, not, ◌||◌, ◌==◌, if◌then◌else◌, List, [], ◌∷◌, find, codes, Option, Some, None, Result, Ok, Err}
 use Rattle.std.specs.Option.{option_map, option_or}
 use Rattle.std.specs.Str.{bytes_eq}
 use Rattle.hm_tree.specs.Names.{Name}
+use Rattle.hm_files.specs.declared.slot.Slot.{Slot}
 use Rattle.hm_files.specs.declared.slot.Slot.TheVariants.{Schema, Archive, A, B}
 use Rattle.hm_files.specs.declared.stop.Refusal.{Refusal}
 use Rattle.hm_files.specs.declared.stop.Refusal.TheVariants.{Usage, SameName}
 use Rattle.hm_files.specs.Files.{File}
+use Rattle.hm_command.specs.declared.words.Files.{Files}
 
 -- the names of the files of a synchronisation
 pub record FileNames : Type 0 where
@@ -51,3 +53,19 @@ meaning (command ∷ schema ∷ archive ∷ left ∷ right ∷ []) =
     then Err Usage
     else apart files (first_pair (slots files))
 meaning _ = Err Usage
+
+-- ---- what is found, seen so
+
+abbrev pub names : Files → FileNames
+names files = record { schema = files.schema.now; archive = files.archive.now; left = files.left.now; right = files.right.now }
+
+-- the answer is what it should be, seen so
+abbrev pub Answers : {A B : Type 0} → (A → B) → Result A Refusal → Result B Refusal → Type 0
+Answers seen (Ok x) wanted = wanted ≡ Ok (seen x)
+Answers seen (Err refusal) wanted = wanted ≡ Err refusal
+
+abbrev pub slot_pair : Option (File × File) → Option (Slot × Slot)
+slot_pair pair = option_map (λ (p : File × File). (p.0.slot, p.1.slot)) pair
+
+abbrev pub slot_of : Option File → Option Slot
+slot_of found = option_map (λ (f : File). f.slot) found

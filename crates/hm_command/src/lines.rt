@@ -1,5 +1,5 @@
 //! What a run that stops says, in one line, and the exit status of each end.
-ghost use Rattle.std.specs.Prelude.{◌≡◌, ◌++◌, ◌∷◌, [], IfOk, OnOk};
+ghost use Rattle.std.specs.Prelude.{◌≡◌, ◌++◌, ◌∷◌, [], codes, IfOk, OnOk};
 ghost use Rattle.std.specs.Fmt.{decimal};
 ghost use Rattle.hm_files.specs.declared.stop.FileFault.TheVariants.{BadReplica, Overgrown};
 ghost use Rattle.hm_command.specs.Lines.{slot_name, archive_fault_text, replica_fault_text, fault_text, refusal_text, call_name, stop_text, line_of, refusal_status, work_status, status_of};
@@ -49,26 +49,26 @@ fn put_number(alloc: Global, line: &mut Vec<u8>, before: &[u8], number: usize) -
     Ok(())
 }
 
-// Puts what is wrong with an archive behind a line.
-fn put_archive_fault(alloc: Global, line: &mut Vec<u8>, fault: ArchiveFault) -> Result<(), Memory>
-    ensures { OnOk result (line.new.items ≡ line.old.items ++ archive_fault_text fault) }
+// Puts that an archive isn't read behind a line.
+fn put_bad_archive(alloc: Global, line: &mut Vec<u8>, fault: ArchiveFault) -> Result<(), Memory>
+    ensures { OnOk result (line.new.items ≡ line.old.items ++ (codes "BadArchive " ++ archive_fault_text fault)) }
 {
     match fault {
-        ArchiveFault::At(at) => put_number(alloc, line, b"at ", at),
-        ArchiveFault::Deep => Ok(line.extend_from_slice(b"deep")?),
+        ArchiveFault::At(at) => put_number(alloc, line, b"BadArchive at ", at),
+        ArchiveFault::Deep => Ok(line.extend_from_slice(b"BadArchive deep")?),
     }
 }
 
-// Puts what is wrong with a replica behind a line.
+// Puts a space, and then what is wrong with a replica, behind a line.
 fn put_replica_fault(alloc: Global, line: &mut Vec<u8>, fault: &ReplicaFault) -> Result<(), Memory>
-    ensures { OnOk result (line.new.items ≡ line.old.items ++ replica_fault_text fault.now) }
+    ensures { OnOk result (line.new.items ≡ line.old.items ++ (codes " " ++ replica_fault_text fault.now)) }
 {
     match fault {
-        ReplicaFault::NotUtf8(at) => put_number(alloc, line, b"NotUtf8 ", *at),
-        ReplicaFault::BadItem(at) => put_number(alloc, line, b"BadItem ", *at),
-        ReplicaFault::TooDeep(depth) => put_number(alloc, line, b"TooDeep ", *depth),
+        ReplicaFault::NotUtf8(at) => put_number(alloc, line, b" NotUtf8 ", *at),
+        ReplicaFault::BadItem(at) => put_number(alloc, line, b" BadItem ", *at),
+        ReplicaFault::TooDeep(depth) => put_number(alloc, line, b" TooDeep ", *depth),
         ReplicaFault::Outside(path) => {
-            line.extend_from_slice(b"Outside ")?;
+            line.extend_from_slice(b" Outside ")?;
             append_path(path, line)
         }
     }
@@ -84,11 +84,11 @@ fn put_bad_replica(
     ensures { OnOk result (line.new.items ≡ line.old.items ++ fault_text slot (BadReplica fault.now)) }
 {
     put_slot(line, b"BadReplica ", slot)?;
-    line.push(b' ')?;
     put_replica_fault(alloc, line, fault)
 }
 
 // Puts that a new file is too large behind a line.
+#[tactic(auto, using(crate::proofs::Behind::behind_both))]
 fn put_overgrown(alloc: Global, line: &mut Vec<u8>, slot: Slot, size: usize) -> Result<(), Memory>
     ensures { OnOk result (line.new.items ≡ line.old.items ++ fault_text slot (Overgrown size)) }
 {
@@ -104,10 +104,7 @@ fn put_fault(alloc: Global, line: &mut Vec<u8>, slot: Slot, fault: &FileFault) -
         FileFault::Missing => put_slot(line, b"Missing ", slot),
         FileFault::TooLarge => put_slot(line, b"TooLarge ", slot),
         FileFault::BadSchema(at) => put_number(alloc, line, b"BadSchema ", *at),
-        FileFault::BadArchive(fault) => {
-            line.extend_from_slice(b"BadArchive ")?;
-            put_archive_fault(alloc, line, *fault)
-        }
+        FileFault::BadArchive(fault) => put_bad_archive(alloc, line, *fault),
         FileFault::BadReplica(fault) => put_bad_replica(alloc, line, slot, fault),
         FileFault::Overgrown(size) => put_overgrown(alloc, line, slot, *size),
     }

@@ -1,9 +1,8 @@
 //! The words behind the program's name.
-ghost use Rattle.std.specs.Prelude.{◌≡◌, ◌≤◌, codes, drop, find, length, map};
+ghost use Rattle.std.specs.Prelude.{◌≡◌, codes, find, map};
 ghost use Rattle.std.specs.Str.{bytes_eq};
 ghost use Rattle.hm_files.specs.Files.{file_of};
-ghost use Rattle.hm_command.specs.Words.{meaning, slots, first_pair, has_name_of, is_flag};
-ghost use Rattle.hm_command.specs.Files.{names, Answers, slot_of, slot_pair};
+ghost use Rattle.hm_command.specs.Words.{meaning, slots, first_pair, has_name_of, is_flag, names, Answers, slot_of, slot_pair};
 
 use hm_files::{Named, Refusal, Slot};
 use hm_tree::Name;
@@ -77,26 +76,18 @@ fn first_same(file: Named<'_>, others: &[Named<'_>]) -> Option<Slot>
     None
 }
 
-// What stands behind the first files.
-fn behind<'a, 'b>(files: &'b [Named<'a>], count: usize) -> &'b [Named<'a>]
-    requires { count ≤ length files.now }
-    ensures { map file_of result.now ≡ map file_of (drop count files.now) }
-{
-    &files[count..]
-}
-
 // The first two slots with one name, by the first slot and then the second.
+#[tactic(auto, using(crate::proofs::Pairs::pair_found, crate::proofs::Pairs::pair_later), unfolding(crate::specs::Words::first_pair))]
 fn first_pair(files: &[Named<'_>]) -> Option<(Slot, Slot)>
     ensures { result ≡ slot_pair (first_pair (map file_of files.now)) }
 {
-    for place in 0..files.len() {
-        let file = files[place];
-        let others = behind(files, place + 1);
-        if let Some(other) = first_same(file, others) {
-            return Some((file.slot, other));
-        }
+    let [file, others @ ..] = files else {
+        return None;
+    };
+    match first_same(*file, others) {
+        Some(other) => Some((file.slot, other)),
+        None => first_pair(others),
     }
-    None
 }
 
 /// The names of the files that the words give: `sync SCHEMA ARCHIVE A B`, of which none begins with `-` and no two are

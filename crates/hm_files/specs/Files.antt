@@ -1,5 +1,6 @@
 -- The files of a run: what is found of them, what their new texts are refused for, and what writing leaves.
-use Rattle.std.specs.Prelude.{◌≡◌, ◌⊎◌, ℕ, Bool, true, false, nat_lt, if◌then◌else◌, List, [], ◌∷◌, ◌++◌, length, map, Vec, Option, Some, None, Result, Ok, Err}
+use Rattle.std.specs.Prelude.{◌≡◌, ◌⊎◌, ℕ, Bool, true, false, nat_lt, if◌then◌else◌, List, [], ◌∷◌, ◌++◌, length, map, find, Vec, Option, Some, None, Result, Ok, Err}
+use Rattle.std.specs.List.{fold}
 use Rattle.std.specs.declared.alloc.Global.{Global}
 use Rattle.hm_tree.specs.Names.{Name}
 use Rattle.hm_outside.specs.Contents.{Contents, held, replaced}
@@ -8,13 +9,13 @@ use Rattle.hm_outside.specs.declared.outside.Failure.{Failure}
 use Rattle.hm_outside.specs.declared.outside.Kind.{Kind}
 use Rattle.hm_outside.specs.declared.outside.Kind.TheVariants.{Load, Replace}
 use Rattle.hm_files.specs.declared.slot.Slot.{Slot}
-use Rattle.hm_files.specs.declared.slot.Slot.TheVariants.{Schema, Archive, A, B}
+use Rattle.hm_files.specs.declared.slot.Slot.TheVariants.{Archive}
 use Rattle.hm_files.specs.declared.slot.Named.{Named}
 use Rattle.hm_files.specs.declared.slot.NewFile.{NewFile}
 use Rattle.hm_files.specs.declared.stop.FileFault.TheVariants.{Missing, TooLarge, Overgrown}
 use Rattle.hm_files.specs.declared.stop.Refusal.{Refusal}
 use Rattle.hm_files.specs.declared.stop.Refusal.TheVariants.{At}
-use Rattle.hm_files.specs.Did.{WhereTold}
+use Rattle.hm_files.specs.Steps.{WhereTold}
 
 -- the greatest number of bytes of a file
 abbrev pub limit : ℕ
@@ -38,10 +39,8 @@ all_bytes v = map bytes_of v.items
 
 -- the archive alone may be absent
 abbrev pub may_lack : Slot → Bool
-may_lack Schema = false
 may_lack Archive = true
-may_lack A = false
-may_lack B = false
+may_lack _ = false
 
 -- what is found of what a slot's name has in the store; an archive that is absent has no bytes
 abbrev pub load : Slot → Option (List ℕ) → Result (List ℕ) Refusal
@@ -53,19 +52,22 @@ abbrev pub ◌>>=◌ : {A B : Type 0} → Result A Refusal → (A → Result B R
 (Ok x) >>= f = f x
 (Err e) >>= f = Err e
 
+-- the bytes of one file more, behind those that were found
+abbrev pub load_next : Contents → Result (List (List ℕ)) Refusal → File → Result (List (List ℕ)) Refusal
+load_next c found f = do
+  all ← found
+  bytes ← load f.slot (held c f.name)
+  Ok (all ++ bytes ∷ [])
+
 -- the bytes of the files, or the first that is refused
 unfoldable pub loads : Contents → List File → Result (List (List ℕ)) Refusal
-loads c [] = Ok []
-loads c (f ∷ fs) = do
-  bytes ← load f.slot (held c f.name)
-  others ← loads c fs
-  Ok (bytes ∷ others)
+loads c files = fold (load_next c) (Ok []) files
 
--- this file can't be read: a load of its name has failed
-pub record IsUnread (f : File) (before after : List Failure) (kind : Kind) (at : Slot) : Type 0 where
-  pub is_at : at ≡ f.slot
-  pub is_load : kind ≡ Load
-  pub risen : HasRisen Load f.name before after
+-- a call for the file of this slot has failed
+pub record HasFailed (call : Kind) (slot : Slot) (name : Name) (before after : List Failure) (kind : Kind) (at : Slot) : Type 0 where
+  pub is_call : kind ≡ call
+  pub is_at : at ≡ slot
+  pub risen : HasRisen call name before after
 
 -- one of the files can't be read, and those before it were found
 pub record AreUnread (told : Option Contents) (files : List File) (before after : List Failure) (kind : Kind) (at : Slot) : Type 0 where
@@ -73,7 +75,7 @@ pub record AreUnread (told : Option Contents) (files : List File) (before after 
   pub here : File
   pub later : List File
   pub among : files ≡ earlier ++ here ∷ later
-  pub unread : IsUnread here before after kind at
+  pub unread : HasFailed Load here.slot here.name before after kind at
   pub found : WhereTold told (λ c. (all : List (List ℕ)) × (loads c earlier ≡ Ok all))
 
 -- ---- measuring
@@ -87,29 +89,26 @@ pub record New : Type 0 where
 abbrev pub new_of : NewFile → New
 new_of f = record { slot = f.slot; name = f.name.now; bytes = f.bytes.items }
 
--- a new text has at most as many bytes as a file may have, or it is refused
-abbrev pub measure : New → Result (Unit {0}) Refusal
-measure f = if nat_lt limit (length f.bytes) then Err (At f.slot (Overgrown (length f.bytes))) else Ok tt
+abbrev pub is_overgrown : New → Bool
+is_overgrown f = nat_lt limit (length f.bytes)
 
--- so has each, or the first that has more is refused
+-- the first new text that has more bytes than a file may have is refused
+abbrev pub overgrown : Option New → Result (Unit {0}) Refusal
+overgrown None = Ok tt
+overgrown (Some f) = Err (At f.slot (Overgrown (length f.bytes)))
+
 unfoldable pub measures : List New → Result (Unit {0}) Refusal
-measures [] = Ok tt
-measures (f ∷ fs) = do
-  size ← measure f
-  measures fs
+measures files = overgrown (find is_overgrown files)
 
 -- ---- writing
 
 -- the contents with the bytes of these files in them
 unfoldable pub written : Contents → List New → Contents
-written c [] = c
-written c (f ∷ fs) = written (replaced c f.name f.bytes) fs
+written c files = fold (λ d f. replaced d f.name f.bytes) c files
 
 -- a replace of the name of this file has failed, and the file is old or new
 pub record IsUnwritten (told left : Option Contents) (f : New) (before after : List Failure) (kind : Kind) (at : Slot) : Type 0 where
-  pub is_at : at ≡ f.slot
-  pub is_replace : kind ≡ Replace
-  pub risen : HasRisen Replace f.name before after
+  pub failed : HasFailed Replace f.slot f.name before after kind at
   pub left_so : WhereTold told (λ c. (left ≡ Some c) ⊎ (left ≡ Some (replaced c f.name f.bytes)))
 
 -- one of the files can't be written, those before it are new, and those behind it are old
@@ -118,7 +117,5 @@ pub record AreUnwritten (told left : Option Contents) (files : List New) (before
   pub here : New
   pub later : List New
   pub among : files ≡ earlier ++ here ∷ later
-  pub is_at : at ≡ here.slot
-  pub is_replace : kind ≡ Replace
-  pub risen : HasRisen Replace here.name before after
+  pub failed : HasFailed Replace here.slot here.name before after kind at
   pub left_so : WhereTold told (λ c. (left ≡ Some (written c earlier)) ⊎ (left ≡ Some (written c (earlier ++ here ∷ []))))

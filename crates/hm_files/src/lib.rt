@@ -3,7 +3,7 @@
 //! A run goes over a list of files, each in its slot: all are loaded, the new ones are measured, and then they are
 //! written. So what is found of a file is said once, as a function of its slot and of what the store holds
 //! (`specs/Files`), and each loop says which file of its list it stopped at. Every step of a run has one form of
-//! contract, `Did` in `specs/Did`: it found what it finds, it was refused for a file, it met a fault of the store with
+//! contract, `Did` in `specs/Steps`: it found what it finds, it was refused for a file, it met a fault of the store with
 //! its cause, or it had no memory.
 #![tactic(auto)]
 

@@ -1,8 +1,9 @@
 //! Loading files, in order.
 ghost use Rattle.std.specs.Prelude.{◌≡◌, length, map, IfOk};
 ghost use Rattle.hm_outside.specs.Contents.{held};
-ghost use Rattle.hm_files.specs.Did.{Did, Finds};
-ghost use Rattle.hm_files.specs.Files.{file_of, bytes_of, all_bytes, load, loads, IsUnread, AreUnread, may_lack};
+ghost use Rattle.hm_outside.specs.declared.outside.Kind.TheVariants as call;
+ghost use Rattle.hm_files.specs.Steps.{Did, Finds};
+ghost use Rattle.hm_files.specs.Files.{file_of, bytes_of, all_bytes, load, loads, HasFailed, AreUnread, may_lack};
 
 use crate::slot::{LIMIT, Named, Slot};
 use crate::stop::{FileFault, Refusal, Stop};
@@ -17,8 +18,8 @@ fn may_lack(slot: Slot) -> bool
 
 fn load_one<S: Store>(alloc: Global, store: &mut S, file: Named<'_>) -> Result<Vec<u8>, Stop>
     ensures contents { S.contents store.new ≡ S.contents store.old }
-    ensures did { Did bytes_of (Finds (S.contents store.old) (λ c. load file.entry.slot (held c file.entry.name.now)))
-        (IsUnread (file_of file.entry) (S.failed store.old) (S.failed store.new)) (S.failed store.old) (S.failed store.new) result }
+    ensures did { Did (Finds (S.contents store.old) bytes_of (λ c. load file.entry.slot (held c file.entry.name.now)))
+        (HasFailed call.Load file.entry.slot file.entry.name.now (S.failed store.old) (S.failed store.new)) (S.failed store.old) (S.failed store.new) result }
 {
     match store.load(file.name, LIMIT) {
         Loaded::Bytes(bytes) => Ok(bytes),
@@ -41,7 +42,7 @@ pub fn load_all<S: Store>(
     files: &[Named<'_>],
 ) -> Result<Vec<Vec<u8>>, Stop>
     ensures contents { S.contents store.new ≡ S.contents store.old }
-    ensures did { Did all_bytes (Finds (S.contents store.old) (λ c. loads c (map file_of files.now)))
+    ensures did { Did (Finds (S.contents store.old) all_bytes (λ c. loads c (map file_of files.now)))
         (AreUnread (S.contents store.old) (map file_of files.now) (S.failed store.old) (S.failed store.new))
         (S.failed store.old) (S.failed store.new) result }
     ensures many { IfOk result (λ all. length all.items ≡ length files.now) }

@@ -2,7 +2,7 @@
 ghost use Rattle.std.specs.Prelude.{◌≡◌, ℕ, Some, Ok, Err, map, take};
 ghost use Rattle.hm_outside.specs.Contents.{replaced};
 ghost use Rattle.hm_files.specs.declared.stop.Stop.TheVariants.{Memory as OutOfMemory};
-ghost use Rattle.hm_files.specs.Did.{Did, Leaves, WhereTold, itself};
+ghost use Rattle.hm_files.specs.Steps.{Did, Leaves, WhereTold};
 ghost use Rattle.hm_files.specs.Files.{new_of, written, IsUnwritten, AreUnwritten};
 
 use crate::slot::NewFile;
@@ -10,7 +10,7 @@ use crate::stop::Stop;
 use hm_outside::{Kind, Store, Stored};
 
 fn write_one<S: Store>(store: &mut S, file: &NewFile<'_>) -> Result<(), Stop>
-    ensures did { Did itself (Leaves (S.contents store.old) (S.contents store.new) (λ c. replaced c file.now.name.now file.now.bytes.items))
+    ensures did { Did (Leaves (S.contents store.old) (S.contents store.new) (λ c. replaced c file.now.name.now file.now.bytes.items))
         (IsUnwritten (S.contents store.old) (S.contents store.new) (new_of file.now) (S.failed store.old) (S.failed store.new))
         (S.failed store.old) (S.failed store.new) result }
     ensures memory { result ≡ Err OutOfMemory → WhereTold (S.contents store.old) (λ c. S.contents store.new ≡ Some c) }
@@ -24,7 +24,7 @@ fn write_one<S: Store>(store: &mut S, file: &NewFile<'_>) -> Result<(), Stop>
 
 /// Writes the files in their order, so that a run that is broken off and run again comes to the same end.
 pub fn write_all<S: Store>(store: &mut S, files: &[NewFile<'_>]) -> Result<(), Stop>
-    ensures did { Did itself (Leaves (S.contents store.old) (S.contents store.new) (λ c. written c (map new_of files.now)))
+    ensures did { Did (Leaves (S.contents store.old) (S.contents store.new) (λ c. written c (map new_of files.now)))
         (AreUnwritten (S.contents store.old) (S.contents store.new) (map new_of files.now) (S.failed store.old) (S.failed store.new))
         (S.failed store.old) (S.failed store.new) result }
     // For want of memory the first few files may be new.

@@ -1,5 +1,5 @@
 -- A reader finds one result at the most, and so does a run.
-use Rattle.std.proofs.Common.{◌≡◌, ◌≢◌, ℕ, List, [], ◌∷◌, Option, Some, Result, Ok, Err, refl, sym, ◌∙◌, ap}
+use Rattle.std.proofs.Common.{◌≡◌, ℕ, List, Some, Result, Ok, Err, refl, sym, ◌∙◌, ap}
 use Rattle.hm_tree.specs.Nodes.{Tree}
 use Rattle.hm_tree.specs.States.{Path, state}
 use Rattle.hm_tree.proofs.PathLaws.{first_once}
@@ -23,28 +23,18 @@ use Rattle.hm_files.specs.declared.stop.Stop.TheVariants.{Refused}
 use Rattle.hm_files.specs.Steps.{FindsOne}
 use Rattle.hm_files.proofs.Steps.{sides_once, equals_once, then_once}
 use Rattle.hm_command.specs.Words.{FileNames}
-use Rattle.hm_run.specs.Reads.{Told, ChecksText, ChecksMember, ReadsReplica, ReadsFour, ReadsAll, Trees, schema_stop, archive_stop, replica_stop}
+use Rattle.hm_run.specs.declared.read.Inputs.{Inputs}
+use Rattle.hm_run.specs.Reads.{Told, ChecksText, ChecksMember, ReadsReplica, ReadsFour, ReadsAll, schema_stop, archive_stop, replica_stop}
 use Rattle.hm_run.specs.Verdict.{Synced, Plans, PlansFrom, VerdictOf, Becomes, Reconciles}
 
 -- ---- what a reader finds, told as a refusal
 
 told_once : {A F : Type 0} (tell : F → Stop) (reads : Result A F → Type 0) → FindsOne reads → FindsOne (Told tell reads)
 told_once {A} {F} tell reads once = sides_once (Told tell reads)
-    (λ x y h k. value x y (once (Ok x) (Ok y) h k))
-    (λ x f h k. apart x k.0 (once (Ok x) (Err k.0) h k.1))
-    (λ f g h k. same f g (sym h.2 ∙ ap tell (fault h.0 k.0 (once (Err h.0) (Err k.0) h.1 k.1)) ∙ k.2))
-  where
-    value : (x y : A) → ◌≡◌ {A = Result A F} (Ok x) (Ok y) → x ≡ y
-    value x y e = cc
-
-    apart : (x : A) (f : F) → ◌≡◌ {A = Result A F} (Ok x) (Err f) → ⊥
-    apart x f e = cc
-
-    fault : (f g : F) → ◌≡◌ {A = Result A F} (Err f) (Err g) → f ≡ g
-    fault f g e = cc
-
-    same : (f g : Refusal) → Refused f ≡ Refused g → f ≡ g
-    same f g e = cc
+    (λ x y h k. let e : ◌≡◌ {A = Result A F} (Ok x) (Ok y) = once _ _ h k in cc)
+    (λ x f h k. let e : ◌≡◌ {A = Result A F} (Ok x) (Err k.0) = once _ _ h k.1 in cc)
+    (λ f g h k. let e : ◌≡◌ {A = Result A F} (Err h.0) (Err k.0) = once _ _ h.1 k.1 in
+    let same : h.0 ≡ k.0 = cc in let told : Refused f ≡ Refused g = sym h.2 ∙ ap tell same ∙ k.2 in cc)
 
 -- ---- a replica
 
@@ -74,30 +64,17 @@ four_once schema archive left right =
     then_once _ _ (replica_once s slot.A left) (λ a.
     then_once _ _ (replica_once s slot.B right) (λ b. equals_once _))))
 
-all_once : (all : List (List ℕ)) → FindsOne (ReadsAll all)
-all_once (x ∷ y ∷ z ∷ w ∷ []) = four_once x y z w
-all_once [] = λ r s h k. absurd h
-all_once (x ∷ []) = λ r s h k. absurd h
-all_once (x ∷ y ∷ []) = λ r s h k. absurd h
-all_once (x ∷ y ∷ z ∷ []) = λ r s h k. absurd h
-all_once (x ∷ y ∷ z ∷ w ∷ v ∷ vs) = λ r s h k. absurd h
-
 -- ---- the verdict
 
-some_tree : (t u : Tree) → ◌≡◌ {A = Option Tree} (Some t) (Some u) → t ≡ u
-some_tree t u e = cc
-
-becomes_once : (before : Trees) (one other : Synced) → Becomes before one → Becomes before other → one ≡ other
+becomes_once : (before : Inputs) (one other : Synced) → Becomes before one → Becomes before other → one ≡ other
 becomes_once before one other h k =
     let e = outcome_once before.schema before.schema.root (given before.archive before.left before.right)
     (given one.archive one.left one.right) (given other.archive other.left other.right) h k in
-    λ i. record {
-      archive = (e i).archive;
-      left = some_tree one.left other.left (ap (λ (t : Trio). t.left) e) i;
-      right = some_tree one.right other.right (ap (λ (t : Trio). t.right) e) i;
-    }
+    let left : one.left ≡ other.left = let l = ap (λ (t : Trio). t.left) e in cc in
+    let right : one.right ≡ other.right = let r = ap (λ (t : Trio). t.right) e in cc in
+    λ i. record { archive = (e i).archive; left = left i; right = right i }
 
-plans_once : (files : FileNames) (before : Trees) → FindsOne (Plans files before)
+plans_once : (files : FileNames) (before : Inputs) → FindsOne (Plans files before)
 unfolding Plans
 plans_once files before =
     then_once _ _ (sides_once (Reconciles before) (becomes_once before) (λ x f h k. k) (λ f g h k. absurd h)) (λ after.
@@ -105,6 +82,6 @@ plans_once files before =
 
 -- there is one verdict at the most
 pub verdict_once : (c : Contents) (meant : Result FileNames Refusal) → FindsOne (VerdictOf c meant)
-unfolding VerdictOf PlansFrom
+unfolding VerdictOf PlansFrom ReadsAll
 verdict_once c meant =
-    then_once _ _ (equals_once _) (λ files. then_once _ _ (equals_once _) (λ all. then_once _ _ (all_once all) (plans_once files)))
+    then_once _ _ (equals_once _) (λ files. then_once _ _ (equals_once _) (λ all. then_once _ _ (four_once _ _ _ _) (plans_once files)))

@@ -1,29 +1,74 @@
--- How a run ends: the cause, what it leaves in the store, and what it puts out.
-use Rattle.std.specs.Prelude.{◌≡◌, ◌⊎◌, ℕ, ◌<◌, List, ◌++◌, length, Option, Some, Result, Ok, Err}
+-- How a run ends: what its work came to and left, how that was put out, and what a user relies on.
+use Rattle.std.specs.Prelude.{◌≡◌, ◌⊎◌, ℕ, ◌<◌, List, ◌++◌, Option, Some, Result, Ok, Err}
 use Rattle.hm_tree.specs.Names.{Name}
-use Rattle.hm_outside.specs.Contents.{Contents}
-use Rattle.hm_outside.specs.Answers.{PutsAfter}
-use Rattle.hm_outside.specs.declared.outside.Failure.{Failure}
-use Rattle.hm_outside.specs.declared.outside.Put.{Put}
-use Rattle.hm_outside.specs.declared.outside.Put.TheVariants as put
 use Rattle.hm_tree.specs.States.{Path, state}
 use Rattle.hm_schema.specs.Membership.{IsMember}
 use Rattle.hm_safety.specs.Safety.{IsTopmostMark, IsSafe}
 use Rattle.hm_outcome.specs.Trios.{Trio, given, views, Differ}
 use Rattle.hm_outcome.specs.Outcomes.{IsOutcome, IsMaximal, IsOnlyOne}
-use Rattle.hm_report.specs.declared.conflict.Conflict.{Conflict}
 use Rattle.hm_report.specs.Conflicts.{AreExplained}
 use Rattle.hm_report.specs.Text.{report_text}
+use Rattle.hm_outside.specs.Contents.{Contents}
+use Rattle.hm_outside.specs.Answers.{PutsAfter}
+use Rattle.hm_outside.specs.declared.outside.Failure.{Failure}
+use Rattle.hm_outside.specs.declared.outside.Kind.{Kind}
+use Rattle.hm_outside.specs.declared.outside.Put.{Put}
+use Rattle.hm_outside.specs.declared.outside.Put.TheVariants as put
+use Rattle.hm_files.specs.declared.slot.Slot.{Slot}
 use Rattle.hm_files.specs.declared.stop.Refusal.{Refusal}
 use Rattle.hm_files.specs.declared.stop.Stop.{Stop}
-use Rattle.hm_files.specs.declared.stop.Stop.TheVariants.{Memory}
-use Rattle.hm_files.specs.Did.{WhereTold}
+use Rattle.hm_files.specs.declared.stop.Stop.TheVariants.{Refused, Memory}
+use Rattle.hm_files.specs.Steps.{WhereTold, Did}
+use Rattle.hm_files.specs.Files.{AreUnread, AreUnwritten}
 use Rattle.hm_command.specs.declared.ending.Output.{Output}
 use Rattle.hm_command.specs.declared.ending.Ending.{Ending}
-use Rattle.hm_command.specs.Words.{meaning}
+use Rattle.hm_command.specs.Words.{FileNames, slots, meaning}
 use Rattle.hm_command.specs.Lines.{output_of, refusal_status}
-use Rattle.hm_run.specs.Verdict.{Plan, Verdict, AreRead, texts_of, stop_state, HasConflicts, conflicts_status}
-use Rattle.hm_run.specs.Work.{Works}
+use Rattle.hm_run.specs.declared.read.Inputs.{Inputs}
+use Rattle.hm_run.specs.Verdict.{Plan, Synced, Verdict, VerdictOf, AreRead, IsReport, texts_of, news_of, stop_state, TellsConflicts}
+
+-- ---- what the work came to before its output is put, by what the words mean
+
+-- the store has the plan of these contents carried out as far as its first n files
+pub record IsStopState (meant : Result FileNames Refusal) (c : Contents) (left : Option Contents) (n : ℕ) : Type 0 where
+  pub plan : Plan
+  pub planned : VerdictOf c meant (Ok plan)
+  pub is : left ≡ Some (stop_state c plan n)
+
+-- the whole plan is carried out, and the output tells the conflicts that remain
+pub record IsDone (meant : Result FileNames Refusal) (c : Contents) (output : Output) (left : Option Contents) : Type 0 where
+  pub state : IsStopState meant c left 3
+  pub tells : IsReport state.plan.before state.plan.after output
+
+-- the whole plan is carried out; or the refusal is the first one that holds, and nothing has changed
+abbrev pub Synchronises : Result FileNames Refusal → Option Contents → Option Contents → Result Output Refusal → Type 0
+Synchronises meant told left (Ok output) = WhereTold told (λ c. IsDone meant c output left)
+Synchronises meant told left (Err refusal) = WhereTold told (λ c. VerdictOf c meant (Err refusal) × (left ≡ Some c))
+
+-- one of the new files of a plan could not be written
+pub record IsUnfinished (files : FileNames) (told left : Option Contents) (before after : List Failure) (kind : Kind) (at : Slot) : Type 0 where
+  pub old : Inputs
+  pub new : Synced
+  pub unwritten : AreUnwritten told left (news_of files (texts_of new)) before after kind at
+  pub planned : WhereTold told (λ c. VerdictOf c (Ok files) (Ok (record { files = files; before = old; after = new })))
+
+-- a file could not be read, and nothing has changed; or one could not be written
+abbrev pub IsFault : FileNames → Option Contents → Option Contents → List Failure → List Failure → Kind → Slot → Type 0
+IsFault files told left before after kind at =
+    (AreUnread told (slots files) before after kind at × (left ≡ told)) ⊎ IsUnfinished files told left before after kind at
+
+-- for want of memory the contents are as before, or a plan was carried out as far as some file
+abbrev pub IsCutOff : FileNames → Option Contents → Option Contents → Type 0
+IsCutOff files told left = WhereTold told (λ c. (left ≡ Some c) ⊎ ((n : ℕ) × IsStopState (Ok files) c left n))
+
+-- the work of words that mean files, and that of words that mean none
+abbrev pub Works : Result FileNames Refusal → Option Contents → Option Contents → List Failure → List Failure → Result Output Stop → Type 0
+Works (Ok files) told left before after work =
+    Did (Synchronises (Ok files) told left) (IsFault files told left before after) before after work
+    × (work ≡ Err Memory → IsCutOff files told left)
+Works (Err refusal) told left before after work = (work ≡ Err (Refused refusal)) × (left ≡ told) × (after ≡ before)
+
+-- ---- how the run ends
 
 -- what is known of the store and the sink at one moment
 pub record Outside : Type 0 where
@@ -39,23 +84,17 @@ TellsFaults put.Failed before after = before < after
 TellsFaults put.Memory before after = after ≡ before
 
 -- how what the work had to say was put out; for want of memory it has nothing to say
-pub record HasPut (work : Result Output Stop) (answer : Put) (before after : Outside) : Type 0 where
-  pub written : WhereTold before.written (λ w. PutsAfter w (output_of work) answer after.written)
-  pub faults : TellsFaults answer before.faults after.faults
+pub record HasPut (work : Result Output Stop) (answer : Put) (before after : Option (List ℕ)) (old new : ℕ) : Type 0 where
+  pub written : WhereTold before (λ w. PutsAfter w (output_of work) answer after)
+  pub faults : TellsFaults answer old new
   pub silent : work ≡ Err Memory → answer ≡ put.Memory
 
 -- a run of these words ends so
 pub record EndsAs (ending : Ending) (words : List Name) (before after : Outside) : Type 0 where
   pub works : Works (meaning words) before.contents after.contents before.failed after.failed ending.work
-  pub puts : HasPut ending.work ending.put before after
+  pub puts : HasPut ending.work ending.put before.written after.written before.faults after.faults
 
 -- ---- what a user relies on
-
--- the status tells whether conflicts remain
-pub record TellsConflicts (plan : Plan) (status : ℕ) : Type 0 where
-  pub conflicts : List Conflict
-  pub remain : HasConflicts plan.before plan.after conflicts
-  pub told : status ≡ conflicts_status (length conflicts)
 
 -- what was read, and what it became
 abbrev pub old_trio : Plan → Trio
@@ -82,23 +121,21 @@ pub record IsSynchronised (words : List Name) (c : Contents) (status : ℕ) (lef
   pub outcome : IsOutcome plan.before.schema plan.before.schema.root (old_trio plan) (new_trio plan)
   pub best : IsMaximal plan.before.schema plan.before.schema.root (old_trio plan) (new_trio plan)
   pub only : IsOnlyOne plan.before.schema plan.before.schema.root (old_trio plan) (new_trio plan)
-  pub tells : TellsConflicts plan status
+  pub tells : TellsConflicts plan.before plan.after status
 
 -- the conflicts that remain are put behind the bytes that were written before; wherever the new replicas don't agree, one
 -- of them alone stands there or above, and it shows why; and at each of them the new replicas differ
 pub record IsReported (words : List Name) (c : Contents) (w : List ℕ) (status : ℕ) (out : Option (List ℕ)) : Type 0 where
   pub plan : Plan
   pub planned : IsPlan words c plan
-  pub conflicts : List Conflict
-  pub remain : HasConflicts plan.before plan.after conflicts
-  pub told : status ≡ conflicts_status (length conflicts)
-  pub put : out ≡ Some (w ++ report_text conflicts)
-  pub explained : AreExplained plan.before.schema plan.before.schema.root (views (old_trio plan)) (views (new_trio plan)) conflicts
+  pub tells : TellsConflicts plan.before plan.after status
+  pub put : out ≡ Some (w ++ report_text tells.conflicts)
+  pub explained : AreExplained plan.before.schema plan.before.schema.root (views (old_trio plan)) (views (new_trio plan)) tells.conflicts
   pub apart : (p : Path) → IsTopmostMark (state plan.after.archive) p → Differ (views (new_trio plan)) p
 
 -- what was to be done is done: a plan is carried out, or nothing has changed after the refusal
 abbrev pub IsCarriedOut : Contents → ℕ → Option Contents → Result Plan Refusal → Type 0
-IsCarriedOut c status left (Ok plan) = TellsConflicts plan status × (left ≡ Some (stop_state c plan 3))
+IsCarriedOut c status left (Ok plan) = TellsConflicts plan.before plan.after status × (left ≡ Some (stop_state c plan 3))
 IsCarriedOut c status left (Err refusal) = (status ≡ refusal_status refusal) × (left ≡ Some c)
 
 -- where nothing outside fails, what was to be done is done, unless memory runs out

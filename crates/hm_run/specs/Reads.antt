@@ -1,8 +1,7 @@
 -- What reading the four files finds: each reader's relation, with its faults told as refusals.
-use Rattle.std.specs.Prelude.{◌≡◌, ℕ, List, [], ◌∷◌, Some, Result, Ok, Err, IsUtf8}
+use Rattle.std.specs.Prelude.{◌≡◌, ℕ, List, [], get_or, Some, Result, Ok, Err, IsUtf8}
 use Rattle.std.specs.Str.Lossy.{utf8_valid_len}
 use Rattle.hm_tree.specs.Nodes.{Tree}
-use Rattle.hm_tree.specs.Archives.{Archive}
 use Rattle.hm_tree.specs.States.{Path, state}
 use Rattle.hm_tree_text.specs.Reads.{ReadsTree, ReadsArchive}
 use Rattle.hm_tree_text.specs.declared.fault.TextFault.{TextFault}
@@ -22,6 +21,7 @@ use Rattle.hm_files.specs.declared.stop.Refusal.TheVariants.{At}
 use Rattle.hm_files.specs.declared.stop.Stop.{Stop}
 use Rattle.hm_files.specs.declared.stop.Stop.TheVariants.{Refused, Memory}
 use Rattle.hm_files.specs.Steps.{Then}
+use Rattle.hm_run.specs.declared.read.Inputs.{Inputs}
 
 -- ---- the faults of readers, as what stops a run
 
@@ -62,14 +62,7 @@ ReadsReplica s at bytes =
 
 -- ---- the four files
 
--- a schema, an archive and two replicas
-pub record Trees : Type 0 where
-  pub schema : SchemaValue
-  pub archive : Archive
-  pub left : Tree
-  pub right : Tree
-
-unfoldable pub ReadsFour : List ℕ → List ℕ → List ℕ → List ℕ → Result Trees Refusal → Type 0
+unfoldable pub ReadsFour : List ℕ → List ℕ → List ℕ → List ℕ → Result Inputs Refusal → Type 0
 ReadsFour schema archive left right =
     Then (Told schema_stop (ReadsSchema schema)) (λ s.
     Then (Told archive_stop (ReadsArchive archive)) (λ o.
@@ -78,6 +71,5 @@ ReadsFour schema archive left right =
     r ≡ Ok (record { schema = s; archive = o; left = a; right = b })))))
 
 -- by the bytes of the files in the order of their slots
-abbrev pub ReadsAll : List (List ℕ) → Result Trees Refusal → Type 0
-ReadsAll (schema ∷ archive ∷ left ∷ right ∷ []) found = ReadsFour schema archive left right found
-ReadsAll _ found = ⊥
+unfoldable pub ReadsAll : List (List ℕ) → Result Inputs Refusal → Type 0
+ReadsAll all = ReadsFour (get_or all 0 []) (get_or all 1 []) (get_or all 2 []) (get_or all 3 [])

@@ -1,11 +1,10 @@
 -- What a run over these contents is to do: the first refusal in the order of the checks, or a plan.
-use Rattle.std.specs.Prelude.{◌≡◌, ℕ, zero, suc, List, [], ◌∷◌, length, take, Result, Ok, Err, IsUtf8}
+use Rattle.std.specs.Prelude.{◌≡◌, ℕ, zero, suc, List, [], ◌∷◌, length, take, Result, Ok, Err, IsUtf8, map, Some}
 use Rattle.hm_tree.specs.Names.{Name}
 use Rattle.hm_tree.specs.Nodes.{Tree}
-use Rattle.hm_tree.specs.Archives.{Archive}
+use Rattle.hm_tree.specs.Archives.{Archive, recorded}
 use Rattle.hm_tree.specs.States.{state}
 use Rattle.hm_tree_text.specs.Text.{tree_text, archive_text}
-use Rattle.hm_tree_text.specs.declared.fault.TextFault.{TextFault}
 use Rattle.hm_tree_text.specs.Reads.{ReadsTree, ReadsArchive}
 use Rattle.hm_outcome.specs.Trios.{given, views}
 use Rattle.hm_outcome.specs.Outcomes.{IsOutcome}
@@ -16,10 +15,14 @@ use Rattle.hm_outside.specs.Contents.{Contents}
 use Rattle.hm_files.specs.declared.slot.Slot.TheVariants as slot
 use Rattle.hm_files.specs.declared.stop.Refusal.{Refusal}
 use Rattle.hm_files.specs.Steps.{Then}
-use Rattle.hm_files.specs.Files.{New, loads, measures, written}
+use Rattle.hm_files.specs.Files.{New, loads, measures, written, new_of}
 use Rattle.hm_command.specs.declared.ending.Output.{Output}
 use Rattle.hm_command.specs.Words.{FileNames, slots, meaning}
-use Rattle.hm_run.specs.Reads.{Trees, ReadsAll}
+use Rattle.hm_run.specs.declared.read.Inputs.{Inputs}
+use Rattle.hm_run.specs.Reads.{ReadsAll}
+use Rattle.hm_report.specs.declared.outcome.Outcome.{Outcome}
+use Rattle.hm_files.specs.declared.slot.NewFile.{NewFile}
+use Rattle.hm_run.specs.declared.make.NewTexts.{NewTexts}
 
 -- ---- reconciling
 
@@ -30,18 +33,18 @@ pub record Synced : Type 0 where
   pub right : Tree
 
 -- what was read becomes this: the outcome under the schema at its root
-abbrev pub Becomes : Trees → Synced → Type 0
+abbrev pub Becomes : Inputs → Synced → Type 0
 Becomes before after =
     IsOutcome before.schema before.schema.root
     (given before.archive before.left before.right) (given after.archive after.left after.right)
 
-abbrev pub Reconciles : Trees → Result Synced Refusal → Type 0
+abbrev pub Reconciles : Inputs → Result Synced Refusal → Type 0
 Reconciles before (Ok after) = Becomes before after
 Reconciles before (Err refusal) = ⊥
 
 -- what was read, what it becomes, and the conflicts that remain: in the order of paths, one at each topmost mark of the
 -- new archive and no other, each of which shows why
-abbrev pub HasConflicts : Trees → Synced → List Conflict → Type 0
+abbrev pub HasConflicts : Inputs → Synced → List Conflict → Type 0
 HasConflicts before after conflicts =
     AreConflicts before.schema before.schema.root
     (views (given before.archive before.left before.right)) (state after.archive) conflicts
@@ -58,11 +61,16 @@ pub record Tells (conflicts : List Conflict) (output : Output) : Type 0 where
   pub status : output.status ≡ conflicts_status (length conflicts)
   pub text : output.text.items ≡ report_text conflicts
 
--- an output tells the conflicts that remain
-pub record IsReport (before : Trees) (after : Synced) (output : Output) : Type 0 where
+-- a status tells whether conflicts remain
+pub record TellsConflicts (before : Inputs) (after : Synced) (status : ℕ) : Type 0 where
   pub conflicts : List Conflict
   pub remain : HasConflicts before after conflicts
-  pub tells : Tells conflicts output
+  pub told : status ≡ conflicts_status (length conflicts)
+
+-- an output tells the conflicts that remain
+pub record IsReport (before : Inputs) (after : Synced) (output : Output) : Type 0 where
+  pub tells : TellsConflicts before after output.status
+  pub text : output.text.items ≡ report_text tells.conflicts
 
 -- ---- the new files
 
@@ -75,15 +83,11 @@ pub record Texts : Type 0 where
 abbrev pub texts_of : Synced → Texts
 texts_of t = record { archive = archive_text t.archive; left = tree_text t.left; right = tree_text t.right }
 
--- bytes are UTF-8, and are read as this
-abbrev pub AreReadAs : {A : Type 0} → (List ℕ → Result A TextFault → Type 0) → List ℕ → A → Type 0
-AreReadAs reads bytes x = IsUtf8 bytes × reads bytes (Ok x)
-
--- texts are read as what they are to hold
+-- texts are UTF-8, and are read as what they are to hold
 pub record AreRead (texts : Texts) (held : Synced) : Type 0 where
-  pub archive : AreReadAs ReadsArchive texts.archive held.archive
-  pub left : AreReadAs ReadsTree texts.left held.left
-  pub right : AreReadAs ReadsTree texts.right held.right
+  pub archive : IsUtf8 texts.archive × ReadsArchive texts.archive (Ok held.archive)
+  pub left : IsUtf8 texts.left × ReadsTree texts.left (Ok held.left)
+  pub right : IsUtf8 texts.right × ReadsTree texts.right (Ok held.right)
 
 -- in the order in which they are measured and written
 abbrev pub news_of : FileNames → Texts → List New
@@ -96,11 +100,11 @@ news_of f t =
 -- the names of the files, what was read of them, and what they are to become
 pub record Plan : Type 0 where
   pub files : FileNames
-  pub before : Trees
+  pub before : Inputs
   pub after : Synced
 
 -- the three new files are made before the first of them is measured
-unfoldable pub Plans : FileNames → Trees → Result Plan Refusal → Type 0
+unfoldable pub Plans : FileNames → Inputs → Result Plan Refusal → Type 0
 Plans files before =
     Then (Reconciles before) (λ after.
     Then (λ r. r ≡ measures (news_of files (texts_of after))) (λ sizes r.
@@ -122,3 +126,35 @@ Verdict c words = VerdictOf c (meaning words)
 -- the contents with the plan carried out as far as its first n files
 abbrev pub stop_state : Contents → Plan → ℕ → Contents
 stop_state c plan n = written c (take n (news_of plan.files (texts_of plan.after)))
+
+-- ---- what is made, against what was read
+
+abbrev pub outcome_of : Outcome → Synced
+outcome_of o = record { archive = o.archive; left = o.left; right = o.right }
+
+abbrev pub new_texts : NewTexts → Texts
+new_texts t = record { archive = t.archive.items; left = t.left.items; right = t.right.items }
+
+-- all three become as one tree
+abbrev pub all_as : Tree → Synced
+all_as t = record { archive = Some (recorded t); left = t; right = t }
+
+-- the texts are those of what was read becomes, and the output tells the conflicts that remain
+pub record IsMade (before : Inputs) (made : NewTexts) : Type 0 where
+  pub after : Synced
+  pub becomes : Becomes before after
+  pub texts : new_texts made ≡ texts_of after
+  pub tells : IsReport before after made.output
+
+-- the new files are those of a plan, and the output tells the conflicts that remain
+pub record IsPlanned (files : FileNames) (all : List (List ℕ)) (news : List New) (output : Output) : Type 0 where
+  pub before : Inputs
+  pub after : Synced
+  pub planned : PlansFrom files all (Ok (record { files = files; before = before; after = after }))
+  pub are : news ≡ news_of files (texts_of after)
+  pub tells : IsReport before after output
+
+-- files of these names and bytes come to a plan, or are refused
+abbrev pub Makes : FileNames → List (List ℕ) → Result (List NewFile × Output) Refusal → Type 0
+Makes files all (Ok made) = IsPlanned files all (map new_of made.0) made.1
+Makes files all (Err refusal) = PlansFrom files all (Err refusal)

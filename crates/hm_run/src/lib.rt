@@ -3,7 +3,7 @@
 //! `run` finds what the words mean and hands the files on; the work (`synchronise`) knows files alone. What the work
 //! is to do over some contents of the store is a relation, the verdict (`specs/Verdict`), put together from what each
 //! step finds: the first refusal in the order of the checks, or a plan. A run ends with what its work came to and with
-//! how that was put out (`specs/Work`, `specs/Endings`), and what a user relies on follows from these.
+//! how that was put out (`specs/Endings`), and what a user relies on follows from these.
 #![tactic(auto)]
 
 mod make;

@@ -2,11 +2,10 @@
 ghost use Rattle.std.specs.Prelude.{◌≡◌, [], IfOk, length, map};
 ghost use Rattle.hm_schema.specs.Membership.{HasNoTwins};
 ghost use Rattle.hm_outcome.specs.Trios.{given, views, AreMembers};
-ghost use Rattle.hm_files.specs.Did.{Computes, itself};
+ghost use Rattle.hm_files.specs.Steps.{Computes};
 ghost use Rattle.hm_files.specs.Files.{all_bytes, new_of};
-ghost use Rattle.hm_command.specs.Files.{names};
-ghost use Rattle.hm_run.specs.Verdict.{texts_of, news_of, Tells};
-ghost use Rattle.hm_run.specs.Making.{inputs_of, outcome_of, new_texts, all_as, IsMade, Makes};
+ghost use Rattle.hm_command.specs.Words.{names};
+ghost use Rattle.hm_run.specs.Verdict.{texts_of, news_of, Tells, outcome_of, new_texts, all_as, IsMade, Makes};
 
 use crate::read::{Inputs, read_all};
 use hm_command::{Files, Output};
@@ -75,7 +74,7 @@ fn spell_for_all(alloc: Global, tree: &Tree) -> Result<NewTexts, Memory>
 fn make(alloc: Global, inputs: Inputs) -> Result<NewTexts, Memory>
     requires no_twins { HasNoTwins inputs.schema }
     requires members { AreMembers inputs.schema inputs.schema.root (views (given inputs.archive inputs.left inputs.right)) }
-    ensures { IfOk result (IsMade (inputs_of inputs)) }
+    ensures { IfOk result (IsMade inputs) }
 {
     // In most runs only one side has changed since the last, or none has.
     if let Some(side) = side_for_all(&inputs.archive, &inputs.left, &inputs.right) {
@@ -123,7 +122,7 @@ pub fn plan<'a>(
     loads: Vec<Vec<u8>>,
 ) -> Result<([NewFile<'a>; 3], Output), Stop>
     requires { length loads.items ≡ 4 }
-    ensures { Computes itself (Makes (names files.entry) (all_bytes loads)) result }
+    ensures { Computes (Makes (names files.entry) (all_bytes loads)) result }
 {
     let inputs = read_all(alloc, &loads)?;
     // What was read isn't needed any more, and takes as much memory as the new files.

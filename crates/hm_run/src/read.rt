@@ -3,10 +3,9 @@ ghost use Rattle.std.specs.Prelude.{◌≡◌, length, map};
 ghost use Rattle.hm_schema.specs.Membership.{HasNoTwins};
 ghost use Rattle.hm_tree_text.specs.Reads.{ReadsTree, ReadsArchive};
 ghost use Rattle.hm_schema_text.specs.SchemaFiles.{ReadsSchema};
-ghost use Rattle.hm_files.specs.Did.{Computes, itself};
+ghost use Rattle.hm_files.specs.Steps.{Computes};
 ghost use Rattle.hm_files.specs.Files.{bytes_of};
 ghost use Rattle.hm_run.specs.Reads.{Told, ChecksText, ChecksMember, ReadsReplica, ReadsFour, ReadsAll, schema_stop, archive_stop, replica_stop};
-ghost use Rattle.hm_run.specs.Making.{inputs_of};
 
 use hm_files::{ArchiveFault, FileFault, Refusal, ReplicaFault, Slot, Stop};
 use hm_schema::Schema;
@@ -61,7 +60,7 @@ fn replica_stop(slot: Slot, fault: TextFault) -> Stop
 }
 
 fn read_schema(alloc: Global, bytes: &[u8]) -> Result<Schema, Stop>
-    ensures { Computes itself (Told schema_stop (ReadsSchema bytes.now)) result }
+    ensures { Computes (Told schema_stop (ReadsSchema bytes.now)) result }
 {
     match hm_schema_text::read_schema(alloc, bytes) {
         Ok(schema) => Ok(schema),
@@ -70,7 +69,7 @@ fn read_schema(alloc: Global, bytes: &[u8]) -> Result<Schema, Stop>
 }
 
 fn read_archive(alloc: Global, bytes: &[u8]) -> Result<Archive, Stop>
-    ensures { Computes itself (Told archive_stop (ReadsArchive bytes.now)) result }
+    ensures { Computes (Told archive_stop (ReadsArchive bytes.now)) result }
 {
     match hm_tree_text::read_archive(alloc, bytes) {
         Ok(archive) => Ok(archive),
@@ -79,7 +78,7 @@ fn read_archive(alloc: Global, bytes: &[u8]) -> Result<Archive, Stop>
 }
 
 fn read_tree(alloc: Global, slot: Slot, bytes: &[u8]) -> Result<Tree, Stop>
-    ensures { Computes itself (Told (replica_stop slot) (ReadsTree bytes.now)) result }
+    ensures { Computes (Told (replica_stop slot) (ReadsTree bytes.now)) result }
 {
     match hm_tree_text::read_tree(alloc, bytes) {
         Ok(tree) => Ok(tree),
@@ -88,7 +87,7 @@ fn read_tree(alloc: Global, slot: Slot, bytes: &[u8]) -> Result<Tree, Stop>
 }
 
 fn check_text(slot: Slot, bytes: &[u8]) -> Result<(), Stop>
-    ensures { Computes itself (ChecksText slot bytes.now) result }
+    ensures { Computes (ChecksText slot bytes.now) result }
 {
     match std::str::from_utf8(bytes) {
         Ok(_) => Ok(()),
@@ -101,7 +100,7 @@ fn check_text(slot: Slot, bytes: &[u8]) -> Result<(), Stop>
 
 fn check_member(alloc: Global, schema: &Schema, slot: Slot, tree: Tree) -> Result<Tree, Stop>
     requires { HasNoTwins schema.now }
-    ensures { Computes itself (ChecksMember schema.now slot tree) result }
+    ensures { Computes (ChecksMember schema.now slot tree) result }
 {
     match schema.first_outside(alloc, &tree)? {
         None => Ok(tree),
@@ -114,7 +113,7 @@ fn check_member(alloc: Global, schema: &Schema, slot: Slot, tree: Tree) -> Resul
 
 fn read_replica(alloc: Global, schema: &Schema, slot: Slot, bytes: &[u8]) -> Result<Tree, Stop>
     requires { HasNoTwins schema.now }
-    ensures { Computes itself (ReadsReplica schema.now slot bytes.now) result }
+    ensures { Computes (ReadsReplica schema.now slot bytes.now) result }
 {
     check_text(slot, bytes)?;
     let tree = read_tree(alloc, slot, bytes)?;
@@ -128,7 +127,7 @@ fn read_four(
     left: &[u8],
     right: &[u8],
 ) -> Result<Inputs, Stop>
-    ensures { Computes inputs_of (ReadsFour schema.now archive.now left.now right.now) result }
+    ensures { Computes (ReadsFour schema.now archive.now left.now right.now) result }
 {
     let schema = read_schema(alloc, schema)?;
     let archive = read_archive(alloc, archive)?;
@@ -143,9 +142,10 @@ fn read_four(
 }
 
 /// The values of the four files, by their bytes in the order of their slots, or the first stop.
+#[tactic(auto, unfolding(crate::specs::Reads::ReadsAll))]
 pub fn read_all(alloc: Global, loads: &[Vec<u8>]) -> Result<Inputs, Stop>
     requires { length loads.now ≡ 4 }
-    ensures { Computes inputs_of (ReadsAll (map bytes_of loads.now)) result }
+    ensures { Computes (ReadsAll (map bytes_of loads.now)) result }
 {
     let [schema, archive, left, right] = loads else {
         unreachable!();

@@ -1,14 +1,10 @@
 //! The top call.
-ghost use Rattle.std.specs.Prelude.{◌≡◌, ◌⊎◌, Some, Err};
-ghost use Rattle.hm_outside.specs.Answers.{PutsAfter};
-ghost use Rattle.hm_outside.specs.declared.outside.Put.TheVariants as put;
-ghost use Rattle.hm_files.specs.declared.stop.Stop.TheVariants.{Memory as OutOfMemory};
-ghost use Rattle.hm_files.specs.Did.{WhereTold};
+ghost use Rattle.std.specs.Prelude.{◌≡◌, ◌⊎◌, Some};
+ghost use Rattle.hm_files.specs.Steps.{WhereTold};
 ghost use Rattle.hm_command.specs.declared.ending.Ending.{Ending as EndingOf};
 ghost use Rattle.hm_command.specs.Words.{meaning};
-ghost use Rattle.hm_command.specs.Lines.{output_of, status_of};
-ghost use Rattle.hm_run.specs.Work.{Works};
-ghost use Rattle.hm_run.specs.Endings.{TellsFaults, EndsAs, IsSynchronised, IsReported, IsComplete};
+ghost use Rattle.hm_command.specs.Lines.{status_of};
+ghost use Rattle.hm_run.specs.Endings.{Works, HasPut, EndsAs, IsSynchronised, IsReported, IsComplete};
 
 use crate::work::synchronise;
 use hm_command::{Ending, Output, files_of, line_of, status_of};
@@ -29,9 +25,7 @@ fn work<S: Store>(alloc: Global, words: &[Name], store: &mut S) -> Result<Output
 
 // Puts out what the work has to say, in one piece; for want of memory it has nothing to say.
 fn put_output<K: Sink>(alloc: Global, work: &Result<Output, Stop>, out: &mut K) -> Put
-    ensures written { WhereTold (K.written out.old) (λ w. PutsAfter w (output_of work.now) result (K.written out.new)) }
-    ensures faults { TellsFaults result (K.faults out.old) (K.faults out.new) }
-    ensures silent { work.now ≡ Err OutOfMemory → result ≡ put.Memory }
+    ensures { HasPut work.now result (K.written out.old) (K.written out.new) (K.faults out.old) (K.faults out.new) }
 {
     match work {
         Ok(output) => out.put(&output.text),

@@ -1,7 +1,7 @@
 //! The work of a run: files are loaded, reconciled and written anew.
 ghost use Rattle.std.specs.Prelude.{Ok};
-ghost use Rattle.hm_command.specs.Files.{names};
-ghost use Rattle.hm_run.specs.Work.{Works};
+ghost use Rattle.hm_command.specs.Words.{names};
+ghost use Rattle.hm_run.specs.Endings.{Works};
 
 use crate::make::plan;
 use hm_command::{Files, Output};

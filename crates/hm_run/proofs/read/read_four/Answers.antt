@@ -1,10 +1,8 @@
 use Rattle.std.proofs.Common.{refl, rules}
 use Rattle.hm_schema_text.proofs.Laws.{schema_no_twins}
-use Rattle.hm_files.specs.Did.{itself}
 use Rattle.hm_files.specs.Steps.{goes_on}
 use Rattle.hm_run.specs.Reads.{ReadsFour}
-use Rattle.hm_run.specs.Making.{inputs_of}
-use Rattle.hm_files.proofs.Did.{then_stop, then_go}
+use Rattle.hm_files.proofs.Steps.{then_stop, then_go}
 use Rattle.hm_run.proofs.read.read_four.Goals as goal
 
 pub read_replica-requires : goal.read_replica-requires
@@ -15,24 +13,24 @@ read_replica-requires-2 c = schema_no_twins _ _ c.in_ok-schema.ensures.0
 
 pub returns-in_err-schema : goal.returns-in_err-schema
 unfolding ReadsFour
-returns-in_err-schema c = then_stop itself inputs_of _ _ _ _ (search rules) c.in_err-schema.ensures
+returns-in_err-schema c = then_stop _ _ _ _ (search rules) c.in_err-schema.ensures
 
 pub returns-in_err-archive : goal.returns-in_err-archive
 unfolding ReadsFour
-returns-in_err-archive c = then_go inputs_of _ _ _ _ c.in_ok-schema.ensures.0
-    (then_stop itself inputs_of _ _ _ _ (search rules) c.in_err-archive.ensures)
+returns-in_err-archive c = then_go _ _ _ _ c.in_ok-schema.ensures.0
+    (then_stop _ _ _ _ (search rules) c.in_err-archive.ensures)
 
 pub returns-in_err-left : goal.returns-in_err-left
 unfolding ReadsFour
 returns-in_err-left c =
-    then_go inputs_of _ _ _ _ c.in_ok-schema.ensures.0 (then_go inputs_of _ _ _ _ c.in_ok-archive.ensures.0
-    (then_stop itself inputs_of _ _ _ _ (search rules) c.in_err-left.ensures))
+    then_go _ _ _ _ c.in_ok-schema.ensures.0 (then_go _ _ _ _ c.in_ok-archive.ensures.0
+    (then_stop _ _ _ _ (search rules) c.in_err-left.ensures))
 
 pub returns-in_err-right : goal.returns-in_err-right
 unfolding ReadsFour
 returns-in_err-right c =
-    then_go inputs_of _ _ _ _ c.in_ok-schema.ensures.0 (then_go inputs_of _ _ _ _ c.in_ok-archive.ensures.0
-    (then_go inputs_of _ _ _ _ c.in_ok-left.ensures.0 (then_stop itself inputs_of _ _ _ _ (search rules) c.in_err-right.ensures)))
+    then_go _ _ _ _ c.in_ok-schema.ensures.0 (then_go _ _ _ _ c.in_ok-archive.ensures.0
+    (then_go _ _ _ _ c.in_ok-left.ensures.0 (then_stop _ _ _ _ (search rules) c.in_err-right.ensures)))
 
 pub returns : goal.returns
 unfolding ReadsFour

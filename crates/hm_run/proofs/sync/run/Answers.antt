@@ -18,15 +18,7 @@ returns g c =
       faults = g.K.Sink.faults c.put_output-put.new.out;
     } in
     let ending : Ending = record { work = c.work-work.result; put = c.put_output-put.result } in
-    let so : EndsAs ending c.args.words.now before after =
-    record {
-      works = c.work-work.ensures;
-      puts = record {
-        written = c.put_output-put.ensures.written;
-        faults = c.put_output-put.ensures.faults;
-        silent = c.put_output-put.ensures.silent;
-      };
-    } in
+    let so : EndsAs ending c.args.words.now before after = record { works = c.work-work.ensures; puts = c.put_output-put.ensures } in
     let all = relied ending c.args.words.now before after c.status_of.result c.status_of.ensures so in record {
       ends = (ending, c.status_of.ensures, so);
       synchronised = all.synchronised;
