@@ -8,6 +8,12 @@ node Value\n  other filled Empty\n  shape + 1..1'
 # A schema by which two names can't stand together.
 readonly EITHER=$'harmony schema 1\nroot R\nnode R\n  edge y Empty\n  edge z Empty\n  shape ? y\n  shape ? z'
 
+# One of two of three names can't stand alone, nor all three together.
+readonly PAIRS=$'harmony schema 1\nroot R\nnode R\n  edge x Empty\n  edge y Empty\n  edge z Empty
+  shape ? x y\n  shape ? x z\n  shape ? y z'
+# Exactly one name.
+readonly ONE=$'harmony schema 1\nroot R\nnode R\n  other any Empty\n  shape + 1..1'
+
 # A schema of entries that have one value each.
 readonly VALUES=$'harmony schema 1\nroot R\nnode R\n  other any V\n  shape + 0..\nnode V\n  other any Empty\n  shape + 1..1'
 
@@ -20,13 +26,13 @@ check() {
     finish
 }
 
-# Names of which one is there at the most, and each side has another: both stay.
-names_apart() {
-    begin "names that can't stand together"
-    files '{}' '{"y"}' '{"z"}' '!' '{"y"}' '{"z"}'
-    with_schema "$EITHER"
+# check_under SCHEMA TITLE, archive A B before, STATUS LINES, archive A B afterwards
+check_under() {
+    begin "$2"
+    files "$3" "$4" "$5" "$8" "$9" "${10}"
+    with_schema "$1"
     sync
-    ends 1 $'conflict / names {"y","z"} {"y","z"}\nconflicts 1'
+    ends "$6" "$7"
     finish
 }
 
@@ -116,7 +122,18 @@ check 'two conflicts' '{"a","b"}' '{"a":{"1"}}' '{"b":{"2"}}' 1 \
 check 'beside a conflict' '{"a":{"1"},"b"}' '{"a":{"2"},"b"}' '{"b","c"}' 1 \
     $'conflict /"a" lost /"a"/"2"\nconflicts 1' \
     '{"a":!,"b","c"}' '{"a":{"2"},"b","c"}' '{"b","c"}'
-names_apart
+check 'deleted, with a change at a mark below it' '{"d":{"a":!,"b"}}' '{}' '{"d":{"a":{"1"},"b"}}' 1 \
+    $'conflict /"d" lost /"d"/"a"\nconflicts 1' '{"d":!}' '{}' '{"d":{"a":{"1"},"b"}}'
+check 'deleted, and so is what was marked below it' '{"d":{"a":!,"b"}}' '{}' '{"d":{"b"}}' 0 agreed '{}' '{}' '{}'
+check_under "$EITHER" "names that can't stand together" '{}' '{"y"}' '{"z"}' 1 \
+    $'conflict / names {"y","z"} {"y","z"}\nconflicts 1' '!' '{"y"}' '{"z"}'
+check_under "$PAIRS" 'two of three names' '{}' '{"x"}' '{"y","z"}' 1 \
+    $'conflict / names {"x","y","z"} {"x","y","z"}\nconflicts 1' '!' '{"x"}' '{"y","z"}'
+check_under "$ONE" 'one name, which both have changed' '{"A"}' '{"B"}' '{"C"}' 1 \
+    $'conflict / names {"B","C"} {"B","C"}\nconflicts 1' '!' '{"B"}' '{"C"}'
+check_under "$ONE" 'one name, and nothing has changed since' '!' '{"B"}' '{"C"}' 1 $'conflict / earlier\nconflicts 1' \
+    '!' '{"B"}' '{"C"}'
+check_under "$ONE" 'one name, made alike by hand' '!' '{"B"}' '{"B"}' 0 agreed '{"B"}' '{"B"}' '{"B"}'
 many_conflicts
 check 'no archive, equal' absent "$NEW" "$NEW" 0 agreed "$NEW" "$NEW" "$NEW"
 check 'no archive, different' absent "$NEW" "$OTHER" 0 agreed "$BOTH" "$BOTH" "$BOTH"
@@ -137,6 +154,7 @@ check 'names at the greatest depth' deepest deepest-x deepest-y 0 agreed deepest
 
 refuse 'no archive, A and B' absent absent absent 3 'harmony: Missing A'
 refuse 'archive not ascending' '{"b","a"}' "$OLD" "$OLD" 3 'harmony: BadArchive at 6'
+refuse 'archive with braces around no name' '{"a":{}}' "$OLD" "$OLD" 3 'harmony: BadArchive at 6'
 refuse 'A not ascending' "$OLD" '{"b","a"}' "$OLD" 3 'harmony: BadReplica A BadItem 6'
 refuse 'B not ascending' "$OLD" "$OLD" '{"b","a"}' 3 'harmony: BadReplica B BadItem 6'
 refuse 'A empty' "$OLD" empty "$OLD" 3 'harmony: BadReplica A BadItem 0'
