@@ -1,3 +1,4 @@
 mod Contents
 pub mod Risen
+mod Compared
 mod Files

@@ -3,3 +3,4 @@ pub mod Failures
 pub mod Answers
 pub mod Files
 pub mod Shown
+pub mod Seen

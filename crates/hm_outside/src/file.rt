@@ -1,13 +1,16 @@
 //! Real files. The system is trusted with them, and no contract tells what is in them.
-ghost use Rattle.std.specs.Prelude.{◌≡◌, ◌<◌, ◌++◌, ◌∷◌, [], None, Some, IfOk, IfSome, OnOk, length, vec_len, vec_capacity};
+ghost use Rattle.std.specs.Prelude.{◌≡◌, ℕ, ◌<◌, ◌++◌, ◌∷◌, [], None, Some, IfOk, IfSome, OnOk, length, vec_len, vec_capacity};
 ghost use Rattle.hm_outside.specs.Answers.{IsWithin, LoadsFrom};
 
 use crate::outside::{Failure, Kind, Loaded, Store, Stored};
+use crate::path::{follow, has_folder, is_absent};
+use crate::replace::{is_held, metadata_of, write_file};
+use crate::seen::{Seen, Stamp, is_another, is_changed, is_loaded, keep, room_for};
 use hm_tree::{Memory, Name};
 use std::alloc::{AllocError, Global};
-use std::fs::{OpenFile, OpenOptions, Permissions};
-use std::io::{ErrorKind, Read, Write};
-use std::os::unix::fs::{OpenOptionsExt, PermissionsExt};
+use std::fs::OpenFile;
+use std::io::{ErrorKind, Read};
+use std::path::PathBuf;
 use std::rt::Files;
 use std::{fs, io};
 
@@ -16,17 +19,21 @@ const PIECE: usize = 65536;
 
 /// The files of a runtime: a name is a path, and its bytes are those of the file there.
 ///
-/// `load` reads at most one byte past the limit. A folder, as any other thing that cannot be read, is a
-/// failed call, and only what is not there is absent. `replace` fills NAME.harmony-new, which has the mode
-/// of the file that it replaces before it has any byte, flushes it to the disk, renames it to NAME and
-/// flushes their folder. What is there and is no file, as a device, is not replaced: the call fails.
-/// What stood there under NAME.harmony-new is overwritten, and a call that fails removes the new file if it
-/// can.
+/// `load` reads at most one byte past the limit. A folder, as any other thing that cannot be read, is a failed call,
+/// and so is a file that was loaded under another name. Only what is not there, in a folder that is, is absent.
+///
+/// `replace` leaves alone a file that has the bytes, and fails where it is not as it was loaded: another program has
+/// changed it meanwhile. Else it fills NAME.harmony-new, which has the mode of the file that it replaces before it has
+/// any byte, flushes it to the disk, renames it to NAME and flushes their folder. NAME is what the name leads to by way
+/// of symbolic links, which stay. What is there and is no file, as a device, is not replaced: the call fails. What
+/// stood there under NAME.harmony-new is removed, unless it was loaded too: then the call fails. A call that fails
+/// removes the new file if it can.
 #[derive(Drop)]
 pub struct FileStore<R: Files + Drop> {
     alloc: Global,
     rt: R,
     failed: Vec<Failure>,
+    seen: Vec<Seen>,
 }
 
 impl<R: Files + Drop> FileStore<R> {
@@ -41,6 +48,7 @@ impl<R: Files + Drop> FileStore<R> {
             alloc,
             rt,
             failed: Vec::new(alloc),
+            seen: Vec::new(alloc),
         }
     }
 }
@@ -73,21 +81,76 @@ fn new_buffer(alloc: Global) -> Result<Vec<u8>, AllocError>
     vec![in alloc; 0u8; PIECE]
 }
 
-// The bytes of a file, if they are no more than the limit.
-fn read_file<R: Files>(alloc: Global, rt: &R, name: &str, limit: usize) -> Loaded
-    ensures { IsWithin limit result }
+// What is loaded from an open file that isn't one of those that were loaded under other names, and its stamp.
+fn read_open<F: OpenFile + Read + Drop>(
+    alloc: Global,
+    file: F,
+    name: &Name,
+    seen: &[Seen],
+    buffer: &mut [u8],
+    limit: usize,
+) -> (Loaded, Option<Stamp>)
+    requires { 0 < length buffer.old }
+    ensures { IsWithin limit result.0 }
+{
+    let Ok(metadata) = file.metadata() else {
+        return (Loaded::Failed, None);
+    };
+    let stamp = Stamp::of(&metadata);
+    if is_another(seen, name, &stamp) {
+        return (Loaded::Failed, None);
+    }
+    (read_all(alloc, file, buffer, limit), Some(stamp))
+}
+
+// Why a call gave up.
+#[derive(Drop)]
+enum Fault {
+    Failed,
+    Memory,
+}
+
+fn fault_of(error: &io::Error) -> Fault {
+    if error.kind() == ErrorKind::OutOfMemory {
+        Fault::Memory
+    } else {
+        Fault::Failed
+    }
+}
+
+// What is loaded where nothing can be opened: there must be a folder in which the file can be made.
+fn read_nothing<R: Files>(alloc: Global, rt: &R, name: &str) -> Loaded
+    ensures { (limit : ℕ) → IsWithin limit result }
+{
+    match has_folder(alloc, rt, name) {
+        Ok(()) => Loaded::Absent,
+        Err(error) => match fault_of(&error) {
+            Fault::Failed => Loaded::Failed,
+            Fault::Memory => Loaded::Memory,
+        },
+    }
+}
+
+// What is loaded of a name, and the stamp of its file.
+fn read<R: Files>(
+    alloc: Global,
+    rt: &R,
+    seen: &[Seen],
+    name: &Name,
+    limit: usize,
+) -> (Loaded, Option<Stamp>)
+    ensures { IsWithin limit result.0 }
 {
     let Ok(mut buffer) = new_buffer(alloc) else {
-        return Loaded::Memory;
+        return (Loaded::Memory, None);
     };
-    match fs::open(rt, name) {
-        Ok(file) => read_all(alloc, file, &mut buffer, limit),
+    match fs::open(rt, name.text()) {
+        Ok(file) => read_open(alloc, file, name, seen, &mut buffer, limit),
         Err(error) => {
-            if error.kind() == ErrorKind::NotFound {
-                Loaded::Absent
-            } else {
-                Loaded::Failed
+            if is_absent(&error) {
+                return (read_nothing(alloc, rt, name.text()), None);
             }
+            (Loaded::Failed, None)
         }
     }
 }
@@ -121,82 +184,83 @@ fn read_all<F: Read + Drop>(alloc: Global, mut file: F, buffer: &mut [u8], limit
     Loaded::Failed
 }
 
-// The permissions of a file, or none where there is no file. What is there and is no file, as a device, isn't to be
-// replaced by one.
-fn permissions_of<R: Files>(rt: &R, name: &str) -> io::Result<Option<Permissions>> {
-    match fs::metadata(rt, name) {
-        Ok(metadata) => {
-            if metadata.is_file() {
-                Ok(Some(metadata.permissions()))
-            } else {
-                Err(ErrorKind::InvalidInput.into())
-            }
-        }
-        Err(error) => {
-            if error.kind() == ErrorKind::NotFound {
-                Ok(None)
-            } else {
-                Err(error)
-            }
-        }
+// The path to which a name leads, and that of the new file beside it.
+fn paths_of<R: Files>(alloc: Global, rt: &R, name: &str) -> io::Result<(PathBuf, String)> {
+    let path = follow(alloc, rt, name)?;
+    let text = path.as_str();
+    let beside = format!(in alloc; "{text}.harmony-new")?;
+    Ok((path, beside))
+}
+
+// Whether what stands at a path, or where a link there leads, is a file that was loaded.
+fn is_taken<R: Files>(rt: &R, seen: &[Seen], path: &str) -> io::Result<bool> {
+    match fs::metadata(rt, path) {
+        Ok(metadata) => Ok(is_loaded(seen, &Stamp::of(&metadata))),
+        Err(error) if is_absent(&error) => Ok(false),
+        Err(error) => Err(error),
     }
 }
 
-// Makes a new file with these permissions, before any byte is in it.
-fn create_file<R: Files>(
+// Puts bytes into the file of a path, where it is as it was loaded, and gives its new stamp.
+fn put_bytes<R: Files>(
     rt: &R,
-    name: &str,
-    permissions: Option<Permissions>,
-) -> io::Result<R::File> {
-    let mut options = OpenOptions::new();
-    options.write(true).create_new(true);
-    let Some(permissions) = permissions else {
-        return options.open(rt, name);
+    seen: &[Seen],
+    name: &Name,
+    path: &str,
+    beside: &str,
+    buffer: &mut [u8],
+    bytes: &[u8],
+) -> io::Result<Option<Stamp>>
+    requires { 0 < length buffer.old }
+{
+    let there = metadata_of(rt, path)?;
+    let stamp = there.as_ref().map(Stamp::of);
+    if is_changed(seen, name, stamp) {
+        return Err(ErrorKind::Other.into());
+    }
+    if is_held(rt, path, &there, buffer, bytes)? {
+        return Ok(stamp);
+    }
+    if is_taken(rt, seen, beside)? {
+        return Err(ErrorKind::Other.into());
+    }
+    write_file(
+        rt,
+        beside,
+        path,
+        there.map(|metadata| metadata.permissions()),
+        bytes,
+    )?;
+    Ok(metadata_of(rt, path)?.as_ref().map(Stamp::of))
+}
+
+// Puts bytes under a name, and gives the new stamp of its file. All memory is taken before a file is touched.
+fn put<R: Files>(
+    alloc: Global,
+    rt: &R,
+    seen: &[Seen],
+    name: &Name,
+    bytes: &[u8],
+) -> Result<Option<Stamp>, Fault> {
+    let Ok(mut buffer) = new_buffer(alloc) else {
+        return Err(Fault::Memory);
     };
-    let file = options.mode(permissions.mode()).open(rt, name)?;
-    file.set_permissions(permissions)?;
-    Ok(file)
-}
-
-// Fills a new file, to the disk, and renames it.
-fn fill_and_rename<R: Files>(rt: &R, beside: &str, name: &str, bytes: &[u8]) -> io::Result<()> {
-    let mut file = create_file(rt, beside, permissions_of(rt, name)?)?;
-    file.write_all(bytes)?;
-    file.sync_all()?;
-    drop(file);
-    fs::rename(rt, beside, name)
-}
-
-// The folder in which a name stands.
-fn folder_of(name: &str) -> &str {
-    match name.rfind('/') {
-        Some(slash) => &name[..=slash],
-        None => ".",
-    }
-}
-
-// Flushes the folder of a name to the disk, so that what was renamed there stays so if the power fails. A folder that
-// may be written to but not read can't be flushed, and some file systems flush no folder: neither is a fault.
-fn flush_folder<R: Files>(rt: &R, name: &str) -> io::Result<()> {
-    let (flushed, excused) = match fs::open(rt, folder_of(name)) {
-        Ok(folder) => (folder.sync_all(), ErrorKind::InvalidInput),
-        Err(error) => (Err(error), ErrorKind::PermissionDenied),
+    let (path, beside) = match paths_of(alloc, rt, name.text()) {
+        Ok(paths) => paths,
+        Err(error) => return Err(fault_of(&error)),
     };
-    match flushed {
-        Err(error) if error.kind() == excused => Ok(()),
-        other => other,
+    match put_bytes(
+        rt,
+        seen,
+        name,
+        path.as_str(),
+        beside.as_str(),
+        &mut buffer,
+        bytes,
+    ) {
+        Ok(stamp) => Ok(stamp),
+        Err(_) => Err(Fault::Failed),
     }
-}
-
-// Puts the bytes into a file by way of a new one beside it. Another that stands there is removed first, so that the
-// new one has its own mode, and what is left of the new one after a failure is removed too.
-fn write_file<R: Files>(rt: &R, beside: &str, name: &str, bytes: &[u8]) -> io::Result<()> {
-    let _ = fs::remove_file(rt, beside);
-    if let Err(error) = fill_and_rename(rt, beside, name, bytes) {
-        let _ = fs::remove_file(rt, beside);
-        return Err(error);
-    }
-    flush_folder(rt, name)
 }
 
 impl<R: Files + Drop> Store for FileStore<R> {
@@ -208,12 +272,19 @@ impl<R: Files + Drop> Store for FileStore<R> {
         let Ok(entry) = entry_for(&mut self.failed, Kind::Load, name) else {
             return Loaded::Memory;
         };
-        match read_file(self.alloc, &self.rt, name.text(), limit) {
+        let Ok(copy) = room_for(&mut self.seen, name) else {
+            return Loaded::Memory;
+        };
+        let (loaded, stamp) = read(self.alloc, &self.rt, &self.seen, name, limit);
+        match loaded {
             Loaded::Failed => {
                 note(&mut self.failed, entry);
                 Loaded::Failed
             }
-            loaded => loaded,
+            loaded => {
+                keep(&mut self.seen, copy, stamp);
+                loaded
+            }
         }
     }
 
@@ -221,16 +292,19 @@ impl<R: Files + Drop> Store for FileStore<R> {
         let Ok(entry) = entry_for(&mut self.failed, Kind::Replace, name) else {
             return Stored::Memory;
         };
-        let text = name.text();
-        let Ok(beside) = format!(in self.alloc; "{text}.harmony-new") else {
+        let Ok(copy) = room_for(&mut self.seen, name) else {
             return Stored::Memory;
         };
-        match write_file(&self.rt, beside.as_str(), text, bytes) {
-            Ok(()) => Stored::Done,
-            Err(_) => {
+        match put(self.alloc, &self.rt, &self.seen, name, bytes) {
+            Ok(stamp) => {
+                keep(&mut self.seen, copy, stamp);
+                Stored::Done
+            }
+            Err(Fault::Failed) => {
                 note(&mut self.failed, entry);
                 Stored::Failed
             }
+            Err(Fault::Memory) => Stored::Memory,
         }
     }
 }

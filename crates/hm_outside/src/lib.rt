@@ -10,6 +10,9 @@ mod file;
 mod memory;
 mod output;
 mod outside;
+mod path;
+mod replace;
+mod seen;
 
 pub use file::FileStore;
 pub use memory::{MemSink, MemStore};
