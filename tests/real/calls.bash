@@ -5,9 +5,6 @@
 # What a run prints, and what a further one prints once the archive has the mark.
 readonly LOST=$'conflict /"a" lost /"a"/"2"\nconflicts 1' EARLIER=$'conflict /"a" earlier\nconflicts 1'
 
-can_trace() {
-    strace -o /dev/null -e inject=exit_group:error=EIO:when=2 true 2>/dev/null
-}
 
 # Files that a run makes different from each other and from what they were.
 three_changes() {
@@ -17,8 +14,8 @@ three_changes() {
 }
 
 # Lists the calls of a run from where it opens the schema: the name of the call, that it is the first of this name or
-# the second and so on, and what it is for: `read SLOT`, `write SLOT`, `flush SLOT` once the new file has its name,
-# `print` or `end`.
+# the second and so on, and what it is for: `read SLOT`, `write SLOT`, which begins where a link would be followed,
+# `flush SLOT` once the new file has its name, `print` or `end`.
 list_calls() {
     begin 'a run that is left alone'
     three_changes
@@ -33,7 +30,7 @@ list_calls() {
             if (name == "schema") step = "read"
             if (name == ".") step = "flush"
             else slot = name
-            if (sub(/\.harmony-new$/, "", slot)) step = "write"
+            if (sub(/\.harmony-new$/, "", slot) || /NOFOLLOW/) step = "write"
         }
         /^write[a-z0-9]*\(1,/ { step = "print" }
         call ~ /^exit/ { step = "end" }
@@ -118,6 +115,37 @@ fails() {
     further
 }
 
+# meanwhile SLOT WORD: another program has changed this file since it was loaded, so it stays as that program left it. The
+# run waits before it closes the last file, which was read.
+meanwhile() {
+    begin "$1 is $2 meanwhile"
+    read -r name number _ < <(printf '%s\n' "${calls[@]}" | grep '^close .* read B$')
+    if [[ $2 == made ]]; then
+        files absent '{"a"}' '{"b"}' '{"a","b"}' '{"a","b"}' '{"a","b"}'
+        number=$((number - 1))
+    else
+        three_changes
+    fi
+    stopped_at "$1"
+    under=(strace -o ../trace -e "inject=$name:delay_enter=1000000:when=$number")
+    {
+        until awk '/"B"/ { opened = 1 } opened && /^read.* = 0$/ { found = 1 } END { exit !found }' ../trace 2>/dev/null; do
+            sleep 0.05
+        done
+        case $2 in
+        replaced) make ../edited '{"edited"}' && mv ../edited "$1" ;;
+        rewritten | made) make "$1" '{"edited"}' ;;
+        removed) rm "$1" ;;
+        esac
+    } &
+    sync
+    wait $!
+    rm -f "../want/$1"
+    [[ $2 == removed ]] || make "../want/$1" '{"edited"}'
+    ends 4 "harmony: WriteFault $1"
+    finish
+}
+
 # errors_of CALL STEP
 errors_of() {
     case $2-$1 in
@@ -142,6 +170,12 @@ if can_trace; then
             fails "$name" "$number" "$step" "$slot" "$error"
         done
     done
+    for slot in A B archive; do
+        for word in replaced rewritten removed; do
+            meanwhile $slot $word
+        done
+    done
+    meanwhile archive made
 else
     skip 'runs that are killed, and calls that fail' 'strace is not here, or may not be used'
 fi

@@ -16,6 +16,15 @@ passed=0 failed=0 skipped=0
 declare -A path
 under=()
 
+can_trace() {
+    strace -o /dev/null -e inject=exit_group:error=EIO:when=2 true 2>/dev/null
+}
+
+can_mount() {
+    mkdir -p "$scratch/disk"
+    mount -t tmpfs -o size=8k none "$scratch/disk" 2>/dev/null && umount "$scratch/disk"
+}
+
 # Begins a check in an empty folder.
 begin() {
     title=$1

@@ -18,10 +18,6 @@ can_heed() {
     "${heeding[@]}" true 2>/dev/null && ! "${heeding[@]}" cat "$scratch/locked" 2>/dev/null
 }
 
-can_mount() {
-    mkdir "$scratch/disk"
-    mount -t tmpfs -o size=8k none "$scratch/disk" 2>/dev/null && umount "$scratch/disk"
-}
 
 # spoil FAULT SLOT: the file of the slot is in a folder of its own
 spoil() {
@@ -34,6 +30,10 @@ spoil() {
     'a folder') mv "$file" ../aside && mkdir "$file" ;;
     'a link to itself') mv "$file" ../aside && ln -s "$2" "$file" ;;
     'a link to nothing') mv "$file" ../aside && ln -s nowhere "$file" ;;
+    'a link into no folder') mv "$file" ../aside && ln -s nowhere/file "$file" ;;
+    'a link into a folder that may not be written to')
+        mv own aside && mkdir own && ln -s "../aside/$2" "$file" && chmod 555 aside
+        ;;
     'no file') mv "$file" ../aside ;;
     'no folder') mv own ../aside ;;
     'a file in place of the folder') mv own ../aside && : >own ;;
@@ -54,7 +54,10 @@ mend() {
     'no permission to read') [[ $(stat -c %a "$file") == 0 ]] && chmod 644 "$file" ;;
     'no permission to '*) chmod 755 own ;;
     'a folder') rmdir "$file" && mv ../aside "$file" ;;
-    'a link to '*) [[ -L $file ]] && rm "$file" && mv ../aside "$file" ;;
+    'a link into a folder that may not be written to')
+        [[ -L $file ]] && rm "$file" && rmdir own && chmod 755 aside && mv aside own
+        ;;
+    'a link '*) [[ -L $file ]] && rm "$file" && mv ../aside "$file" ;;
     'no file') [[ ! -e $file ]] && mv ../aside "$file" ;;
     'no folder') [[ ! -e own ]] && mv ../aside own ;;
     'a file in place of the folder') [[ -f own && ! -s own ]] && rm own && mv ../aside own ;;
@@ -193,6 +196,7 @@ if can_heed; then
     not_read 'no permission to read'
     not_read 'no permission to enter the folder'
     not_written 'no permission to write into the folder'
+    not_written 'a link into a folder that may not be written to'
     for slot in archive A B; do
         with_fault 'no permission to read the folder' $slot 0 agreed none
     done
@@ -206,10 +210,9 @@ not_read 'a link to itself'
 not_read 'a file in place of the folder'
 missing 'no file'
 missing 'a link to nothing'
-for kind in 'no folder' 'an empty name'; do
-    missing "$kind"
-    with_fault "$kind" archive 4 'harmony: WriteFault archive' archive
-done
+not_read 'no folder'
+not_read 'an empty name'
+not_read 'a link into no folder'
 not_written 'a long name'
 not_written 'a folder where the new file is made'
 

@@ -1,5 +1,6 @@
 # shellcheck shell=bash
-# What becomes of modes and of symbolic links, and of what stands where a new file is made.
+# What becomes of modes and of symbolic links, of what stands where a new file is made, of files with two names, and of
+# those that need not change.
 
 # modes_stay SCHEMA ARCHIVE A B: each file keeps its own, whatever mode the caller's new files have
 modes_stay() {
@@ -32,16 +33,19 @@ new_archive_mode() {
     finish
 }
 
-# linked SLOT: a symbolic link becomes a file with the mode of the one that it led to, which stays as it was
+# linked SLOT: a symbolic link stays, and the file that it leads to by way of another one is replaced, with its mode
 linked() {
     begin "a symbolic link as $1"
     both_change
-    mv "$1" target
-    cp target ../want/target
-    chmod 600 target
-    ln -s target "$1"
+    for folder in . ../want; do
+        mkdir $folder/shared
+        mv "$folder/$1" $folder/shared/target
+        ln -s target $folder/shared/link
+        ln -s shared/link "$folder/$1"
+    done
+    chmod 600 shared/target
     sync
-    has_mode "$1" 600
+    has_mode shared/target 600
     ends 0 agreed
     finish
 }
@@ -59,12 +63,15 @@ linked_schema() {
     finish
 }
 
-# An archive that leads to nothing isn't there. It becomes a file, and nothing comes to be where it led to.
+# An archive that leads to nothing isn't there. It comes to be where the link leads.
 archive_linked_to_nothing() {
     begin 'a symbolic link to nothing as archive'
     both_change
+    mkdir shared ../want/shared
     rm archive
-    ln -s nowhere archive
+    mv ../want/archive ../want/shared/archive
+    ln -s shared/archive archive
+    ln -s shared/archive ../want/archive
     sync
     ends 0 agreed
     finish
@@ -116,6 +123,81 @@ link_left_behind() {
     finish
 }
 
+# one_file SLOT OTHER COMMAND: the other slot has the file of this one, under a name that the command gives it
+one_file() {
+    begin "$2 is the file of $1: $3"
+    both_change
+    if [[ $3 == path ]]; then
+        rm "$2" "../want/$2"
+        path[$2]=./$1
+    else
+        $3 -f "$1" "$2"
+    fi
+    cp -P archive A B ../want 2>/dev/null
+    sync
+    ends 4 "harmony: ReadFault $2"
+    finish
+}
+
+# beside SLOT OTHER: the other slot has the name that the new file of this one would have
+beside() {
+    begin "$2 stands where the new file of $1 would be made"
+    path[$2]=$1.harmony-new
+    both_change
+    stopped_at "$1"
+    sync
+    ends 4 "harmony: WriteFault $1"
+    finish
+}
+
+# state_of FILE..: what a write, also one of the same bytes, would change
+state_of() {
+    stat -c '%n %i %s %y %z' "$@"
+}
+
+# untouched TITLE ARCHIVE A B SLOT..: these slots have what they are to have, and are left alone
+untouched() {
+    begin "left alone: $1"
+    files "$2" "$3" "$4" "$3" "$3" "$3"
+    local old
+    old=$(state_of "${@:5}")
+    sync
+    [[ $(state_of "${@:5}") == "$old" ]] || fault 'a file was touched'
+    ends 0 agreed
+    finish
+}
+
+# Files that are as they are to be are read, and that is all.
+nothing_done() {
+    begin 'files of the greatest size that need not change'
+    files largest largest largest largest largest largest
+    local old
+    old=$(state_of archive A B)
+    under=(strace -f -o ../trace)
+    sync
+    [[ $(state_of archive A B) == "$old" ]] || fault 'a file was touched'
+    ! grep -E '^[0-9 ]*(rename|unlink|fsync|fdatasync|f?chmod|ftruncate|write[a-z0-9]*\([^1]|open.*O_(WRONLY|RDWR|CREAT))' ../trace >../calls ||
+        fault "$(head -c 200 ../calls)"
+    ends 0 agreed
+    finish
+}
+
+# Files on two disks.
+two_disks() {
+    begin 'files on two disks'
+    mkdir own ../want/own
+    mount -t tmpfs -o size=64k none own
+    path[B]=own/B
+    path[archive]=own/archive
+    both_change
+    sync
+    ends 0 agreed
+    sync
+    ends 0 agreed
+    umount own
+    finish
+}
+
 modes_stay 600 600 600 600
 modes_stay 444 640 644 666
 modes_stay 640 755 400 777
@@ -128,3 +210,23 @@ archive_linked_to_nothing
 device_as_archive
 left_behind
 link_left_behind
+one_file A B path
+one_file A B ln
+one_file A B 'ln -s'
+one_file archive A ln
+beside A B
+beside B A
+beside A archive
+untouched 'all three' "$NEW" "$NEW" "$NEW" archive A B
+untouched 'A has changed' "$OLD" "$NEW" "$OLD" A
+untouched 'B and the archive are new already' "$NEW" "$NEW" "$NEW" B archive
+if can_trace; then
+    nothing_done
+else
+    skip 'calls of a run in which nothing changes' 'strace is not here, or may not be used'
+fi
+if can_mount; then
+    two_disks
+else
+    skip 'files on two disks' 'no small disk can be mounted here'
+fi
