@@ -1,17 +1,17 @@
 -- The definitions, tried on small trees: which names are carried, where it is contested, and a mark without a reason.
 use Rattle.std.proofs.Common.{◌≡◌, ◌≢◌, [], ◌∷◌, ◌++◌, Some, None, refl, sym, subst₂, ◌∙◌, inl, inr, arith}
 use mathlib.Core.Bool.{true≢false}
-use Rattle.std.specs.Prelude.{codes, Bool, false, true, T}
+use Rattle.std.specs.Prelude.{codes, false, T}
 use Rattle.std.specs.FinSet.{empty, contains-empty}
 use Rattle.std.specs.Str.{is_utf8}
 use Rattle.hm_tree.specs.declared.archive.State.TheVariants.{Missing, Present, Marked}
 use Rattle.hm_tree.specs.Names.{Name, name_cmp}
-use Rattle.hm_tree.specs.Nodes.{bare, mark, edge, is_node, both, Tree, marked, edges, edges_of, is_marked}
-use Rattle.hm_tree.specs.Archives.{Archive}
+use Rattle.hm_tree.specs.Nodes.{bare, mark, edge, both, Tree, marked, edges, edges_of, is_marked}
 use Rattle.hm_tree.specs.States.{Path, state}
 use Rattle.hm_tree.proofs.Texts.{ascii_test}
 use Rattle.hm_safety.specs.Views.{Views, Agree, both_present, both_missing}
 use Rattle.hm_safety.specs.Changes.{IsLost}
+use Rattle.hm_safety.proofs.SmallTrees.{nothing, ann, bob, tel, bob_text, tel_text, leaf_sound, leaf, has_bob, holds_ann, holds_bob, holds_nothing}
 use Rattle.hm_schema.specs.declared.node.NodeId.{NodeId}
 use Rattle.hm_schema.specs.Values.{Names, SchemaValue}
 use Rattle.hm_outcome.specs.Trios.{given, views}
@@ -22,62 +22,14 @@ use Rattle.hm_outcome.proofs.Marks.{has_or_lacks}
 
 -- ---- small trees and archives
 
-abbrev nothing : Tree
-nothing = record { shape = bare; sound = tt }
-
-abbrev holds_nothing : Archive
-holds_nothing = Some (record { shape = bare; sound = tt })
-
-abbrev ann : Name
-ann = codes "Ann"
-
-abbrev bob : Name
-bob = codes "Bob"
-
 abbrev cid : Name
 cid = codes "Cid"
-
-abbrev tel : Name
-tel = codes "tel"
-
--- each is UTF-8
-
-ann_text : T (is_utf8 ann)
-ann_text = ascii_test ann refl
-
-bob_text : T (is_utf8 bob)
-bob_text = ascii_test bob refl
 
 cid_text : T (is_utf8 cid)
 cid_text = ascii_test cid refl
 
-tel_text : T (is_utf8 tel)
-tel_text = ascii_test tel refl
-
--- one edge, to nothing, in a tree and in an archive
-leaf_sound : (m : Bool) (n : Name) → T (is_utf8 n) → T (is_node m true (edge n bare bare))
-leaf_sound m n text = both _ _ (both _ _ text tt) tt
-
-abbrev leaf : (n : Name) → T (is_utf8 n) → Tree
-leaf n text = record { shape = edge n bare bare; sound = leaf_sound false n text }
-
-abbrev holds : (n : Name) → T (is_utf8 n) → Archive
-holds n text = Some (record { shape = edge n bare bare; sound = leaf_sound true n text })
-
-abbrev has_ann : Tree
-has_ann = leaf ann ann_text
-
-abbrev has_bob : Tree
-has_bob = leaf bob bob_text
-
 abbrev has_cid : Tree
 has_cid = leaf cid cid_text
-
-abbrev holds_ann : Archive
-holds_ann = holds ann ann_text
-
-abbrev holds_bob : Archive
-holds_bob = holds bob bob_text
 
 abbrev bob_has_tel : Tree
 bob_has_tel = record {

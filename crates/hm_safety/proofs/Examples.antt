@@ -1,69 +1,18 @@
 -- The definitions, tried on small trees: what has changed, what clashes, and results that aren't safe.
 use Rattle.std.proofs.Common.{◌≡◌, ◌≢◌, [], ◌∷◌, ◌++◌, Some, refl, inl, inr}
-use Rattle.std.specs.Prelude.{codes, Bool, false, true, T}
-use Rattle.std.specs.Str.{is_utf8}
+use Rattle.std.specs.Prelude.{false}
 use Rattle.hm_tree.specs.declared.archive.State.TheVariants.{Missing, Present, Marked}
 use Rattle.hm_tree.specs.Names.{Name, name_cmp}
-use Rattle.hm_tree.specs.Nodes.{bare, mark, edge, is_node, both, Tree, marked, edges, edges_of, is_marked}
+use Rattle.hm_tree.specs.Nodes.{bare, mark, edge, both, Tree, marked, edges, edges_of, is_marked}
 use Rattle.hm_tree.specs.Archives.{Archive}
 use Rattle.hm_tree.specs.States.{Path, state}
-use Rattle.hm_tree.proofs.Texts.{ascii_test}
 use Rattle.hm_safety.specs.Views.{Views, Agree, both_present}
 use Rattle.hm_safety.specs.Changes.{HasChanged, Clash}
 use Rattle.hm_safety.specs.Safety.{IsTopmostMark, IsSafe}
+use Rattle.hm_safety.proofs.SmallTrees.{nothing, ann, bob, tel, bob_text, tel_text, leaf_sound, has_ann, has_bob, holds_ann, holds_bob, holds_nothing}
 
 abbrev before : Archive → Tree → Tree → Views
 before o a b = record { archive = state o; left = state (Some a); right = state (Some b) }
-
--- small trees and archives
-
-abbrev nothing : Tree
-nothing = record { shape = bare; sound = tt }
-
-abbrev ann : Name
-ann = codes "Ann"
-
-abbrev bob : Name
-bob = codes "Bob"
-
-abbrev tel : Name
-tel = codes "tel"
-
--- each is UTF-8
-
-ann_text : T (is_utf8 ann)
-ann_text = ascii_test ann refl
-
-bob_text : T (is_utf8 bob)
-bob_text = ascii_test bob refl
-
-tel_text : T (is_utf8 tel)
-tel_text = ascii_test tel refl
-
--- one edge, to nothing, in a tree and in an archive
-leaf_sound : (m : Bool) (n : Name) → T (is_utf8 n) → T (is_node m true (edge n bare bare))
-leaf_sound m n text = both _ _ (both _ _ text tt) tt
-
-abbrev leaf : (n : Name) → T (is_utf8 n) → Tree
-leaf n text = record { shape = edge n bare bare; sound = leaf_sound false n text }
-
-abbrev holds : (n : Name) → T (is_utf8 n) → Archive
-holds n text = Some (record { shape = edge n bare bare; sound = leaf_sound true n text })
-
-abbrev has_ann : Tree
-has_ann = leaf ann ann_text
-
-abbrev has_bob : Tree
-has_bob = leaf bob bob_text
-
-abbrev holds_ann : Archive
-holds_ann = holds ann ann_text
-
-abbrev holds_bob : Archive
-holds_bob = holds bob bob_text
-
-abbrev holds_nothing : Archive
-holds_nothing = Some (record { shape = bare; sound = tt })
 
 disagree : Agree Present Missing → ⊥
 disagree h = elim h [ ]

@@ -1,2 +1,3 @@
+pub mod SmallTrees
 mod Examples
 pub mod Shallow
