@@ -127,7 +127,7 @@ meanwhile() {
         three_changes
     fi
     stopped_at "$1"
-    under=(strace -o ../trace -e "inject=$name:delay_enter=1000000:when=$number")
+    under=(strace -o ../trace -e "inject=$name:delay_enter=2000000:when=$number")
     {
         until awk '/"B"/ { opened = 1 } opened && /^read.* = 0$/ { found = 1 } END { exit !found }' ../trace 2>/dev/null; do
             sleep 0.05
