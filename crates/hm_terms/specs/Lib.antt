@@ -1,0 +1,5 @@
+pub mod Lenses
+pub mod Parts
+pub mod Shown
+pub mod Put
+pub mod Kept
