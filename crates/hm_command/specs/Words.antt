@@ -28,8 +28,7 @@ abbrev pub is_flag : Name → Bool
 is_flag [] = false
 is_flag (c ∷ cs) = c == 45
 
--- ---- equal names
-
+-- two files with equal names
 abbrev pub has_name_of : File → File → Bool
 has_name_of f g = bytes_eq f.name g.name
 
@@ -37,8 +36,6 @@ has_name_of f g = bytes_eq f.name g.name
 unfoldable pub first_pair : List File → Option (File × File)
 first_pair [] = None
 first_pair (f ∷ fs) = option_or (option_map (λ g. (f, g)) (find (has_name_of f) fs)) (first_pair fs)
-
--- ---- the meaning
 
 -- the files, or their first pair of equal names
 abbrev pub apart : FileNames → Option (File × File) → Result FileNames Refusal
@@ -53,8 +50,6 @@ meaning (command ∷ schema ∷ archive ∷ left ∷ right ∷ []) =
     then Err Usage
     else apart files (first_pair (slots files))
 meaning _ = Err Usage
-
--- ---- what is found, seen so
 
 abbrev pub names : Files → FileNames
 names files = record { schema = files.schema.now; archive = files.archive.now; left = files.left.now; right = files.right.now }

@@ -10,8 +10,6 @@ use Rattle.hm_files.specs.declared.stop.Refusal.TheVariants.{Usage, SameName, At
 use Rattle.hm_files.specs.declared.stop.Stop.{Stop}
 use Rattle.hm_files.specs.declared.stop.Stop.TheVariants.{Refused, Fault, Memory}
 
--- ---- what is to be found: a value or a refusal
-
 -- a first step, and a second one with its value; a refusal of the first is that of both
 pub data Then {A B : Type 0} (first : Result A Refusal → Type 0) (second : A → Result B Refusal → Type 0) : Result B Refusal → Type 0 where
   stops : {refusal : Refusal} → first (Err refusal) → Then first second (Err refusal)
@@ -20,8 +18,6 @@ pub data Then {A B : Type 0} (first : Result A Refusal → Type 0) (second : A �
 -- a reader or a step finds one thing at the most
 abbrev pub FindsOne : {A F : Type 0} → (Result A F → Type 0) → Type 0
 FindsOne {A} {F} finds = (r s : Result A F) → finds r → finds s → r ≡ s
-
--- ---- what a step did
 
 -- a fact on the value, where it is told
 abbrev pub WhereTold : {T : Type 0} → Option T → (T → Type 0) → Type 0
