@@ -24,7 +24,7 @@ use Rattle.hm_files.specs.Steps.{FindsOne}
 use Rattle.hm_files.proofs.Steps.{sides_once, equals_once, then_once}
 use Rattle.hm_command.specs.Words.{FileNames}
 use Rattle.hm_run.specs.declared.read.Inputs.{Inputs}
-use Rattle.hm_run.specs.Reads.{Told, ChecksText, ChecksMember, ReadsReplica, ReadsFour, ReadsAll, schema_stop, archive_stop, replica_stop}
+use Rattle.hm_run.specs.Reads.{Told, ChecksText, ChecksMember, ReadsReplica, ReadsReplicas, ReadsFour, ReadsAll, schema_stop, archive_stop, replica_stop}
 use Rattle.hm_run.specs.Verdict.{Synced, Plans, PlansFrom, VerdictOf, Becomes, Reconciles}
 
 -- ---- what a reader finds, told as a refusal
@@ -56,13 +56,17 @@ replica_once s at bytes =
 
 -- ---- the four files
 
+replicas_once : (s : SchemaValue) (left right : List ℕ) → FindsOne (ReadsReplicas s left right)
+unfolding ReadsReplicas
+replicas_once s left right =
+    then_once _ _ (replica_once s slot.A left) (λ a. then_once _ _ (replica_once s slot.B right) (λ b. equals_once _))
+
 four_once : (schema archive left right : List ℕ) → FindsOne (ReadsFour schema archive left right)
 unfolding ReadsFour
 four_once schema archive left right =
     then_once _ _ (told_once schema_stop (ReadsSchema schema) (schema_reads_once schema)) (λ s.
     then_once _ _ (told_once archive_stop (ReadsArchive archive) (archive_reads_once archive)) (λ o.
-    then_once _ _ (replica_once s slot.A left) (λ a.
-    then_once _ _ (replica_once s slot.B right) (λ b. equals_once _))))
+    then_once _ _ (replicas_once s left right) (λ t. equals_once _)))
 
 -- ---- the verdict
 

@@ -26,9 +26,9 @@ use Rattle.hm_outcome.proofs.Best.{outcome_maximal, outcome_only}
 use Rattle.hm_report.proofs.Explained.{explained}
 use Rattle.hm_run.specs.declared.read.Inputs.{Inputs}
 use Rattle.hm_run.specs.Verdict.{Synced, AreRead, texts_of, Becomes, Plan, Plans, PlansFrom, VerdictOf, Verdict, conflicts_status}
-use Rattle.hm_run.specs.Endings.{IsDone, Works, Outside, HasPut, EndsAs, old_trio, new_trio, IsPlan, IsSynchronised, IsReported, IsCarriedOut, IsComplete}
+use Rattle.hm_run.specs.Endings.{IsDone, Works, Outside, HasPut, EndsAs, old_trio, new_trio, IsSynchronised, IsReported, IsCarriedOut, IsComplete}
 use Rattle.hm_run.proofs.Once.{verdict_once}
-use Rattle.hm_run.proofs.Working.{IsOfSchema, of_schema, members_of}
+use Rattle.hm_run.proofs.Working.{IsOfSchema, of_schema}
 
 -- ---- what a plan begins with, and comes to
 
@@ -42,17 +42,14 @@ founded c meant plan h =
     let is : ◌≡◌ {A = Plan} (record { files = files.0; before = before.0; after = after.0 }) plan = let e = (then_ok after.2).2 in cc in
     subst (λ (p : Plan). Becomes p.before p.after × IsOfSchema p.before) is (after.1, of_schema _ before.0 before.1)
 
-is_plan : (words : List Name) (c : Contents) (plan : Plan) → Verdict c words (Ok plan) → IsPlan words c plan
-is_plan words c plan h = record { planned = h; only = λ r k. verdict_once c (meaning words) r (Ok plan) k h }
-
 -- ---- the new files are read
 
 -- no text is deeper than the replicas were
 new_read : (before : Inputs) (after : Synced) → IsOfSchema before → Becomes before after → AreRead (texts_of after) after
 new_read t u of becomes =
     let safe = becomes.safe.safe in
-    let a = of.left.shallow in
-    let b = of.right.shallow in
+    let a = of.left in
+    let b = of.right in
     let archive = archive_shallow t.archive u.archive t.left t.right u.left u.right 1000 safe a b in
     let left = left_shallow t.archive u.archive t.left t.right u.left u.right 1000 safe a b in
     let right = right_shallow t.archive u.archive t.left t.right u.left u.right 1000 safe a b in record {
@@ -118,7 +115,7 @@ module _ (words : List Name) (before after : Outside) where
         let begun = founded c (meaning words) plan h.state.planned in
         let outcome = begun.0 in record {
           plan = plan;
-          planned = is_plan words c plan h.state.planned;
+          planned = record { planned = h.state.planned; only = λ r k. verdict_once c (meaning words) r (Ok plan) k h.state.planned };
           new = h.state.is;
           read = new_read plan.before plan.after begun.1 outcome;
           safe = outcome.safe.safe;
@@ -135,11 +132,11 @@ module _ (words : List Name) (before after : Outside) where
         let root = plan.before.schema.root in
         let begun = founded c (meaning words) plan h.state.planned in record {
           plan = plan;
-          planned = is_plan words c plan h.state.planned;
+          planned = record { planned = h.state.planned; only = λ r k. verdict_once c (meaning words) r (Ok plan) k h.state.planned };
           tells = h.tells.tells;
           put = puts w is ∙ ap (λ t. Some (w ++ t)) h.tells.text;
           explained = explained plan.before.schema root (old_trio plan) (new_trio plan) h.tells.tells.conflicts begun.0 h.tells.tells.remain;
-          apart = marks_differ plan.before.schema root (old_trio plan) (new_trio plan) (members_of plan.before begun.1) begun.0;
+          apart = marks_differ plan.before.schema root (old_trio plan) (new_trio plan) begun.1.members begun.0;
         };
     refused = λ s c told. let h = done c told in absurd (omega (arith, h.tells.tells.told, conflicts_low (length h.tells.tells.conflicts)));
     complete = λ same calm c told.

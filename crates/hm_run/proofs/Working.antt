@@ -20,44 +20,39 @@ use Rattle.hm_files.proofs.Steps.{stopped, then_ok}
 use Rattle.hm_command.specs.declared.ending.Output.{Output}
 use Rattle.hm_command.specs.Words.{FileNames, slots}
 use Rattle.hm_run.specs.declared.read.Inputs.{Inputs}
-use Rattle.hm_run.specs.Reads.{ReadsReplica, ReadsFour, ReadsAll}
+use Rattle.hm_run.specs.Reads.{ReadsReplica, ReadsReplicas, ReadsFour, ReadsAll}
 use Rattle.hm_run.specs.Verdict.{Synced, Plan, Plans, PlansFrom, VerdictOf, Becomes, IsReport, news_of, texts_of, IsPlanned}
 use Rattle.hm_run.specs.Endings.{Synchronises, IsFault, IsStopState, IsDone, Works}
 
 -- ---- what is known of what was read
 
--- a member that isn't too deep
-pub record IsFit (s : SchemaValue) (t : Tree) : Type 0 where
-  pub member : IsMember s s.root (state (Some t))
-  pub shallow : depth t ≤ 1000
-
+-- both replicas are members, and neither is too deep
 pub record IsOfSchema (t : Inputs) : Type 0 where
   pub no_twins : HasNoTwins t.schema
-  pub left : IsFit t.schema t.left
-  pub right : IsFit t.schema t.right
+  pub members : AreMembers t.schema t.schema.root (views (given t.archive t.left t.right))
+  pub left : depth t.left ≤ 1000
+  pub right : depth t.right ≤ 1000
 
-fit : (s : SchemaValue) (at : Slot) (bytes : List ℕ) (t : Tree) → ReadsReplica s at bytes (Ok t) → IsFit s t
+fit : (s : SchemaValue) (at : Slot) (bytes : List ℕ) (t : Tree) → ReadsReplica s at bytes (Ok t)
+    → IsMember s s.root (state (Some t)) × (depth t ≤ 1000)
 unfolding ReadsReplica
 fit s at bytes t h =
     let tree = then_ok (then_ok h).2 in
-    subst (IsFit s) (sym tree.2.0) (record { member = tree.2.1; shallow = tree.1.shallow })
+    subst (λ (u : Tree). IsMember s s.root (state (Some u)) × (depth u ≤ 1000)) (sym tree.2.0) (tree.2.1, tree.1.shallow)
 
 pub of_schema : (all : List (List ℕ)) (t : Inputs) → ReadsAll all (Ok t) → IsOfSchema t
-unfolding ReadsAll ReadsFour
+unfolding ReadsAll ReadsFour ReadsReplicas
 of_schema all t h =
     let s = then_ok h in
     let o = then_ok s.2 in
-    let a = then_ok o.2 in
+    let both = then_ok o.2 in
+    let a = then_ok both.1 in
     let b = then_ok a.2 in
-    let is : ◌≡◌ {A = Inputs} (record { schema = s.0; archive = o.0; left = a.0; right = b.0 }) t = let e = b.2 in cc in
-    subst IsOfSchema is (record {
-      no_twins = schema_no_twins _ s.0 s.1;
-      left = fit s.0 ASlot _ a.0 a.1;
-      right = fit s.0 BSlot _ b.0 b.1;
-    })
-
-pub members_of : (t : Inputs) → IsOfSchema t → AreMembers t.schema t.schema.root (views (given t.archive t.left t.right))
-members_of t of = record { left = of.left.member; right = of.right.member }
+    let is : ◌≡◌ {A = Inputs} (record { schema = s.0; archive = o.0; left = a.0; right = b.0 }) t = let e = both.2 in let f = b.2 in cc in
+    let left = fit s.0 ASlot _ a.0 a.1 in
+    let right = fit s.0 BSlot _ b.0 b.1 in
+    subst IsOfSchema is
+    (record { no_twins = schema_no_twins _ s.0 s.1; members = record { left = left.0; right = right.0 }; left = left.1; right = right.1 })
 
 -- ---- a plan
 

@@ -23,8 +23,7 @@ use Rattle.hm_files.specs.declared.stop.Stop.TheVariants.{Refused, Memory}
 use Rattle.hm_files.specs.Steps.{Then}
 use Rattle.hm_run.specs.declared.read.Inputs.{Inputs}
 
--- ---- the faults of readers, as what stops a run
-
+-- the faults of readers, as what stops a run
 abbrev pub schema_stop : SchemaFault → Stop
 schema_stop (schema.BadSchema line) = Refused (At slot.Schema (BadSchema line))
 schema_stop schema.Memory = Memory
@@ -60,15 +59,16 @@ ReadsReplica s at bytes =
     Then (ChecksText at bytes) (λ checked.
     Then (Told (replica_stop at) (ReadsTree bytes)) (ChecksMember s at))
 
--- ---- the four files
+unfoldable pub ReadsReplicas : SchemaValue → List ℕ → List ℕ → Result (Tree × Tree) Refusal → Type 0
+ReadsReplicas s left right =
+    Then (ReadsReplica s slot.A left) (λ a. Then (ReadsReplica s slot.B right) (λ b r. r ≡ Ok (a, b)))
 
 unfoldable pub ReadsFour : List ℕ → List ℕ → List ℕ → List ℕ → Result Inputs Refusal → Type 0
 ReadsFour schema archive left right =
     Then (Told schema_stop (ReadsSchema schema)) (λ s.
     Then (Told archive_stop (ReadsArchive archive)) (λ o.
-    Then (ReadsReplica s slot.A left) (λ a.
-    Then (ReadsReplica s slot.B right) (λ b r.
-    r ≡ Ok (record { schema = s; archive = o; left = a; right = b })))))
+    Then (ReadsReplicas s left right) (λ t r.
+    r ≡ Ok (record { schema = s; archive = o; left = t.0; right = t.1 }))))
 
 -- by the bytes of the files in the order of their slots
 unfoldable pub ReadsAll : List (List ℕ) → Result Inputs Refusal → Type 0

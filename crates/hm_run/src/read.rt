@@ -5,7 +5,7 @@ ghost use Rattle.hm_tree_text.specs.Reads.{ReadsTree, ReadsArchive};
 ghost use Rattle.hm_schema_text.specs.SchemaFiles.{ReadsSchema};
 ghost use Rattle.hm_files.specs.Steps.{Computes};
 ghost use Rattle.hm_files.specs.Files.{bytes_of};
-ghost use Rattle.hm_run.specs.Reads.{Told, ChecksText, ChecksMember, ReadsReplica, ReadsFour, ReadsAll, schema_stop, archive_stop, replica_stop};
+ghost use Rattle.hm_run.specs.Reads.{Told, ChecksText, ChecksMember, ReadsReplica, ReadsReplicas, ReadsFour, ReadsAll, schema_stop, archive_stop, replica_stop};
 
 use hm_files::{ArchiveFault, FileFault, Refusal, ReplicaFault, Slot, Stop};
 use hm_schema::Schema;
@@ -120,6 +120,21 @@ fn read_replica(alloc: Global, schema: &Schema, slot: Slot, bytes: &[u8]) -> Res
     check_member(alloc, schema, slot, tree)
 }
 
+// Both replicas, the left one first.
+fn read_replicas(
+    alloc: Global,
+    schema: &Schema,
+    left: &[u8],
+    right: &[u8],
+) -> Result<(Tree, Tree), Stop>
+    requires { HasNoTwins schema.now }
+    ensures { Computes (ReadsReplicas schema.now left.now right.now) result }
+{
+    let left = read_replica(alloc, schema, Slot::A, left)?;
+    let right = read_replica(alloc, schema, Slot::B, right)?;
+    Ok((left, right))
+}
+
 fn read_four(
     alloc: Global,
     schema: &[u8],
@@ -131,8 +146,7 @@ fn read_four(
 {
     let schema = read_schema(alloc, schema)?;
     let archive = read_archive(alloc, archive)?;
-    let left = read_replica(alloc, &schema, Slot::A, left)?;
-    let right = read_replica(alloc, &schema, Slot::B, right)?;
+    let (left, right) = read_replicas(alloc, &schema, left, right)?;
     Ok(Inputs {
         schema,
         archive,

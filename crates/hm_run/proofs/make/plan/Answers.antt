@@ -3,14 +3,14 @@ use Rattle.hm_files.specs.Files.{all_bytes}
 use Rattle.hm_files.proofs.Steps.{computes_stop}
 use Rattle.hm_command.specs.Words.{names}
 use Rattle.hm_run.specs.Verdict.{Makes, Texts, news_of}
-use Rattle.hm_run.proofs.Working.{of_schema, members_of, reads_first, measures_first, planned}
+use Rattle.hm_run.proofs.Working.{of_schema, reads_first, measures_first, planned}
 use Rattle.hm_run.proofs.make.plan.Goals as goal
 
 pub make-requires-clause-no_twins : goal.make-requires-clause-no_twins
 make-requires-clause-no_twins c = (of_schema _ _ c.in_ok-inputs.ensures.0).no_twins
 
 pub make-requires-clause-members : goal.make-requires-clause-members
-make-requires-clause-members c = members_of _ (of_schema _ _ c.in_ok-inputs.ensures.0)
+make-requires-clause-members c = (of_schema _ _ c.in_ok-inputs.ensures.0).members
 
 pub returns-in_err-inputs : goal.returns-in_err-inputs
 returns-in_err-inputs c = computes_stop (Makes (names c.args.files) (all_bytes c.args.loads)) _ _ _ (search rules)

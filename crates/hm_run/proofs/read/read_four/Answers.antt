@@ -1,15 +1,12 @@
 use Rattle.std.proofs.Common.{refl, rules}
 use Rattle.hm_schema_text.proofs.Laws.{schema_no_twins}
 use Rattle.hm_files.specs.Steps.{goes_on}
-use Rattle.hm_run.specs.Reads.{ReadsFour}
 use Rattle.hm_files.proofs.Steps.{then_stop, then_go}
+use Rattle.hm_run.specs.Reads.{ReadsFour}
 use Rattle.hm_run.proofs.read.read_four.Goals as goal
 
-pub read_replica-requires : goal.read_replica-requires
-read_replica-requires c = schema_no_twins _ _ c.in_ok-schema.ensures.0
-
-pub read_replica-requires-2 : goal.read_replica-requires-2
-read_replica-requires-2 c = schema_no_twins _ _ c.in_ok-schema.ensures.0
+pub read_replicas-requires : goal.read_replicas-requires
+read_replicas-requires c = schema_no_twins _ _ c.in_ok-schema.ensures.0
 
 pub returns-in_err-schema : goal.returns-in_err-schema
 unfolding ReadsFour
@@ -17,25 +14,13 @@ returns-in_err-schema c = then_stop _ _ _ _ (search rules) c.in_err-schema.ensur
 
 pub returns-in_err-archive : goal.returns-in_err-archive
 unfolding ReadsFour
-returns-in_err-archive c = then_go _ _ _ _ c.in_ok-schema.ensures.0
-    (then_stop _ _ _ _ (search rules) c.in_err-archive.ensures)
+returns-in_err-archive c = then_go _ _ _ _ c.in_ok-schema.ensures.0 (then_stop _ _ _ _ (search rules) c.in_err-archive.ensures)
 
 pub returns-in_err-left : goal.returns-in_err-left
 unfolding ReadsFour
-returns-in_err-left c =
-    then_go _ _ _ _ c.in_ok-schema.ensures.0 (then_go _ _ _ _ c.in_ok-archive.ensures.0
-    (then_stop _ _ _ _ (search rules) c.in_err-left.ensures))
-
-pub returns-in_err-right : goal.returns-in_err-right
-unfolding ReadsFour
-returns-in_err-right c =
-    then_go _ _ _ _ c.in_ok-schema.ensures.0 (then_go _ _ _ _ c.in_ok-archive.ensures.0
-    (then_go _ _ _ _ c.in_ok-left.ensures.0 (then_stop _ _ _ _ (search rules) c.in_err-right.ensures)))
+returns-in_err-left c = then_go _ _ _ _ c.in_ok-schema.ensures.0
+    (then_go _ _ _ _ c.in_ok-archive.ensures.0 (then_stop _ _ _ _ (search rules) c.in_err-left.ensures))
 
 pub returns : goal.returns
 unfolding ReadsFour
-returns c = (
-  goes_on c.in_ok-schema.ensures.0
-      (goes_on c.in_ok-archive.ensures.0 (goes_on c.in_ok-left.ensures.0 (goes_on c.in_ok-right.ensures.0 refl))),
-  refl,
-)
+returns c = (goes_on c.in_ok-schema.ensures.0 (goes_on c.in_ok-archive.ensures.0 (goes_on c.in_ok-left.ensures.0 refl)), refl)
