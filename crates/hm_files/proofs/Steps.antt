@@ -35,6 +35,9 @@ module _ {A B : Type 0} (first : Result A Refusal → Type 0) (second : A → Re
   then_once _ _ (goes_on {x} {r} h l) (goes_on {x = y} {r = s} k m) =
       let e = one _ _ h k in let same : x ≡ y = cc in next y r s (subst (λ z. second z r) same l) m
 
+pub ok_is : {A F : Type 0} (x y : A) → ◌≡◌ {A = Result A F} (Ok x) (Ok y) → x ≡ y
+ok_is x y e = cc
+
 -- two steps that have a value have it by both
 pub then_ok : {A B : Type 0} {first : Result A Refusal → Type 0} {second : A → Result B Refusal → Type 0} {y : B} → Then first second (Ok y)
     → (x : A) × first (Ok x) × second x (Ok y)

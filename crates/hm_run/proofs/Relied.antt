@@ -14,7 +14,7 @@ use Rattle.hm_files.specs.declared.stop.Refusal.TheVariants.{Usage, SameName, At
 use Rattle.hm_files.specs.declared.stop.Stop.{Stop}
 use Rattle.hm_files.specs.declared.stop.Stop.TheVariants.{Refused, Fault, Memory}
 use Rattle.hm_files.specs.Steps.{WhereTold, stops}
-use Rattle.hm_files.proofs.Steps.{then_ok}
+use Rattle.hm_files.proofs.Steps.{ok_is, then_ok}
 use Rattle.hm_command.specs.declared.ending.Ending.{Ending}
 use Rattle.hm_command.specs.declared.ending.Output.{Output}
 use Rattle.hm_command.specs.Words.{FileNames, meaning}
@@ -39,8 +39,7 @@ founded c meant plan h =
     let files = then_ok h in
     let before = then_ok (then_ok files.2).2 in
     let after = then_ok before.2 in
-    let is : ◌≡◌ {A = Plan} (record { files = files.0; before = before.0; after = after.0 }) plan = let e = (then_ok after.2).2 in cc in
-    subst (λ (p : Plan). Becomes p.before p.after × IsOfSchema p.before) is (after.1, of_schema _ before.0 before.1)
+    subst (λ (p : Plan). Becomes p.before p.after × IsOfSchema p.before) (sym (ok_is _ _ (then_ok after.2).2)) (after.1, of_schema _ before.0 before.1)
 
 -- ---- the new files are read
 
@@ -48,8 +47,8 @@ founded c meant plan h =
 new_read : (before : Inputs) (after : Synced) → IsOfSchema before → Becomes before after → AreRead (texts_of after) after
 new_read t u of becomes =
     let safe = becomes.safe.safe in
-    let a = of.left in
-    let b = of.right in
+    let a = of.left.1 in
+    let b = of.right.1 in
     let archive = archive_shallow t.archive u.archive t.left t.right u.left u.right 1000 safe a b in
     let left = left_shallow t.archive u.archive t.left t.right u.left u.right 1000 safe a b in
     let right = right_shallow t.archive u.archive t.left t.right u.left u.right 1000 safe a b in record {
@@ -136,7 +135,7 @@ module _ (words : List Name) (before after : Outside) where
           tells = h.tells.tells;
           put = puts w is ∙ ap (λ t. Some (w ++ t)) h.tells.text;
           explained = explained plan.before.schema root (old_trio plan) (new_trio plan) h.tells.tells.conflicts begun.0 h.tells.tells.remain;
-          apart = marks_differ plan.before.schema root (old_trio plan) (new_trio plan) begun.1.members begun.0;
+          apart = marks_differ plan.before.schema root (old_trio plan) (new_trio plan) (record { left = begun.1.left.0; right = begun.1.right.0 }) begun.0;
         };
     refused = λ s c told. let h = done c told in absurd (omega (arith, h.tells.tells.told, conflicts_low (length h.tells.tells.conflicts)));
     complete = λ same calm c told.

@@ -5,7 +5,6 @@ use Rattle.hm_tree.specs.States.{state}
 use Rattle.hm_schema.specs.Values.{SchemaValue}
 use Rattle.hm_schema.specs.Membership.{IsMember, HasNoTwins}
 use Rattle.hm_schema_text.proofs.Laws.{schema_no_twins}
-use Rattle.hm_outcome.specs.Trios.{given, views, AreMembers}
 use Rattle.hm_outside.specs.Contents.{Contents}
 use Rattle.hm_outside.specs.declared.outside.Failure.{Failure}
 use Rattle.hm_outside.specs.declared.outside.Kind.{Kind}
@@ -16,7 +15,7 @@ use Rattle.hm_files.specs.declared.stop.Stop.{Stop}
 use Rattle.hm_files.specs.declared.stop.Stop.TheVariants.{Memory}
 use Rattle.hm_files.specs.Steps.{Stopped, Leaves, WhereTold, stops, goes_on}
 use Rattle.hm_files.specs.Files.{New, loads, measures, written, AreUnread, AreUnwritten}
-use Rattle.hm_files.proofs.Steps.{stopped, then_ok}
+use Rattle.hm_files.proofs.Steps.{stopped, ok_is, then_ok}
 use Rattle.hm_command.specs.declared.ending.Output.{Output}
 use Rattle.hm_command.specs.Words.{FileNames, slots}
 use Rattle.hm_run.specs.declared.read.Inputs.{Inputs}
@@ -26,33 +25,33 @@ use Rattle.hm_run.specs.Endings.{Synchronises, IsFault, IsStopState, IsDone, Wor
 
 -- ---- what is known of what was read
 
--- both replicas are members, and neither is too deep
+-- a member that isn't too deep
+abbrev pub IsFit : SchemaValue → Tree → Type 0
+IsFit s t = IsMember s s.root (state (Some t)) × (depth t ≤ 1000)
+
 pub record IsOfSchema (t : Inputs) : Type 0 where
   pub no_twins : HasNoTwins t.schema
-  pub members : AreMembers t.schema t.schema.root (views (given t.archive t.left t.right))
-  pub left : depth t.left ≤ 1000
-  pub right : depth t.right ≤ 1000
+  pub left : IsFit t.schema t.left
+  pub right : IsFit t.schema t.right
 
-fit : (s : SchemaValue) (at : Slot) (bytes : List ℕ) (t : Tree) → ReadsReplica s at bytes (Ok t)
-    → IsMember s s.root (state (Some t)) × (depth t ≤ 1000)
+fit : (s : SchemaValue) (at : Slot) (bytes : List ℕ) (t : Tree) → ReadsReplica s at bytes (Ok t) → IsFit s t
 unfolding ReadsReplica
-fit s at bytes t h =
-    let tree = then_ok (then_ok h).2 in
-    subst (λ (u : Tree). IsMember s s.root (state (Some u)) × (depth u ≤ 1000)) (sym tree.2.0) (tree.2.1, tree.1.shallow)
+fit s at bytes t h = let tree = then_ok (then_ok h).2 in subst (IsFit s) (sym tree.2.0) (tree.2.1, tree.1.shallow)
+
+both_fit : (s : SchemaValue) (left right : List ℕ) (t : Tree × Tree) → ReadsReplicas s left right (Ok t) → IsFit s t.0 × IsFit s t.1
+unfolding ReadsReplicas
+both_fit s left right t h =
+    let a = then_ok h in
+    let b = then_ok a.2 in
+    subst (λ (p : Tree × Tree). IsFit s p.0 × IsFit s p.1) (sym (ok_is _ _ b.2)) (fit s ASlot left a.0 a.1, fit s BSlot right b.0 b.1)
 
 pub of_schema : (all : List (List ℕ)) (t : Inputs) → ReadsAll all (Ok t) → IsOfSchema t
-unfolding ReadsAll ReadsFour ReadsReplicas
+unfolding ReadsAll ReadsFour
 of_schema all t h =
     let s = then_ok h in
-    let o = then_ok s.2 in
-    let both = then_ok o.2 in
-    let a = then_ok both.1 in
-    let b = then_ok a.2 in
-    let is : ◌≡◌ {A = Inputs} (record { schema = s.0; archive = o.0; left = a.0; right = b.0 }) t = let e = both.2 in let f = b.2 in cc in
-    let left = fit s.0 ASlot _ a.0 a.1 in
-    let right = fit s.0 BSlot _ b.0 b.1 in
-    subst IsOfSchema is
-    (record { no_twins = schema_no_twins _ s.0 s.1; members = record { left = left.0; right = right.0 }; left = left.1; right = right.1 })
+    let both = then_ok (then_ok s.2).2 in
+    let fits = both_fit s.0 _ _ both.0 both.1 in
+    subst IsOfSchema (sym (ok_is _ _ both.2)) (record { no_twins = schema_no_twins _ s.0 s.1; left = fits.0; right = fits.1 })
 
 -- ---- a plan
 

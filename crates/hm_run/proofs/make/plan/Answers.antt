@@ -10,7 +10,7 @@ pub make-requires-clause-no_twins : goal.make-requires-clause-no_twins
 make-requires-clause-no_twins c = (of_schema _ _ c.in_ok-inputs.ensures.0).no_twins
 
 pub make-requires-clause-members : goal.make-requires-clause-members
-make-requires-clause-members c = (of_schema _ _ c.in_ok-inputs.ensures.0).members
+make-requires-clause-members c = let of = of_schema _ _ c.in_ok-inputs.ensures.0 in record { left = of.left.0; right = of.right.0 }
 
 pub returns-in_err-inputs : goal.returns-in_err-inputs
 returns-in_err-inputs c = computes_stop (Makes (names c.args.files) (all_bytes c.args.loads)) _ _ _ (search rules)
