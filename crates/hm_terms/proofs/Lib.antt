@@ -2,4 +2,5 @@ pub mod Maps
 pub mod OneShown
 pub mod OnePut
 pub mod Refused
+pub mod Laws
 mod Examples
