@@ -4,3 +4,4 @@ pub mod OnePut
 pub mod Refused
 pub mod Laws
 mod Examples
+mod Cycles

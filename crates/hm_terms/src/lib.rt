@@ -6,5 +6,6 @@
 //! finite maps from names to what stands below them (`specs/Parts`). They follow Combinators for Bidirectional Tree
 //! Transformations (TOPLAS 2007). This crate has definitions alone; `proofs/OneShown` and `proofs/OnePut` show that a
 //! lens shows one view at the most and puts one tree at the most, and `proofs/Examples` tries it on small trees. When a
-//! lens fits its trees and views, so that it never fails on them and meets the laws, is `specs/Fitting`.
+//! lens fits its trees and views, so that it never fails on them and meets the laws, is `specs/Fitting`, and which
+//! definitions could call one another without end is `specs/Calls`.
 #![tactic(auto)]
