@@ -1,4 +1,4 @@
-pub mod Lists
+mod Lists
 pub mod Steps
 mod Loading
 mod Writing

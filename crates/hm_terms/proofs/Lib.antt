@@ -1,7 +1,7 @@
-pub mod Maps
-pub mod OneShown
-pub mod OnePut
-pub mod Refused
-pub mod Laws
+mod Maps
+mod OneShown
+mod OnePut
+mod Refused
+mod Laws
 mod Examples
 mod Cycles
