@@ -6,7 +6,6 @@ mod FirstNews
 mod CarriedNames
 mod Shown
 mod Fronts
-mod Under
 mod Held
 mod SameNames
 mod Naming

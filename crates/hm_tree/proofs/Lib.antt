@@ -1,11 +1,15 @@
 pub mod Texts
 pub mod Sorted
+pub mod Under
+mod Merged
+mod Passed
+pub mod Parted
 pub mod Depths
 mod Deepest
 pub mod States
 pub mod PathLaws
 pub mod Paths
-mod Steps
+pub mod Steps
 pub mod Utf8Names
 pub mod DepthLaws
 pub mod Extent

@@ -3,6 +3,8 @@ pub mod NameLaws
 pub mod Texts
 pub mod Sets
 pub mod Nodes
+pub mod Parts
+pub mod Merging
 pub mod NodeLaws
 pub mod Archives
 pub mod States

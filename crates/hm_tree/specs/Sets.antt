@@ -1,5 +1,6 @@
 -- The names of a set, in ascending order.
-use Rattle.std.specs.Prelude.{List, [], ◌∷◌, map}
+use Rattle.std.specs.Prelude.{◌≡◌, ℕ, ◌<◌, ◌≤◌, List, [], ◌∷◌, map, length, get_or}
+use Rattle.std.specs.declared.cmp.Ordering.TheVariants.{Less}
 use Rattle.std.specs.FinMap.{put}
 use Rattle.std.specs.FinSet.{FinSet, items}
 use Rattle.hm_tree.specs.Names.{Name, name_cmp}
@@ -11,3 +12,8 @@ placed (k ∷ names) = put name_cmp k tt (placed names)
 
 unfoldable pub ascending : FinSet name_cmp → List Name
 ascending names = map (λ e. e.0) (placed (items names))
+
+-- the names before a place are less than a name
+pub record ArePassed (names : List Name) (at : ℕ) (name : Name) : Type 0 where
+  pub within : at ≤ length names
+  pub less : (j : ℕ) (d : Name) → j < at → name_cmp (get_or names j d) name ≡ Less

@@ -1,12 +1,15 @@
 //! Edges in the order of their names.
 ghost use Rattle.std.specs.Prelude.{◌≡◌, ◌≤◌, T, IfOk, IfErr, OnOk, OnErr, IsTrue, length};
 ghost use Rattle.std.specs.List.{insert};
-ghost use Rattle.std.specs.FinMap.{is_sorted};
-ghost use Rattle.hm_tree.specs.Names.{name_cmp};
+ghost use Rattle.std.specs.FinMap.{is_sorted, find};
+ghost use Rattle.std.specs.declared.cmp.Ordering.TheVariants.{Less};
+ghost use Rattle.hm_tree.specs.Names.{name_cmp, Name as NameValue};
 ghost use Rattle.hm_tree.specs.Edges.{IsPlaceOf, IsGapFor};
 
 use crate::memory::Memory;
 use crate::name::Name;
+use std::cmp::Ordering;
+use std::collections::VecDeque;
 
 /// Where a name is, or where it would go.
 pub fn place_of<V>(edges: &[(Name, V)], name: &Name) -> Result<usize, usize>
@@ -60,4 +63,26 @@ pub fn insert_edge<V: Drop>(
     }
     edges.insert(at, (name, child))?;
     Ok(())
+}
+
+/// Takes what stands under a name out of the edges that are left, and those before it; none where it isn't among them.
+pub fn take_under<V: Drop>(rest: &mut VecDeque<(Name, V)>, name: &Name) -> Option<V>
+    requires { T (is_sorted name_cmp rest.old.items) }
+    ensures taken { result ≡ find name_cmp name.now rest.old.items }
+    ensures later { (k : NameValue) → name_cmp name.now k ≡ Less → find name_cmp k rest.new.items ≡ find name_cmp k rest.old.items }
+    ensures sorted { T (is_sorted name_cmp rest.new.items) }
+{
+    while let Some(first) = rest.front() {
+        match first.0.order(name) {
+            Ordering::Less => {
+                rest.pop_front();
+            }
+            Ordering::Equal => match rest.pop_front() {
+                Some((_, under)) => return Some(under),
+                None => break,
+            },
+            Ordering::Greater => break,
+        }
+    }
+    None
 }

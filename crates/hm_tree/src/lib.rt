@@ -13,8 +13,10 @@ mod cleaning;
 mod edges;
 mod folding;
 mod memory;
+mod merging;
 mod name;
 mod name_set;
+mod parts;
 mod path;
 mod spelling;
 #[cfg(test)]
@@ -25,7 +27,7 @@ mod within;
 
 pub use archive::{Archive, State};
 pub use class::Class;
-pub use edges::place_of;
+pub use edges::{place_of, take_under};
 pub use memory::Memory;
 pub use name::Name;
 pub use name_set::NameSet;

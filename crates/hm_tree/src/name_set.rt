@@ -3,6 +3,7 @@ ghost use Rattle.std.specs.Prelude.{◌≡◌, IfOk};
 ghost use Rattle.std.specs.List.Sorted.{IsStrictlySortedBy};
 ghost use Rattle.std.specs.FinSet as set;
 ghost use Rattle.hm_tree.specs.Names.{name_cmp};
+ghost use Rattle.hm_tree.specs.Sets.{ArePassed};
 
 use crate::memory::Memory;
 use crate::name::Name;
@@ -55,4 +56,18 @@ impl NameSet {
     {
         &self.names
     }
+}
+
+/// Whether a name is among names that rise, where those before a place are less: the search goes on from there, to the
+/// first that isn't less. So a walk over names that rise passes each name once.
+pub fn has_from(names: &[Name], at: &mut usize, name: &Name) -> bool
+    requires ascending { IsStrictlySortedBy name_cmp names.now }
+    requires passed { ArePassed names.now at.old name.now }
+    ensures found { result ≡ set.contains (set.from_list {R = name_cmp} names.now) name.now }
+    ensures passed { ArePassed names.now at.new name.now }
+{
+    while *at < names.len() && names[*at].order(name).is_lt() {
+        *at += 1;
+    }
+    *at < names.len() && names[*at].same(name)
 }

@@ -1,9 +1,10 @@
 //! Names, their classes and spellings, sets and paths, with expected values by hand.
 use crate::{
-    Archive, Class, Memory, Name, NameSet, Path, State, Tree, append_path, spell_name, unspell_name,
+    Archive, Class, Memory, Name, NameSet, Path, State, Tree, append_path, spell_name, take_under,
+    unspell_name,
 };
 use std::alloc::Global;
-use std::collections::BTreeMap;
+use std::collections::{BTreeMap, VecDeque};
 use std::mem::size_of;
 use std::process::Abort;
 use std::test::Fail;
@@ -355,5 +356,48 @@ fn names_as_keys(rt: HostRuntime) -> Result<(), Fail> {
     assert_eq!(rt; counts.get(&Name::from_text(alloc, "\u{e9}")?), Some(&3u64));
     assert_eq!(rt; counts.get(&Name::from_text(alloc, "e")?), None);
     assert_eq!(rt; counts.first_key_value().map(|first| *first.1), Some(2u64));
+    Ok(())
+}
+
+// A tree with these names.
+fn leaves(alloc: Global, texts: &[&str]) -> Result<Tree, Memory> {
+    let mut tree = Tree::empty(alloc);
+    for text in texts {
+        let name = Name::from_text(alloc, text)?;
+        if tree.child(&name).is_none() {
+            tree.insert(name, Tree::empty(alloc))?;
+        }
+    }
+    Ok(tree)
+}
+
+#[test]
+#[tactic(auto, using(crate::proofs::Parted::parts_apart))]
+fn parts_of_a_tree(rt: HostRuntime) -> Result<(), Fail> {
+    let alloc = rt.alloc();
+    let tree = leaves(alloc, &["d", "a", "c", "b"])?;
+    let mut names = Vec::new(alloc);
+    for text in ["e", "b", "d", "aa"] {
+        names.push(Name::from_text(alloc, text)?)?;
+    }
+    let names = NameSet::from_list(names)?;
+    let (inside, outside) = tree.split(&names)?;
+    assert!(rt; inside.same(&leaves(alloc, &["b", "d"])?));
+    assert!(rt; outside.same(&leaves(alloc, &["a", "c"])?));
+    assert!(rt; Tree::join(inside, outside)?.same(&tree));
+    let (inside, outside) = tree.into_parts(&names)?;
+    assert_eq!(rt; (inside.count(), outside.count()), (2, 2));
+    Ok(())
+}
+
+#[test]
+#[tactic(auto, using(crate::specs::NodeLaws::edges_sorted))]
+fn edges_taken_on_a_walk(rt: HostRuntime) -> Result<(), Fail> {
+    let alloc = rt.alloc();
+    let mut rest = VecDeque::from(leaves(alloc, &["a", "c", "d"])?.into_edges());
+    assert!(rt; take_under(&mut rest, &Name::from_text(alloc, "b")?).is_none());
+    assert_eq!(rt; rest.len(), 2);
+    assert!(rt; take_under(&mut rest, &Name::from_text(alloc, "c")?).is_some());
+    assert_eq!(rt; rest.len(), 1);
     Ok(())
 }
