@@ -1,5 +1,6 @@
 -- What contracts see of a schema, and the node of each path.
-use Rattle.std.specs.Prelude.{Bool, List, [], ◌∷◌, map, Option, Some, is_some, slice_get, option_and_then}
+use Rattle.std.specs.Prelude.{Bool, List, [], ◌∷◌, map, Option, Some, Vec, is_some, slice_get, option_and_then}
+use Rattle.std.specs.declared.alloc.Global.{Global}
 use Rattle.std.specs.Option.{option_or, option_map}
 use Rattle.std.specs.FinMap.{find}
 use Rattle.std.specs.FinSet.{FinSet}
@@ -9,6 +10,7 @@ use Rattle.hm_tree.specs.States.{Path}
 use Rattle.hm_schema.specs.declared.node.NodeId.{NodeId}
 use Rattle.hm_schema.specs.declared.node.Shape.{Shape}
 use Rattle.hm_schema.specs.declared.node.Node.{Node}
+use Rattle.hm_schema.specs.declared.options.Options.{Options}
 
 abbrev pub Names : Type 0
 Names = FinSet name_cmp
@@ -51,3 +53,17 @@ reached s i (k ∷ p) = option_and_then (λ j. reached s j p) (child_at s i k)
 -- the node of a path, from a node on
 abbrev pub node_of : SchemaValue → NodeId → Path → Option NodeValue
 node_of s i p = option_and_then (node_at s) (reached s i p)
+
+-- ---- the options of a format
+
+abbrev pub pair_value : Name × Vec Name Global → Name × List Name
+pair_value p = (p.0, p.1.items)
+
+-- each key with its values, and the nodes that are declared, with their names
+pub record OptionsValue : Type 0 where
+  pub pairs : List (Name × List Name)
+  pub type_names : List Name
+  pub types : List NodeValue
+
+abbrev pub options_value : Options → OptionsValue
+options_value o = record { pairs = map pair_value o.pairs.items; type_names = o.type_names.items; types = map node_value o.types.items }

@@ -10,6 +10,7 @@
 
 mod named;
 mod node;
+mod options;
 mod permitted;
 mod schema;
 #[cfg(test)]
@@ -17,4 +18,5 @@ mod tests;
 mod twins;
 
 pub use node::{Node, NodeId, Shape};
+pub use options::Options;
 pub use schema::Schema;
