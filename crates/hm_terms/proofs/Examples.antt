@@ -9,7 +9,8 @@ use Rattle.hm_tree.specs.Names.{Name, name_cmp}
 use Rattle.hm_tree.specs.Nodes.{Tree, edges, below, with_edge}
 use Rattle.hm_schema.specs.Values.{Names}
 use Rattle.hm_terms.specs.Lenses.{Lens, identity, sequence, constant, hoist, plunge, fork, items, merge, on_concrete, on_view, call, Setting, DefinitionValue}
-use Rattle.hm_terms.specs.Parts.{part, IsEdge, Joins, IsNil, IsItem, IsList, no_items, an_item}
+use Rattle.hm_tree.specs.Parts.{part, Joins}
+use Rattle.hm_terms.specs.Parts.{IsEdge, IsNil, IsItem, IsList, no_items, an_item}
 use Rattle.hm_terms.specs.Shown.{Shows, by_identity, by_sequence, by_hoist, by_plunge, by_fork, by_call}
 use Rattle.hm_terms.specs.Put.{Puts, shown_before, put_identity, put_sequence, put_constant, put_hoist, put_plunge, put_fork, put_merge, put_items_none, put_items_more, put_concrete_has, put_view_has, of_same, of_other}
 use Rattle.hm_terms.specs.Kept.{Keeps, keeps_constant, keeps_merge_same, keeps_merge_other}

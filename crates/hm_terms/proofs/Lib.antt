@@ -1,7 +1,8 @@
-mod Maps
-mod OneShown
-mod OnePut
+pub mod Maps
+pub mod OneShown
+pub mod OnePut
+pub mod Rows
 mod Refused
-mod Laws
+pub mod Laws
 mod Examples
 mod Cycles

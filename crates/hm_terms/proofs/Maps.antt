@@ -1,19 +1,20 @@
 -- Trees as finite maps.
-use Rattle.std.proofs.Common.{◌≡◌, Bool, true, false, T, cond, List, [], ◌∷◌, Option, Some, None, is_some, refl, sym, ap, ◌∙◌}
-use Rattle.std.specs.List.{filter, list_any}
+use Rattle.std.proofs.Common.{◌≡◌, true, false, Option, Some, None, is_some, refl, sym, ap, ◌∙◌}
+use Rattle.std.specs.List.{list_any}
 use Rattle.std.specs.Ordering.{eq_by_cmp}
 use Rattle.std.proofs.lemmas.Cmp.{tied_itself}
 use Rattle.std.proofs.lemmas.Option.{same_Some, none-some}
 use Rattle.std.specs.FinMap.{find}
-use Rattle.std.specs.FinMap.Entries.{same_entries, is_some-find, find-where_key, is_sorted-where_key}
+use Rattle.std.specs.FinMap.Entries.{same_entries, is_some-find}
 use mathlib.Core.Bool.{true≢false}
 use Rattle.hm_tree.specs.Names.{Name, name_cmp}
-use Rattle.std.specs.Str.{is_utf8}
-use Rattle.hm_tree.specs.Nodes.{Tree, edges, below, are_texts, edges_from, edges_texts, both, first, second}
-use Rattle.hm_tree.specs.NodeLaws.{edges-node, edges_are, edges_sorted, same_edges, tree_unmarked}
+use Rattle.hm_tree.specs.Nodes.{Tree, edges, below}
+use Rattle.hm_tree.specs.NodeLaws.{edges_sorted, same_edges, tree_unmarked}
 use Rattle.hm_tree.proofs.Sorted.{name_total, name_one}
+pub use Rattle.hm_tree.proofs.Parted.{edges-part, below-part}
 use Rattle.hm_terms.specs.Lenses.{Lens, Lenses, lens_at}
-use Rattle.hm_terms.specs.Parts.{names, part, IsEdge, Joins, IsNil, IsItem, head, tail}
+use Rattle.hm_tree.specs.Parts.{Joins}
+use Rattle.hm_terms.specs.Parts.{names, IsEdge, IsNil, IsItem, head, tail}
 
 -- trees with the same children are equal
 pub same_children : (t u : Tree) → ((k : Name) → below k t ≡ below k u) → t ≡ u
@@ -50,21 +51,6 @@ same_named t u e ls f o = same_children t u (λ k. go k (lens_at k ls) refl)
     go : (k : Name) (l : Option Lens) → lens_at k ls ≡ l → below k t ≡ below k u
     go k None none = o k none
     go k (Some l) named = same_options (below k t) (below k u) (below_names t u e k) (λ a b. f k l a b named)
-
-texts_filter : {X : Type 0} (p : Name × X → Bool) (es : List (Name × X)) → T (are_texts es) → T (are_texts (filter p es))
-texts_filter p [] h = h
-texts_filter p (e ∷ es) h =
-    let rest = texts_filter p es (second (is_utf8 e.0) _ h) in
-    elim (p e) as (λ b. T (are_texts (cond b (e ∷ filter p es) (filter p es)))) [ true ↦ both _ _ (first _ _ h) rest | false ↦ rest ]
-
--- the edges of a part, and what stands under its names
-pub edges-part : (p : Name → Bool) (t : Tree) → edges (part p t) ≡ filter (λ (e : Name × Tree). p e.0) (edges t)
-edges-part p t = edges-node _ (edges_from _ (is_sorted-where_key name_cmp p (edges t) (edges_sorted t))
-    (texts_filter (λ (e : Name × Tree). p e.0) (edges t) (edges_texts (edges t) (edges_are t))))
-
-pub below-part : (p : Name → Bool) (t : Tree) (k : Name) → below k (part p t) ≡ cond (p k) (below k t) None
-below-part p t k = ap (find name_cmp k) (edges-part p t)
-    ∙ find-where_key name_cmp p k (λ x tied. sym (ap p (name_one k x tied))) (edges t)
 
 pub below-edge : (n : Name) (x t : Tree) → IsEdge n x t → below n t ≡ Some x
 below-edge n x t e = ap (find name_cmp n) e ∙ rw (tied_itself name_total n) refl

@@ -5,7 +5,8 @@ use Rattle.hm_tree.specs.Nodes.{Tree, with_edge}
 use Rattle.hm_tree.specs.Archives.{under}
 use Rattle.hm_tree.specs.Names.{Name}
 use Rattle.hm_terms.specs.Lenses.{Lens, items, Setting}
-use Rattle.hm_terms.specs.Parts.{Joins, IsItem, head, tail}
+use Rattle.hm_tree.specs.Parts.{Joins}
+use Rattle.hm_terms.specs.Parts.{IsItem, head, tail}
 use Rattle.hm_terms.specs.Put.{ShowsBefore, none_before, shown_before, MergedFrom, of_none, of_same, of_other, Puts, put_identity, put_sequence, put_constant, put_hoist, put_plunge, put_fork, put_each, put_among, put_call, put_copy, put_merge, put_items_none, put_items_more, put_concrete_has, put_concrete_none, put_view_has, put_view_none}
 use Rattle.hm_terms.proofs.Maps.{same_each, same_named, beside, one_edge, edge_one, joined_one, nil_one, item_one, one_head, one_tail, nil_item}
 use Rattle.hm_terms.proofs.OneShown.{one_shown}

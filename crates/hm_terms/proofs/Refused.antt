@@ -8,7 +8,8 @@ use Rattle.hm_tree.specs.Names.{Name}
 use Rattle.hm_tree.specs.Nodes.{Tree, edges, below}
 use Rattle.hm_schema.specs.Values.{Names}
 use Rattle.hm_terms.specs.Lenses.{Lens, hoist, plunge, fork, items, copy, merge, Setting}
-use Rattle.hm_terms.specs.Parts.{part, Joins, IsList, no_items, an_item}
+use Rattle.hm_tree.specs.Parts.{part, Joins}
+use Rattle.hm_terms.specs.Parts.{IsList, no_items, an_item}
 use Rattle.hm_terms.specs.Shown.{Shows, by_hoist, by_fork, by_items_none, by_items_more, by_copy}
 use Rattle.hm_terms.specs.Put.{Puts, put_plunge, put_fork, put_items_none, put_items_more, put_merge, of_same, of_other}
 use Rattle.hm_terms.proofs.OneShown.{one_shown}

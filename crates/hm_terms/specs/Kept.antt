@@ -5,7 +5,8 @@ use Rattle.hm_tree.specs.Names.{Name}
 use Rattle.hm_tree.specs.Nodes.{Tree, below}
 use Rattle.hm_schema.specs.Values.{Names}
 use Rattle.hm_terms.specs.Lenses.{Lens, Lenses, identity, sequence, constant, hoist, plunge, fork, each, among, copy, merge, items, on_concrete, on_view, call, lens_at, Setting, body_of}
-use Rattle.hm_terms.specs.Parts.{part, IsNil, IsItem}
+use Rattle.hm_tree.specs.Parts.{part}
+use Rattle.hm_terms.specs.Parts.{IsNil, IsItem}
 use Rattle.hm_terms.specs.Shown.{Shows}
 
 pub data Keeps (S : Setting) : Lens → Tree → Tree → Type 0 where

@@ -7,7 +7,8 @@ use Rattle.hm_tree.specs.Nodes.{Tree, below, with_edge, without_edge}
 use Rattle.hm_tree.specs.Archives.{under}
 use Rattle.hm_schema.specs.Values.{Names}
 use Rattle.hm_terms.specs.Lenses.{Lens, Lenses, identity, sequence, constant, hoist, plunge, fork, each, among, copy, merge, items, on_concrete, on_view, call, lens_at, Setting, body_of}
-use Rattle.hm_terms.specs.Parts.{names, part, IsEdge, Joins, IsNil, IsItem, IsList, head, tail, with_name, without_name}
+use Rattle.hm_tree.specs.Parts.{part, Joins}
+use Rattle.hm_terms.specs.Parts.{names, IsEdge, IsNil, IsItem, IsList, head, tail, with_name, without_name}
 use Rattle.hm_terms.specs.Shown.{Shows}
 
 -- what a lens shows of the tree from before, where there is one

@@ -6,7 +6,8 @@ use Rattle.hm_tree.specs.Names.{Name}
 use Rattle.hm_tree.specs.Nodes.{Tree, below, with_edge, without_edge}
 use Rattle.hm_schema.specs.Values.{Names}
 use Rattle.hm_terms.specs.Lenses.{Lens, Lenses, identity, sequence, constant, hoist, plunge, fork, each, among, copy, merge, items, on_concrete, on_view, call, lens_at, Setting, body_of}
-use Rattle.hm_terms.specs.Parts.{names, part, IsEdge, Joins, IsNil, IsItem}
+use Rattle.hm_tree.specs.Parts.{part, Joins}
+use Rattle.hm_terms.specs.Parts.{names, IsEdge, IsNil, IsItem}
 
 pub data Shows (S : Setting) : Lens → Tree → Tree → Type 0 where
   by_identity : {c : Tree} → Shows S identity c c

@@ -9,3 +9,7 @@
 //! lens fits its trees and views, so that it never fails on them and meets the laws, is `specs/Fitting`, and which
 //! definitions could call one another without end is `specs/Calls`.
 #![tactic(auto)]
+
+mod term;
+
+pub use term::{Definition, Program, Term};
