@@ -1,0 +1,10 @@
+pub mod Bounded
+pub mod Beside
+pub mod EachChild
+pub mod NamedChildren
+pub mod Fork
+pub mod Items
+pub mod Branches
+pub mod Copy
+pub mod Merge
+pub mod Rename
