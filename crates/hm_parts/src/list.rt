@@ -1,0 +1,80 @@
+//! Lists: an empty tree, or a tree with an item and a list of the others.
+ghost use Rattle.std.specs.Prelude.{◌≡◌, IfOk, MatchOption};
+ghost use Rattle.hm_terms.specs.Parts.{IsNil, IsItem, IsList, HasItems};
+
+use hm_tree::{Memory, Name, Tree};
+
+/// Copies of the items of a list, in order.
+pub fn list_items(tree: &Tree) -> Result<Vec<Tree>, Memory>
+    requires { IsList tree.now }
+    ensures { IfOk result (λ items. HasItems tree.now items.items) }
+{
+    let mut items = Vec::new(tree.allocator());
+    let mut rest = tree;
+    while let Some((item, others)) = first_item(rest) {
+        items.push(item.copy()?)?;
+        rest = others;
+    }
+    Ok(items)
+}
+
+/// The items of a list, in order.
+pub fn into_items(tree: Tree) -> Result<Vec<Tree>, Memory>
+    requires { IsList tree }
+    ensures { IfOk result (λ items. HasItems tree items.items) }
+{
+    let mut items = Vec::new(tree.allocator());
+    let mut rest = tree;
+    while let Some((item, others)) = take_first(rest) {
+        items.push(item)?;
+        rest = others;
+    }
+    Ok(items)
+}
+
+/// The list of these items.
+pub fn list_build(items: Vec<Tree>) -> Result<Tree, Memory>
+    ensures { IfOk result (λ tree. HasItems tree items.items) }
+{
+    let mut left = items;
+    let mut tree = Tree::empty(*left.allocator());
+    while let Some(item) = left.pop() {
+        tree = before(item, tree)?;
+    }
+    Ok(tree)
+}
+
+// The first item of a list, and the list of the others; none where there is no item.
+fn first_item(list: &Tree) -> Option<(&Tree, &Tree)>
+    requires { IsList list.now }
+    ensures { MatchOption result (IsNil list.now) (λ parts. IsItem parts.0.now parts.1.now list.now) }
+{
+    if list.count() == 0 {
+        return None;
+    }
+    Some((list.edge(0).1, list.edge(1).1))
+}
+
+/// The first item of a list, and the list of the others; none where there is no item.
+pub fn take_first(list: Tree) -> Option<(Tree, Tree)>
+    requires { IsList list }
+    ensures { MatchOption result (IsNil list) (λ parts. IsItem parts.0 parts.1 list) }
+{
+    let mut edges = list.into_edges();
+    let (_, rest) = edges.pop()?;
+    let Some((_, item)) = edges.pop() else {
+        unreachable!();
+    };
+    Some((item, rest))
+}
+
+// The list of an item and the items of a list.
+fn before(item: Tree, list: Tree) -> Result<Tree, Memory>
+    ensures { IfOk result (IsItem item list) }
+{
+    let alloc = list.allocator();
+    let mut edges = Vec::with_capacity(alloc, 2)?;
+    edges.push((Name::from_text(alloc, "*h")?, item))?;
+    edges.push((Name::from_text(alloc, "*t")?, list))?;
+    Ok(Tree::of_edges(edges)?)
+}
