@@ -1,0 +1,11 @@
+mod Paired
+mod Beside
+mod OnChildren
+mod ShowSteps
+mod PutSteps
+mod PutItems
+mod PutChildren
+mod StageSteps
+mod Indexing
+mod Giving
+pub mod Fits

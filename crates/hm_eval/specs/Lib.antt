@@ -1,0 +1,4 @@
+pub mod Terms
+pub mod Conditions
+pub mod Children
+pub mod Stages

@@ -1,0 +1,15 @@
+//! What lenses show and put.
+//!
+//! `get` gives what the lens of a program shows of a tree, and `put` what it puts of a view, with the tree from before or
+//! with none. Both are the relations of `hm_terms`, and a lens that fits its trees and views never fails on them.
+#![tactic(auto)]
+
+mod before;
+mod bodies;
+mod children;
+mod putting;
+mod show;
+mod stages;
+
+pub use putting::put;
+pub use show::get;

@@ -1,0 +1,77 @@
+//! Sequences of lenses, stage by stage.
+ghost use Rattle.std.specs.Prelude.{IfOk, OnOk, option_copied};
+ghost use Rattle.hm_terms.specs.Programs.{lens_of};
+ghost use Rattle.hm_terms.specs.Put.{ShowsBefore};
+ghost use Rattle.hm_eval.specs.Conditions.{IsShownBefore};
+ghost use Rattle.hm_eval.specs.Stages.{AddsStages, CanPut, PutThrough};
+ghost use Rattle.hm_eval.specs.Terms.{setting_by, IsIndex};
+
+use crate::show::show;
+use hm_terms::{Definition, Term};
+use hm_text_lens::TextLens;
+use hm_tree::{Memory, Name, Tree};
+use std::alloc::Global;
+
+/// The stages of a sequence, however it is nested, each with what the stages before it show of the tree from before. No
+/// stage is shown more than once.
+pub fn stages_before<'a>(
+    alloc: Global,
+    levels: u64,
+    texts: &[Box<dyn TextLens>],
+    definitions: &[Definition],
+    bodies: &[(Name, &Term)],
+    term: &'a Term,
+    before: Option<Tree>,
+) -> Result<Vec<(&'a Term, Option<Tree>)>, Memory>
+    requires index { IsIndex definitions.now bodies.now }
+    requires put { CanPut (setting_by definitions.now) (lens_of term.now) before }
+    ensures { IfOk result (λ stages. PutThrough (setting_by definitions.now) (lens_of term.now) before stages.items) }
+{
+    let mut stages = Vec::new(alloc);
+    add_stages(&mut stages, term)?;
+    let Some(last) = stages.pop() else {
+        unreachable!();
+    };
+    let mut passed = Vec::with_capacity(alloc, stages.len())?;
+    let mut here = before;
+    for stage in &stages {
+        let next = show_before(levels, texts, definitions, bodies, stage, here.as_ref())?;
+        passed.push((*stage, here))?;
+        here = next;
+    }
+    passed.push((last, here))?;
+    Ok(passed)
+}
+
+// Adds the stages of a lens to those before it.
+fn add_stages<'a>(stages: &mut Vec<&'a Term>, term: &'a Term) -> Result<(), Memory>
+    ensures { OnOk result (AddsStages (lens_of term.now) stages.old.items stages.new.items) }
+{
+    match term {
+        Term::Seq(first, second) => {
+            add_stages(stages, first)?;
+            add_stages(stages, second)?;
+        }
+        _ => stages.push(term)?,
+    }
+    Ok(())
+}
+
+// What a lens shows of a tree from before, if there is one.
+fn show_before(
+    levels: u64,
+    texts: &[Box<dyn TextLens>],
+    definitions: &[Definition],
+    bodies: &[(Name, &Term)],
+    term: &Term,
+    before: Option<&Tree>,
+) -> Result<Option<Tree>, Memory>
+    requires index { IsIndex definitions.now bodies.now }
+    requires shown { IsShownBefore (setting_by definitions.now) (lens_of term.now) (option_copied before) }
+    ensures { IfOk result (ShowsBefore (setting_by definitions.now) (lens_of term.now) (option_copied before.entry)) }
+{
+    match before {
+        Some(tree) => Ok(Some(show(levels, texts, definitions, bodies, term, tree.copy()?)?)),
+        None => Ok(None),
+    }
+}
