@@ -18,3 +18,4 @@ mod Doubles
 mod Named
 mod Building
 mod NodesOf
+mod Written

@@ -29,12 +29,12 @@ apart : (a b : ℕ) → (a == b) ≡ false → a ≡ b → ⊥
 apart a b fails e = grind (arith, nat_tests)
 
 -- a truth of T as an equation
-is_true : (b : Bool) → T b → b ≡ true
+pub is_true : (b : Bool) → T b → b ≡ true
 is_true true h = refl
 is_true false h = absurd h
 
 -- a word doesn't begin with another byte
-not_word : (w : Name) (x : List ℕ) (b : ℕ) (y : List ℕ) → (0 < length w) × T (is_word w) → is_word_byte b ≡ false → w ++ x ≢ b ∷ y
+pub not_word : (w : Name) (x : List ℕ) (b : ℕ) (y : List ℕ) → (0 < length w) × T (is_word w) → is_word_byte b ≡ false → w ++ x ≢ b ∷ y
 not_word [] x b y h fails e = absurd (omega (arith, h.0))
 not_word (c ∷ w) x b y h fails e =
     let byte : c ≡ b = cc in
@@ -108,7 +108,7 @@ spaced_no_space _ _ rest (alone {t} h) e = token_no_space t [] rest h (append-ni
 spaced_no_space _ _ rest (before {t} {ts} {gap} {rest = behind} h g s) e = token_no_space t (gap ++ behind) rest h e
 
 -- the spaces behind a token, and what stands behind these, are determined
-gaps_one : (gap gap2 x y : List ℕ) → AreSpaces gap → AreSpaces gap2 → ((rest : List ℕ) → x ≢ 32 ∷ rest) → ((rest : List ℕ) → y ≢ 32 ∷ rest)
+pub gaps_one : (gap gap2 x y : List ℕ) → AreSpaces gap → AreSpaces gap2 → ((rest : List ℕ) → x ≢ 32 ∷ rest) → ((rest : List ℕ) → y ≢ 32 ∷ rest)
     → gap ++ x ≡ gap2 ++ y → x ≡ y
 gaps_one gap gap2 x y g k nx ny e =
     let lg = run_is (λ b. b == 32) gap x (spaces_all gap g) (other x nx) in

@@ -11,3 +11,4 @@ pub mod Counting
 pub mod Nodes
 pub mod Building
 pub mod Judging
+pub mod Writing

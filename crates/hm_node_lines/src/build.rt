@@ -223,8 +223,8 @@ fn is_among(own: &[Name]) -> bool
     own.iter().any(|name| is_empty_node(name))
 }
 
-// Whether the node whose one shape is empty is named.
-fn is_empty_named(entries: &[Entry], own: &[Name]) -> bool
+/// Whether the node whose one shape is empty is named, by a line of a node or among the names that the file's own lines have.
+pub fn is_empty_named(entries: &[Entry], own: &[Name]) -> bool
     ensures { IsTrue result ↔ NamesEmpty (entry_values entries.now) own.now }
 {
     if is_among(own) {

@@ -45,7 +45,8 @@ fn is_skipped(line: &[u8]) -> bool
     line.first() == Some(&b'#') || is_blank(line)
 }
 
-fn read_entry(alloc: Global, line: &[u8]) -> Result<Entry, Memory>
+/// A line by itself.
+pub fn read_entry(alloc: Global, line: &[u8]) -> Result<Entry, Memory>
     ensures { IfOk result (λ entry. IsEntry line.now (entry_value entry)) }
 {
     if is_skipped(line) {

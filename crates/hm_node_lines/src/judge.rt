@@ -37,8 +37,8 @@ pub fn declared_nodes(alloc: Global, entries: &[Entry]) -> Result<BTreeMap<Strin
     first_places(alloc, Naming::Nodes, entries)
 }
 
-// Whether a name is there twice.
-fn has_double(alloc: Global, names: &[Name]) -> Result<bool, Memory>
+/// Whether a name is there twice.
+pub fn has_double(alloc: Global, names: &[Name]) -> Result<bool, Memory>
     ensures { IfOk result (λ found. IsTrue found ↔ HasDouble names.now) }
 {
     let mut firsts = BTreeMap::new(alloc);

@@ -34,10 +34,12 @@ mod tests;
 mod token;
 
 pub use before::{Before, is_counted};
-pub use build::{build_nodes, node_of};
+pub use build::{build_nodes, is_empty_named, node_of};
 pub use count::Count;
-pub use entry::{Entry, read_entries};
-pub use judge::{Line, declared_nodes, is_bad_line, is_node};
-pub use node_line::{NodeLine, ShapeLine, read_node_line};
+pub use entry::{Entry, read_entries, read_entry};
+pub use firsts::{begun, first_place, is_first, keep_first};
+pub use judge::{Line, declared_nodes, has_double, is_bad_line, is_node};
+pub use names::copy_names;
+pub use node_line::{NodeLine, ShapeLine, is_word, read_node_line};
 pub use section::{Section, read_section, section_at};
-pub use token::{Token, lone_word, read_tokens};
+pub use token::{Token, behind, first_quoted, first_word, gap_length, lone_word, read_tokens};

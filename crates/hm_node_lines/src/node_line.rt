@@ -39,8 +39,8 @@ impl Token {
         matches!(self, Token::Word(_) | Token::Quoted(_))
     }
 
-    // The name where it may stand for the name of an edge.
-    fn into_name(self) -> Option<Name>
+    /// The name where it may stand for the name of an edge.
+    pub fn into_name(self) -> Option<Name>
         ensures { result ≡ edge_name self }
     {
         match self {
@@ -138,8 +138,8 @@ fn read_class(word: &Name) -> Option<Class>
     }
 }
 
-// Whether a name is a word.
-fn is_word(name: &Name, word: &[u8]) -> bool
+/// Whether a name is a word.
+pub fn is_word(name: &Name, word: &[u8]) -> bool
     ensures { IsTrue result ↔ (name.now ≡ word.now) }
 {
     name.bytes() == word

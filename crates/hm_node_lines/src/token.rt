@@ -33,23 +33,23 @@ fn word_length(bytes: &[u8]) -> usize
     bytes.iter().take_while(|byte| is_word_byte(**byte)).count()
 }
 
-// How many spaces stand at the front.
-fn gap_length(bytes: &[u8]) -> usize
+/// How many spaces stand at the front.
+pub fn gap_length(bytes: &[u8]) -> usize
     ensures { result ≡ prefix_len (λ b. b == 32) bytes.now }
 {
     bytes.iter().take_while(|byte| **byte == b' ').count()
 }
 
-// What stands behind the first bytes.
-fn behind(bytes: &[u8], count: usize) -> &[u8]
+/// What stands behind the first bytes.
+pub fn behind(bytes: &[u8], count: usize) -> &[u8]
     requires { count ≤ length bytes.now }
     ensures { result.now ≡ drop count bytes.now }
 {
     &bytes[count..]
 }
 
-// The word at the front, and its length.
-fn read_word(alloc: Global, bytes: &[u8]) -> Result<Option<(Token, usize)>, Memory>
+/// The word at the front, and its length.
+pub fn first_word(alloc: Global, bytes: &[u8]) -> Result<Option<(Token, usize)>, Memory>
     ensures { IfOk result (IsFirstWord bytes.now) }
 {
     let length = word_length(bytes);
@@ -62,8 +62,8 @@ fn read_word(alloc: Global, bytes: &[u8]) -> Result<Option<(Token, usize)>, Memo
     Ok(Some((Token::Word(Name::from_text(alloc, text)?), length)))
 }
 
-// The name between quotes at the front, and the length of its spelling.
-fn read_quoted(alloc: Global, bytes: &[u8]) -> Result<Option<(Token, usize)>, Memory>
+/// The name between quotes at the front, and the length of its spelling.
+pub fn first_quoted(alloc: Global, bytes: &[u8]) -> Result<Option<(Token, usize)>, Memory>
     ensures { IfOk result (IsFirstQuoted bytes.now) }
 {
     match unspell_name(alloc, bytes)? {
@@ -80,7 +80,7 @@ fn read_token(alloc: Global, bytes: &[u8]) -> Result<Option<(Token, usize)>, Mem
         return Ok(None);
     };
     if *first == b'"' {
-        return read_quoted(alloc, bytes);
+        return first_quoted(alloc, bytes);
     }
     if *first == b'?' {
         return Ok(Some((Token::Question, 1)));
@@ -88,7 +88,7 @@ fn read_token(alloc: Global, bytes: &[u8]) -> Result<Option<(Token, usize)>, Mem
     if *first == b'+' {
         return Ok(Some((Token::Plus, 1)));
     }
-    read_word(alloc, bytes)
+    first_word(alloc, bytes)
 }
 
 /// The tokens that the bytes are, with one or more spaces between two of them; none where they are no tokens.

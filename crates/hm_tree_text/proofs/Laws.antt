@@ -40,6 +40,12 @@ tree_once t u bytes a b = tree_text_one t u (sym a.spelled ∙ b.spelled)
 pub archive_once : (o a : Archive) (bytes : List ℕ) → IsArchiveText o bytes → IsArchiveText a bytes → o ≡ a
 archive_once o a bytes h k = archive_text_one o a (sym h.spelled ∙ k.spelled)
 
+-- the text of one tree stands at the front of bytes
+pub first_tree_one : (t u : Tree) (x y : List ℕ) → text whole t.shape ++ x ≡ text whole u.shape ++ y → (t ≡ u) × (x ≡ y)
+first_tree_one t u x y e =
+    let one = apart whole t.shape u.shape x y (λ _. tt) (λ _. tt) e in
+    (same_node t u one.0, one.1)
+
 -- ---- texts are files
 
 pub tree_text_file : (t : Tree) (bytes : List ℕ) → IsTreeText t bytes → IsTreeFile bytes

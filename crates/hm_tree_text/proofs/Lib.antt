@@ -16,3 +16,4 @@ mod Utf8
 mod Completing
 mod Sharing
 mod Walking
+mod FirstTrees

@@ -207,7 +207,7 @@ unmarked_sound w (edge k c r) h n =
     both (leads k r) _ (first _ _ h) (both _ _ (unmarked_sound true c (first _ _ (second (leads k r) _ h)) n.0)
     (unmarked_sound false r (second (is_node true true c) _ (second (leads k r) _ h)) n.1))
 
-sound_unmarked : (w : Bool) (s : Shape) → T (is_node false w s) → HasAllowedMarks false s
+pub sound_unmarked : (w : Bool) (s : Shape) → T (is_node false w s) → HasAllowedMarks false s
 sound_unmarked w bare h = tt
 sound_unmarked w mark h = h
 sound_unmarked w (edge k c r) h =

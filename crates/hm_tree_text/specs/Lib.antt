@@ -10,3 +10,4 @@ pub mod Pending
 pub mod Characters
 pub mod NameRest
 pub mod Writing
+pub mod FirstTree

@@ -24,8 +24,8 @@ mod reader;
 mod writer;
 
 pub use fault::TextFault;
-pub use reader::{read_archive, read_tree};
-pub use writer::{write_archive, write_tree};
+pub use reader::{first_tree, read_archive, read_tree};
+pub use writer::{spell_tree, write_archive, write_tree};
 
 #[cfg(test)]
 mod tests;

@@ -4,6 +4,7 @@ ghost use Rattle.hm_tree.specs.Nodes.{marked};
 ghost use Rattle.hm_tree.specs.Spelling.{spelled};
 ghost use Rattle.hm_tree_text.specs.Reads.{ReadsTree, ReadsArchive, UnlessMemory};
 ghost use Rattle.hm_tree_text.specs.Faults.{Faults};
+ghost use Rattle.hm_tree_text.specs.FirstTree.{IsFirstTree};
 ghost use Rattle.hm_tree_text.specs.Opening.{Opens};
 ghost use Rattle.hm_tree_text.specs.Reading.{StandsAt, IsAfter, IsName, IsEdge, IsBelow, IsInside, IsWhole, IsFile, IsInsideRead, IsBelowRead, IsWholeRead, IsEdgeRead, IsFileRead, BeginsWith};
 ghost use Rattle.hm_tree_text.specs.Pending.{valued_edges, MakeNode};
@@ -47,6 +48,19 @@ pub fn read_archive(alloc: Global, bytes: &[u8]) -> Result<Archive, TextFault>
         return Ok(Archive::missing(alloc));
     }
     read_file(alloc, bytes)
+}
+
+/// The tree whose text stands at the front of the bytes, without a line feed, and the length of that text; none where
+/// no text of a tree with at most 1,000 edges one below another stands there.
+pub fn first_tree(alloc: Global, bytes: &[u8]) -> Result<Option<(Tree, usize)>, Memory>
+    ensures { IfOk result (IsFirstTree bytes.now) }
+{
+    match read_whole(alloc, bytes) {
+        Ok((tree, end)) => Ok(Some((tree, end))),
+        Err(TextFault::BadTree { .. }) => Ok(None),
+        Err(TextFault::TooDeep) => Ok(None),
+        Err(TextFault::Memory) => Err(Memory),
+    }
 }
 
 // A whole tree and the line feed behind it, which are all bytes.

@@ -58,6 +58,15 @@ impl Written for Archive {
     }
 }
 
+/// The text of a tree, without a line feed.
+pub fn spell_tree(alloc: Global, tree: &Tree) -> Result<Vec<u8>, Memory>
+    ensures { IfOk result (λ text. text.items ≡ text_of whole tree.now.shape) }
+{
+    let mut text = Vec::new(alloc);
+    put_whole(&mut text, tree)?;
+    Ok(text)
+}
+
 /// The file of a tree.
 pub fn write_tree(alloc: Global, tree: &Tree) -> Result<Vec<u8>, Memory>
     ensures value { IfOk result (λ text. text.items ≡ tree_text tree.now) }

@@ -2,7 +2,7 @@ use Rattle.std.proofs.Common.{◌∙◌}
 use Rattle.hm_node_lines.specs.Tokens.{is_word_byte}
 use Rattle.hm_node_lines.proofs.Words.{run_passes, word_utf8}
 use Rattle.hm_node_lines.proofs.Tokens.{word_first}
-use Rattle.hm_node_lines.proofs.token.read_word.Goals as goal
+use Rattle.hm_node_lines.proofs.token.first_word.Goals as goal
 
 pub returns-in_default : goal.returns-in_default
 returns-in_default c = absurd
