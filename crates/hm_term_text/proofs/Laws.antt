@@ -1,0 +1,2 @@
+-- What the crates above cite.
+pub use Rattle.hm_term_text.proofs.TermsOnce.{one_term}

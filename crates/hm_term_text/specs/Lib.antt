@@ -1,0 +1,9 @@
+pub mod Keywords
+pub mod Fronts
+pub mod Derived
+pub mod TermText
+pub mod Limits
+pub mod Written
+pub mod Reading
+pub mod Reads
+pub mod FrontLaws
