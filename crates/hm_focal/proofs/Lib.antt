@@ -1,0 +1,13 @@
+mod Fronts
+mod ReadUpTo
+mod Formats
+mod Heads
+mod Owns
+mod Placing
+mod Called
+mod LensNames
+mod Taking
+mod JudgingOwn
+mod Files
+mod Rows
+mod Formed

@@ -1,0 +1,9 @@
+pub mod Front
+pub mod OwnLines
+pub mod Lines
+pub mod BadLines
+pub mod LensFiles
+pub mod Stages
+pub mod Judging
+pub mod Building
+pub mod Reading
