@@ -12,18 +12,7 @@ use Rattle.hm_terms.specs.Kept.{Keeps, keeps_concrete_has, keeps_concrete_none, 
 use Rattle.hm_terms.specs.Fitting.{IsOne}
 use Rattle.hm_lens_laws.specs.Bounded.{FitsTo}
 use Rattle.hm_terms.proofs.Laws.{shown_one, put_one}
-
--- a set of two sides: the trees with a name, and those without it
-pub data Side (n : Name) (C C1 C2 : Tree → Type 0) (t : Tree) : Type 0 where
-  with_it : {x : Tree} → below n t ≡ Some x → C1 t → Side n C C1 C2 t
-  without_it : below n t ≡ None → C2 t → Side n C C1 C2 t
-
-pub record IsBranched (n : Name) (C C1 C2 : Tree → Type 0) : Type 0 where
-  pub side : (t : Tree) → C t → Side n C C1 C2 t
-  pub one : (t : Tree) → C1 t → C t
-  pub two : (t : Tree) → C2 t → C t
-  pub one_has : (t : Tree) → C1 t → (x : Tree) × (below n t ≡ Some x)
-  pub two_lacks : (t : Tree) → C2 t → below n t ≡ None
+use Rattle.hm_lens_laws.specs.Sets.{Side, with_it, without_it, IsBranched}
 
 module _ (n : Name) (C C1 C2 : Tree → Type 0) (c : IsBranched n C C1 C2) where
   pub on_one : (t x : Tree) → C t → below n t ≡ Some x → C1 t

@@ -14,11 +14,7 @@ use Rattle.hm_lens_laws.specs.Bounded.{FitsTo}
 use Rattle.hm_terms.proofs.Maps.{beside}
 use Rattle.hm_lens_laws.proofs.Beside.{some_tree_beside}
 use Rattle.hm_terms.proofs.Laws.{shown_one, put_one}
-
--- a set of trees of which the names, and the children under each name, are in sets
-pub record Built (N : List Name → Type 0) (In : Name → Tree → Type 0) (t : Tree) : Type 0 where
-  pub names_in : N (names t)
-  pub children : (k : Name) (x : Tree) → below k t ≡ Some x → In k x
+use Rattle.hm_lens_laws.specs.Sets.{Built}
 
 module _ (S : Setting) (l : Lens) (N : List Name → Type 0) (C A : Name → Tree → Type 0) (n : ℕ)
     (f : (k : Name) (m : ℕ) → m < n → FitsTo m S l (C k) (A k)) where

@@ -23,6 +23,7 @@ use Rattle.hm_terms.specs.Fitting.{IsOne}
 use Rattle.hm_lens_laws.specs.Bounded.{FitsTo}
 use Rattle.hm_terms.proofs.Maps.{same_children, below-part}
 use Rattle.hm_terms.proofs.Laws.{shown_one, put_one}
+use Rattle.hm_lens_laws.specs.Sets.{IsWithin, IsSplitSet}
 
 -- ---- parts and what is joined of them
 
@@ -62,10 +63,6 @@ parts_join p t = record {
         → below k t ≡ option_or (below k (part p t)) (below k (part (λ n. not (p n)) t))
     all k true e f = rw (e, f) (or_none (below k t))
     all k false e f = rw (e, f) refl
-
--- a tree has only names that pass a test
-abbrev pub IsWithin : (Name → Bool) → Tree → Type 0
-IsWithin p t = (k : Name) → p k ≡ false → below k t ≡ None
 
 module _ (p : Name → Bool) (x y t : Tree) (one : IsWithin p x) (two : IsWithin (λ n. not (p n)) y) where
   pub inside_is : Joins x y t → part p t ≡ x
@@ -108,12 +105,6 @@ module _ (p : Name → Bool) (x y t : Tree) (one : IsWithin p x) (two : IsWithin
       apart k false e = inl (one k e)
 
 -- ---- the law: C and A are the trees whose parts are in the sets of the two lenses
-pub record IsSplitSet (p : Name → Bool) (C C1 C2 : Tree → Type 0) : Type 0 where
-  pub inside : (t : Tree) → C t → C1 (part p t)
-  pub outside : (t : Tree) → C t → C2 (part (λ n. not (p n)) t)
-  pub whole : (t : Tree) → C1 (part p t) → C2 (part (λ n. not (p n)) t) → C t
-  pub in_one : (t : Tree) → C1 t → IsWithin p t
-  pub in_two : (t : Tree) → C2 t → IsWithin (λ n. not (p n)) t
 
 module _ (S : Setting) (P Q : Names) (l k : Lens) (C C1 C2 A A1 A2 : Tree → Type 0) (c : IsSplitSet (contains P) C C1 C2)
     (a : IsSplitSet (contains Q) A A1 A2) (n : ℕ) (f : FitsTo n S l C1 A1) (g : FitsTo n S k C2 A2) where

@@ -16,6 +16,7 @@ use Rattle.hm_terms.specs.Kept.{Keeps, keeps_items_from_none, keeps_items_to_non
 use Rattle.hm_lens_laws.specs.Bounded.{FitsTo}
 use Rattle.hm_terms.proofs.Maps.{below-head, below-tail, below-nil, one_head, one_tail, nil_item}
 use Rattle.hm_terms.proofs.Laws.{shown_one, put_one}
+use Rattle.hm_lens_laws.specs.Sets.{ItemIn, SomeItems}
 
 -- ---- lists
 
@@ -33,10 +34,6 @@ item_edges x r =
 
 pub some_item : (x r : Tree) → (t : Tree) × IsItem x r t
 some_item x r = (node ((head, x) ∷ (tail, r) ∷ []), edges-node ((head, x) ∷ (tail, r) ∷ []) (item_edges x r))
-
-pub record ItemIn (C : Tree → Type 0) (x r : Tree) : Type 0 where
-  pub first : C x
-  pub rest : ListOf C r
 
 module _ (C : Tree → Type 0) where
   pub item_parts : {t : Tree} (x r : Tree) → ListOf C t → IsItem x r t → ItemIn C x r
@@ -70,13 +67,6 @@ module _ (C : Tree → Type 0) where
   list_before : (b : Option Tree) → IfSome b (ListOf C) → IfSome b IsList
   list_before None h = tt
   list_before (Some b) h = is_list h
-
--- a list with an item at least
-pub record SomeItems (C : Tree → Type 0) (t : Tree) : Type 0 where
-  pub first : Tree
-  pub rest : Tree
-  pub is : IsItem first rest t
-  pub in_set : ItemIn C first rest
 
 module _ (S : Setting) (l : Lens) (C A : Tree → Type 0) (n : ℕ) (f : (m : ℕ) → m < n → FitsTo m S l C A) where
   low_head : (x r t : Tree) → IsItem x r t → depth t ≤ n → depth x < n

@@ -16,7 +16,7 @@ use Rattle.hm_terms.specs.Fitting.{IsOne}
 use Rattle.hm_lens_laws.specs.Bounded.{FitsTo}
 use Rattle.hm_terms.proofs.Maps.{beside, below_names}
 use Rattle.hm_lens_laws.proofs.Beside.{some_tree_beside}
-use Rattle.hm_lens_laws.proofs.EachChild.{Built}
+use Rattle.hm_lens_laws.specs.Sets.{Built}
 use Rattle.hm_terms.proofs.Laws.{shown_one, put_one}
 
 -- through the lens of its name, or the same where there is none

@@ -1,8 +1,7 @@
 -- An edge under another name, where it is there: the law of rename, and of rename on the trees that have the name.
 use Rattle.std.proofs.Common.{◌≡◌, ℕ, Bool, true, false, cond, not, ◌||◌, T, [], ◌∷◌, Option, Some, None, refl, sym, ap, ◌∙◌}
-use Rattle.std.specs.FinSet.{contains, from_list, contains-from_list}
+use Rattle.std.specs.FinSet.{contains, contains-from_list}
 use Rattle.std.specs.FinMap.{find}
-use Rattle.std.specs.Ordering.{eq_by_cmp}
 use Rattle.std.specs.Str.{is_utf8}
 use Rattle.std.proofs.lemmas.Bool.{true≢false}
 use Rattle.hm_tree.specs.Names.{Name, name_cmp}
@@ -11,25 +10,16 @@ use Rattle.hm_tree.specs.Nodes.{Tree, node, edges, below, edges_from, both}
 use Rattle.hm_tree.specs.NodeLaws.{edges-node}
 use Rattle.hm_tree.specs.Parts.{part}
 use Rattle.hm_tree.proofs.NameSets.{tied_one, tied_self}
-use Rattle.hm_schema.specs.Values.{Names}
-use Rattle.hm_terms.specs.Lenses.{Lens, identity, sequence, hoist, plunge, fork, on_view, Setting}
+use Rattle.hm_terms.specs.Lenses.{identity, sequence, hoist, plunge, on_view, Setting}
 use Rattle.hm_terms.specs.Parts.{IsEdge}
 use Rattle.hm_terms.specs.Fitting.{Fits}
 use Rattle.hm_terms.proofs.Maps.{same_children, below-part, below-edge}
 use Rattle.hm_terms.proofs.Laws.{fits_identity, fits_sequence, fits_hoist, fits_plunge}
 use Rattle.hm_lens_laws.specs.Bounded.{FitsTo}
 use Rattle.hm_lens_laws.proofs.Bounded.{fits_to, fits_all}
-use Rattle.hm_lens_laws.proofs.Fork.{IsWithin, IsSplitSet, fits_fork}
-use Rattle.hm_lens_laws.proofs.Branches.{Side, with_it, without_it, IsBranched, fits_view}
-
-abbrev pub alone : Name → Names
-alone m = from_list (m ∷ [])
-
-abbrev pub rename : Name → Name → Lens
-rename m n = fork (alone m) (alone n) (sequence (hoist m) (plunge n)) identity
-
-abbrev pub is : Name → Name → Bool
-is m k = eq_by_cmp name_cmp k m
+use Rattle.hm_lens_laws.proofs.Fork.{fits_fork}
+use Rattle.hm_lens_laws.proofs.Branches.{fits_view}
+use Rattle.hm_lens_laws.specs.Sets.{Any, IsWithin, IsSplitSet, Side, with_it, without_it, IsBranched, alone, rename, is, Edge, HasAlso}
 
 in_alone : (m k : Name) → contains (alone m) k ≡ is m k
 in_alone m k = contains-from_list name_total (m ∷ []) k ∙ go (is m k)
@@ -37,19 +27,6 @@ in_alone m k = contains-from_list name_total (m ∷ []) k ∙ go (is m k)
     go : (b : Bool) → (b || false) ≡ b
     go true = refl
     go false = refl
-
-abbrev pub Any : Tree → Type 0
-Any t = Unit {0}
-
--- a tree of the one edge m
-abbrev pub Edge : Name → Tree → Type 0
-Edge m t = (x : Tree) × IsEdge m x t
-
--- a tree that has m, and no other names than those that pass a test
-pub record HasAlso (m : Name) (p : Name → Bool) (t : Tree) : Type 0 where
-  pub child : Tree
-  pub there : below m t ≡ Some child
-  pub within : IsWithin (λ k. is m k || p k) t
 
 or_other : (a b : Bool) → (a || b) ≡ false → (a ≡ false) × (b ≡ false)
 or_other true b h = absurd (true≢false h)
