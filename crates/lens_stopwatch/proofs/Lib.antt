@@ -1,0 +1,4 @@
+mod Contacts
+mod Others
+mod Judging
+mod Running

@@ -1,0 +1,3 @@
+pub mod Contacts
+pub mod Others
+pub mod Running
