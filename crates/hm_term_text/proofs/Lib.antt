@@ -10,3 +10,6 @@ mod Pairs
 mod Limits
 mod Counts
 mod Writing
+mod WrittenFronts
+mod WritableTerms
+mod Written

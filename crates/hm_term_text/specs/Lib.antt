@@ -4,6 +4,7 @@ pub mod Derived
 pub mod TermText
 pub mod Limits
 pub mod Written
+pub mod Writable
 pub mod Reading
 pub mod Reads
 pub mod FrontLaws
