@@ -101,7 +101,8 @@ module _ (text : List ℕ) (i : ℕ) (p : Place) (o c s : ℕ) (h : AreCounted t
   left : drop i text ≡ get_or text i 0 ∷ drop (suc i) text
   left = drop-cons text i 0 below
 
-  module _ (oo cc ss : ℕ) (eo : oo ≡ o + one_if (is_outside p && is_opening (get_or text i 0))) (ec : cc ≡ c + one_if (is_outside p && is_closing (get_or text i 0)))
+  module _ (oo cc ss : ℕ) (eo : oo ≡ o + one_if (is_outside p && is_opening (get_or text i 0)))
+      (ec : cc ≡ c + one_if (is_outside p && is_closing (get_or text i 0)))
       (es : ss ≡ s + one_if (is_outside p && is_semicolon (get_or text i 0))) where
     -- too many are open
     pub too_many : cc + 200 < oo → IsOversized text

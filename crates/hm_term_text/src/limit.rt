@@ -38,9 +38,7 @@ impl Place {
             Place::Escaped => Place::Inside,
         }
     }
-}
 
-impl Place {
     // Whether a byte of some kind is counted.
     fn counts(self, kind: bool) -> bool
         ensures { result ≡ (is_outside self && kind) }
