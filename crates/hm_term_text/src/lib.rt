@@ -18,7 +18,7 @@
 //! goes as far as it can, so two words in a set need a space between them. A name that stands twice in a set is there
 //! once; the names of a `wmap` are all different. Parentheses around a term make no term of their own, and sequences
 //! group to the right. `filter`, `prune`, `focus`, `add` and `rename` are read as the terms that they stand for
-//! (`specs/Derived`).
+//! (`specs/Derived`). What is written of a lens that was read is read as the same lens (`proofs/Written`).
 //!
 //! A text with more than 200 parentheses and braces open within one another, or with more than 1,999 semicolons, is
 //! oversized and isn't looked at further; what stands in spelled names doesn't count.

@@ -32,8 +32,24 @@ fn check_written(rt: &impl Abort, alloc: Global, text: &[u8], expected: &[u8]) -
 
 #[test]
 fn terms_are_written(rt: HostRuntime) -> Result<(), Fail> {
-    let table: [(&[u8], &[u8]); 14] = [
+    let table: [(&[u8], &[u8]); 21] = [
         (b"id", b"id"),
+        (
+            b"const ( {\"a\":{\"b\"},\"c\"} , {} )",
+            b"const({\"a\":{\"b\"},\"c\"},{})",
+        ),
+        (b"hoist(\"\\\"\\x0a\")", b"hoist(\"\\\"\\x0a\")"),
+        (b"plunge( a-b )", b"plunge(\"a-b\")"),
+        (
+            b"xfork({b \"a\"c b},{ },(id),map(id))",
+            b"xfork({\"a\"\"b\"\"c\"},{},id,map(id))",
+        ),
+        (b"list ( (hoist(a)) )", b"list(hoist(\"a\"))"),
+        (b"call ( a.b )", b"call(a.b)"),
+        (
+            b"acond(a,b,id;id,(id;id);id)",
+            b"acond(\"a\",\"b\",id;id,(id;id);id)",
+        ),
         (
             b"rename(a,b)",
             b"xfork({\"a\"},{\"b\"},hoist(\"a\");plunge(\"b\"),id)",
