@@ -11,3 +11,5 @@ mod JudgingOwn
 mod Files
 mod Rows
 mod Formed
+mod OneLine
+mod Writing

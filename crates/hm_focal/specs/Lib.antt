@@ -7,3 +7,4 @@ pub mod Stages
 pub mod Judging
 pub mod Building
 pub mod Reading
+pub mod Writing

@@ -27,6 +27,8 @@ mod program;
 mod read;
 #[cfg(test)]
 mod tests;
+mod writer;
 
 pub use fault::LensFault;
 pub use read::read_lens;
+pub use writer::write_lens;

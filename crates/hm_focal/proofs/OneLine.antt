@@ -1,0 +1,125 @@
+-- What stands on one line: it has no control character, so no end of a line.
+use Rattle.std.proofs.Common.{◌≡◌, ℕ, ◌/◌, ◌%◌, ◌<◌, ◌≤◌, Bool, true, false, T, List, [], ◌∷◌, ◌++◌, inl, inr, refl, sym, ap, ◌∙◌, subst, arith}
+use Rattle.std.specs.Prelude.{◌||◌, ◌==◌}
+use Rattle.std.specs.Bool.{nat_lt, nat_le}
+use Rattle.std.specs.Char.{digit_char}
+use Rattle.std.proofs.lemmas.Bool.{or_cases, or_parts, and_parts, not-true, eqb-true, leb-true, ltb-false}
+use Rattle.hm_tree.specs.Names.{Name}
+use Rattle.hm_tree.specs.Spelling.{is_quote_or_backslash, is_control, is_plain, spelled_byte, escaped, spelled}
+use Rattle.hm_tree.specs.SpellingLaws.{Kind, plain, backslashed, control, kind}
+use Rattle.hm_tree.specs.Nodes.{Shape, bare, mark, edge}
+use Rattle.hm_tree_text.specs.Text.{Position, whole, below, further, text}
+use Rattle.hm_node_lines.specs.declared.token.Token.{Token}
+use Rattle.hm_node_lines.specs.declared.token.Token.TheVariants.{Word, Quoted, Question, Plus}
+use Rattle.hm_node_lines.specs.Tokens.{is_word_byte, is_word, token_text, IsToken, AreSpaces, one, more, Spaced, alone, before}
+use Rattle.hm_node_lines.specs.NodeLines.{NodeLineValue, node, edge as edge_line, other, shape, indent, IsNodeLine}
+
+abbrev pub IsOneLine : List ℕ → Type 0
+IsOneLine [] = Unit {0}
+IsOneLine (b ∷ bytes) = (32 ≤ b) × IsOneLine bytes
+
+pub line_both : (xs ys : List ℕ) → IsOneLine xs → IsOneLine ys → IsOneLine (xs ++ ys)
+line_both [] ys h k = k
+line_both (x ∷ xs) ys h k = (h.0, line_both xs ys h.1 k)
+
+-- ---- names
+
+is_true : (b : Bool) → T b → b ≡ true
+is_true true h = refl
+is_true false h = absurd h
+
+word_byte : (b : ℕ) → is_word_byte b ≡ true → 32 ≤ b
+word_byte b h = elim (or_cases _ (b == 42) h) [
+  | inl h ↦ elim (or_cases _ (b == 46) h) [
+    | inl h ↦ elim (or_cases _ (b == 45) h) [
+      | inl h ↦ elim (or_cases _ (b == 95) h) [
+        | inl h ↦ elim (or_cases _ _ h) [
+          | inl h ↦ elim (or_cases _ _ h) [
+            | inl h ↦ (let p = and_parts (nat_le 65 b) _ h in let l = leb-true 65 b p.0 in omega arith)
+            | inr h ↦ (let p = and_parts (nat_le 97 b) _ h in let l = leb-true 97 b p.0 in omega arith)
+          ]
+          | inr h ↦ (let p = and_parts (nat_le 48 b) _ h in let l = leb-true 48 b p.0 in omega arith)
+        ]
+        | inr h ↦ (let e = eqb-true b 95 h in omega arith)
+      ]
+      | inr h ↦ (let e = eqb-true b 45 h in omega arith)
+    ]
+    | inr h ↦ (let e = eqb-true b 46 h in omega arith)
+  ]
+  | inr h ↦ (let e = eqb-true b 42 h in omega arith)
+]
+
+word_all : (w : List ℕ) → is_word w ≡ true → IsOneLine w
+word_all [] h = tt
+word_all (b ∷ w) h = let p = and_parts (is_word_byte b) (is_word w) h in (word_byte b p.0, word_all w p.1)
+
+quote_byte : (b : ℕ) → is_quote_or_backslash b ≡ true → 32 ≤ b
+quote_byte b h = elim (or_cases (b == 34) (b == 92) h)
+    [ inl e ↦ (let f = eqb-true b 34 e in omega arith) | inr e ↦ (let f = eqb-true b 92 e in omega arith) ]
+
+plain_byte : (b : ℕ) → is_plain b ≡ true → 32 ≤ b
+plain_byte b h =
+    let apart = or_parts (is_quote_or_backslash b) (is_control b) (not-true (is_quote_or_backslash b || is_control b) h) in
+    let control = or_parts (nat_lt b 32) (b == 127) apart.1 in
+    ltb-false b 32 control.0
+
+digit_byte : (n : ℕ) → 32 ≤ digit_char n
+digit_byte n = ?
+
+spelled_byte_line : (b : ℕ) → IsOneLine (spelled_byte b)
+spelled_byte_line b = go (kind b)
+  where
+    go : Kind b → IsOneLine (spelled_byte b)
+    go (plain h e) = subst IsOneLine (sym e) (plain_byte b h, tt)
+    go (backslashed h e) = subst IsOneLine (sym e) (omega arith, (quote_byte b h, tt))
+    go (control h e) = subst IsOneLine (sym e) (omega arith, (omega arith, (digit_byte (b / 16), (digit_byte (b % 16), tt))))
+
+escaped_line : (n : List ℕ) → IsOneLine (escaped n)
+escaped_line [] = tt
+escaped_line (b ∷ n) = line_both (spelled_byte b) (escaped n) (spelled_byte_line b) (escaped_line n)
+
+pub spelled_line : (n : Name) → IsOneLine (spelled n)
+unfolding spelled
+spelled_line n = (omega arith, line_both (escaped n) (34 ∷ []) (escaped_line n) (omega arith, tt))
+
+-- ---- trees
+
+pub text_line : (p : Position) (s : Shape) → IsOneLine (text p s)
+text_line whole bare = (omega arith, (omega arith, tt))
+text_line below bare = tt
+text_line further bare = (omega arith, tt)
+text_line whole mark = (omega arith, tt)
+text_line below mark = (omega arith, (omega arith, tt))
+text_line further mark = (omega arith, tt)
+text_line whole (edge n child more) =
+    (omega arith, line_both (spelled n) _ (spelled_line n) (line_both (text below child) _ (text_line below child) (text_line further more)))
+text_line below (edge n child more) =
+    (omega arith, (omega arith, line_both (spelled n) _ (spelled_line n) (line_both (text below child) _ (text_line below child) (text_line further more))))
+text_line further (edge n child more) =
+    (omega arith, line_both (spelled n) _ (spelled_line n) (line_both (text below child) _ (text_line below child) (text_line further more)))
+
+-- ---- tokens, and lines of nodes
+
+pub token_line : (t : Token) → IsToken t → IsOneLine (token_text t)
+token_line (Word w) h = word_all w (is_true (is_word w) h.1)
+token_line (Quoted n) h = spelled_line n
+token_line Question h = (omega arith, tt)
+token_line Plus h = (omega arith, tt)
+
+pub spaces_line : (gap : List ℕ) → AreSpaces gap → IsOneLine gap
+spaces_line _ one = (omega arith, tt)
+spaces_line _ (more {gap} s) = (omega arith, spaces_line gap s)
+
+pub spaced_line : (ts : List Token) (line : List ℕ) → Spaced ts line → IsOneLine line
+spaced_line _ _ (alone {t} h) = token_line t h
+spaced_line _ _ (before {t} {ts} {gap} {rest} h g s) =
+    line_both (token_text t) (gap ++ rest) (token_line t h) (line_both gap rest (spaces_line gap g) (spaced_line ts rest s))
+
+pub node_line_line : (line : List ℕ) (x : NodeLineValue) → IsNodeLine line x → IsOneLine line
+node_line_line line x h = subst IsOneLine (sym h.is) (indented x (spaced_line h.tokens h.text h.spaced))
+  where
+    indented : (x : NodeLineValue) → IsOneLine h.text → IsOneLine (indent x ++ h.text)
+    indented (node w) k = k
+    indented (edge_line n w) k = (omega arith, (omega arith, k))
+    indented (other c w) k = (omega arith, (omega arith, k))
+    indented (shape s) k = (omega arith, (omega arith, k))
