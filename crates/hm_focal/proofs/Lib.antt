@@ -13,3 +13,5 @@ mod Rows
 mod Formed
 mod OneLine
 mod Writing
+mod TermLines
+mod Broken

@@ -4,6 +4,7 @@ use Rattle.std.specs.Prelude.{◌||◌, ◌==◌}
 use Rattle.std.specs.Bool.{nat_lt, nat_le}
 use Rattle.std.specs.Char.{digit_char}
 use Rattle.std.proofs.lemmas.Bool.{or_cases, or_parts, and_parts, not-true, eqb-true, leb-true, ltb-false}
+use Rattle.std.proofs.lemmas.Bool.Decides.{nat_tests}
 use Rattle.hm_tree.specs.Names.{Name}
 use Rattle.hm_tree.specs.Spelling.{is_quote_or_backslash, is_control, is_plain, spelled_byte, escaped, spelled}
 use Rattle.hm_tree.specs.SpellingLaws.{Kind, plain, backslashed, control, kind}
@@ -29,25 +30,7 @@ is_true true h = refl
 is_true false h = absurd h
 
 word_byte : (b : ℕ) → is_word_byte b ≡ true → 32 ≤ b
-word_byte b h = elim (or_cases _ (b == 42) h) [
-  | inl h ↦ elim (or_cases _ (b == 46) h) [
-    | inl h ↦ elim (or_cases _ (b == 45) h) [
-      | inl h ↦ elim (or_cases _ (b == 95) h) [
-        | inl h ↦ elim (or_cases _ _ h) [
-          | inl h ↦ elim (or_cases _ _ h) [
-            | inl h ↦ (let p = and_parts (nat_le 65 b) _ h in let l = leb-true 65 b p.0 in omega arith)
-            | inr h ↦ (let p = and_parts (nat_le 97 b) _ h in let l = leb-true 97 b p.0 in omega arith)
-          ]
-          | inr h ↦ (let p = and_parts (nat_le 48 b) _ h in let l = leb-true 48 b p.0 in omega arith)
-        ]
-        | inr h ↦ (let e = eqb-true b 95 h in omega arith)
-      ]
-      | inr h ↦ (let e = eqb-true b 45 h in omega arith)
-    ]
-    | inr h ↦ (let e = eqb-true b 46 h in omega arith)
-  ]
-  | inr h ↦ (let e = eqb-true b 42 h in omega arith)
-]
+word_byte b h = grind (arith, nat_tests)
 
 word_all : (w : List ℕ) → is_word w ≡ true → IsOneLine w
 word_all [] h = tt
@@ -64,7 +47,7 @@ plain_byte b h =
     ltb-false b 32 control.0
 
 digit_byte : (n : ℕ) → 32 ≤ digit_char n
-digit_byte n = ?
+digit_byte n = grind (arith, nat_tests)
 
 spelled_byte_line : (b : ℕ) → IsOneLine (spelled_byte b)
 spelled_byte_line b = go (kind b)
@@ -91,12 +74,12 @@ text_line further bare = (omega arith, tt)
 text_line whole mark = (omega arith, tt)
 text_line below mark = (omega arith, (omega arith, tt))
 text_line further mark = (omega arith, tt)
-text_line whole (edge n child more) =
-    (omega arith, line_both (spelled n) _ (spelled_line n) (line_both (text below child) _ (text_line below child) (text_line further more)))
-text_line below (edge n child more) =
-    (omega arith, (omega arith, line_both (spelled n) _ (spelled_line n) (line_both (text below child) _ (text_line below child) (text_line further more))))
-text_line further (edge n child more) =
-    (omega arith, line_both (spelled n) _ (spelled_line n) (line_both (text below child) _ (text_line below child) (text_line further more)))
+text_line whole (edge n child rest) =
+    (omega arith, line_both (spelled n) _ (spelled_line n) (line_both (text below child) _ (text_line below child) (text_line further rest)))
+text_line below (edge n child rest) =
+    (omega arith, (omega arith, line_both (spelled n) _ (spelled_line n) (line_both (text below child) _ (text_line below child) (text_line further rest))))
+text_line further (edge n child rest) =
+    (omega arith, line_both (spelled n) _ (spelled_line n) (line_both (text below child) _ (text_line below child) (text_line further rest)))
 
 -- ---- tokens, and lines of nodes
 
