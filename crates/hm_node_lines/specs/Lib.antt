@@ -12,3 +12,4 @@ pub mod Nodes
 pub mod Building
 pub mod Judging
 pub mod Writing
+pub mod WrittenNodes
