@@ -19,3 +19,5 @@ mod Named
 mod Building
 mod NodesOf
 mod Written
+mod WrittenText
+mod WrittenCuts

@@ -2,6 +2,7 @@
 -- it isn't 0..0.
 use Rattle.std.specs.Prelude.{ℕ, zero, List, [], ◌∷◌, ◌++◌, map, codes, decimal, Option, Some, None}
 use Rattle.hm_tree.specs.Names.{Name}
+use Rattle.hm_tree.specs.Spelling.{spelled}
 use Rattle.hm_node_lines.specs.declared.token.Token.{Token}
 use Rattle.hm_node_lines.specs.declared.token.Token.TheVariants.{Word, Quoted, Question, Plus}
 use Rattle.hm_node_lines.specs.declared.count.Count.{Count}
@@ -51,3 +52,11 @@ spaced_text (t ∷ ts) = token_text t ++ behind_spaces ts
 
 abbrev pub line_text : NodeLineValue → List ℕ
 line_text i = indent i ++ spaced_text (tokens_of i)
+
+-- a name between quotes behind a space
+abbrev pub spaced_name : Name → List ℕ
+spaced_name k = 32 ∷ spelled k
+
+-- a word at the end of a line behind a space
+abbrev pub ending : Name → List ℕ
+ending w = codes " " ++ (w ++ codes "\n")

@@ -32,6 +32,7 @@ mod section;
 #[cfg(test)]
 mod tests;
 mod token;
+mod writer;
 
 pub use before::{Before, is_counted};
 pub use build::{build_nodes, is_empty_named, node_of};
@@ -43,3 +44,4 @@ pub use names::copy_names;
 pub use node_line::{NodeLine, ShapeLine, is_word, read_node_line};
 pub use section::{Section, read_section, section_at};
 pub use token::{Token, behind, first_quoted, first_word, gap_length, lone_word, read_tokens};
+pub use writer::append_nodes;
