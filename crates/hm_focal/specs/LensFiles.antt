@@ -1,13 +1,12 @@
 -- The program of a lens file, and what reading one comes to.
-use Rattle.std.specs.Prelude.{◌≡◌, ℕ, List, [], ◌∷◌, ◌++◌, codes, filter_map, Result, Ok, Err}
+use Rattle.std.specs.Prelude.{◌≡◌, ℕ, List, filter_map, Result, Ok, Err}
 use Rattle.std.specs.List.{AllZip, Contains}
 use Rattle.hm_tree.specs.Names.{Name}
 use Rattle.hm_terms.specs.Lenses.{DefinitionValue}
 use Rattle.hm_terms.specs.Programs.{ProgramValue}
 use Rattle.hm_node_lines.specs.Entries.{EntryValue, texts_of}
-use Rattle.hm_node_lines.specs.Firsts.{node_names}
 use Rattle.hm_node_lines.specs.FirstBad.{HasNoBad}
-use Rattle.hm_node_lines.specs.Nodes.{IsPlaceOf, NamesEmpty, AreNodesOf}
+use Rattle.hm_node_lines.specs.Nodes.{IsPlaceOf, AreTypeNames, AreNodesOf}
 use Rattle.hm_focal.specs.declared.fault.LensFault.{LensFault}
 use Rattle.hm_focal.specs.declared.fault.LensFault.TheVariants.{BadLens, Memory}
 use Rattle.hm_focal.specs.OwnLines.{term, LensValue, OwnValue, format, main, lens_in, named_nodes}
@@ -20,11 +19,6 @@ pub record IsDefinitionOf (es : List EntryValue) (d : LensValue) (v : Name × De
   pub source : IsPlaceOf es d.source v.1.source.place
   pub view : IsPlaceOf es d.view v.1.view.place
   pub body : d.body ≡ term v.1.body
-
--- the names of the declared nodes in their order, and behind them `Empty` where it is named
-pub record AreTypeNames (es : List EntryValue) (own names : List Name) : Type 0 where
-  pub long : NamesEmpty es own → names ≡ node_names es ++ codes "Empty" ∷ []
-  pub short : ¬ (NamesEmpty es own) → names ≡ node_names es
 
 -- a file is of a program: none of its lines is bad, and they name its format, describe its nodes and its lenses, and one is its main line
 pub record IsLensFile (bytes : List ℕ) (p : ProgramValue) : Type 0 where

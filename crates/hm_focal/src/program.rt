@@ -8,7 +8,7 @@ ghost use Rattle.hm_node_lines.specs.BadLines.{IsNode};
 ghost use Rattle.hm_terms.specs.Programs.{definition_value};
 ghost use Rattle.hm_focal.specs.OwnLines.{lens_value, own_value, own_values, nodes_in, named_nodes};
 ghost use Rattle.hm_focal.specs.BadLines.{IsBadLine};
-ghost use Rattle.hm_focal.specs.LensFiles.{AreTypeNames, IsDefinitionOf};
+ghost use Rattle.hm_focal.specs.LensFiles.{IsDefinitionOf};
 ghost use Rattle.hm_focal.specs.Building.{IsBuiltDefinition, AreNamed, IsTaken, AreBuilt};
 
 use crate::own::{Body, FormatLine, LensLine, Own};

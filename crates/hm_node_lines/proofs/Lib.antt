@@ -21,3 +21,7 @@ mod NodesOf
 mod Written
 mod WrittenText
 mod WrittenCuts
+mod DeclaredNames
+mod WrittenSound
+mod WrittenNodes
+mod Described

@@ -1,5 +1,5 @@
 -- The nodes that the lines of a file describe.
-use Rattle.std.specs.Prelude.{◌≡◌, ◌⊎◌, ◌↔◌, ℕ, ◌+◌, T, List, [], ◌∷◌, length, map, slice_get, codes, count_by, filter_map, Option, Some, None}
+use Rattle.std.specs.Prelude.{◌≡◌, ◌⊎◌, ◌↔◌, ℕ, ◌+◌, T, List, [], ◌∷◌, ◌++◌, length, map, slice_get, codes, count_by, filter_map, Option, Some, None}
 use Rattle.std.specs.List.{Contains}
 use Rattle.std.specs.FinMap.{is_sorted, find}
 use Rattle.std.specs.FinSet.{from_list}
@@ -10,6 +10,7 @@ use Rattle.hm_schema.specs.declared.node.Shape.{Shape}
 use Rattle.hm_schema.specs.Values.{NodeValue}
 use Rattle.hm_node_lines.specs.NodeLines.{ShapeValue, node, edge, other, shape}
 use Rattle.hm_node_lines.specs.Entries.{EntryValue, says}
+use Rattle.hm_node_lines.specs.Firsts.{node_names}
 use Rattle.hm_node_lines.specs.BadLines.{Says, named, begins_node, nodes_before, behind}
 
 -- the place of a node: that of its line among the node lines, and for `Empty` the one behind them
@@ -58,3 +59,8 @@ pub record AreNodesOf (es : List EntryValue) (own : List Name) (nodes : List Nod
   pub empty : NamesEmpty es own → slice_get nodes (count_by begins_node es) ≡ Some empty_node
   pub long : NamesEmpty es own → length nodes ≡ count_by begins_node es + 1
   pub short : ¬ (NamesEmpty es own) → length nodes ≡ count_by begins_node es
+
+-- the names of the declared nodes in their order, and behind them `Empty` where it is named
+pub record AreTypeNames (es : List EntryValue) (own names : List Name) : Type 0 where
+  pub long : NamesEmpty es own → names ≡ node_names es ++ codes "Empty" ∷ []
+  pub short : ¬ (NamesEmpty es own) → names ≡ node_names es
