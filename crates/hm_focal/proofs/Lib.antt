@@ -15,3 +15,5 @@ mod OneLine
 mod Writing
 mod TermLines
 mod Broken
+mod WrittenOwn
+mod LineKinds

@@ -15,7 +15,7 @@ letter (format w ps) = 102
 letter (lens d) = 108
 letter (main b) = 109
 
-spaced_front : (t : Token) (ts : List Token) (line : List ℕ) → Spaced (t ∷ ts) line → (rest : List ℕ) × (line ≡ token_text t ++ rest)
+pub spaced_front : (t : Token) (ts : List Token) (line : List ℕ) → Spaced (t ∷ ts) line → (rest : List ℕ) × (line ≡ token_text t ++ rest)
 spaced_front t _ _ (alone h) = ([], sym (append-nil (token_text t)))
 spaced_front t _ _ (before {gap} {rest} h g s) = (gap ++ rest, refl)
 
