@@ -17,3 +17,4 @@ mod TermLines
 mod Broken
 mod WrittenOwn
 mod LineKinds
+mod WrittenLines
