@@ -13,14 +13,14 @@ use Rattle.hm_terms.specs.Programs.{definition_value, program_value}
 use Rattle.hm_node_lines.specs.declared.entry.Entry.{Entry}
 use Rattle.hm_node_lines.specs.Entries.{entry_value, entry_values, texts_of}
 use Rattle.hm_node_lines.specs.FirstBad.{HasNoBad, IsFirstBad, IsTold, at, behind_all}
-use Rattle.hm_node_lines.specs.Nodes.{AreNodesOf}
+use Rattle.hm_node_lines.specs.Nodes.{AreTypeNames, AreNodesOf}
 use Rattle.hm_focal.specs.declared.own.Own.{Own}
 use Rattle.hm_focal.specs.declared.own.FormatLine.{FormatLine}
 use Rattle.hm_focal.specs.declared.program.Parts.{Parts}
 use Rattle.hm_focal.specs.OwnLines.{lens_in, own_values, named_nodes}
 use Rattle.hm_focal.specs.Lines.{AreLines}
 use Rattle.hm_focal.specs.BadLines.{IsBadLine, Lacks, IsFirstBadLine}
-use Rattle.hm_focal.specs.LensFiles.{IsDefinitionOf, AreTypeNames, IsLensFile}
+use Rattle.hm_focal.specs.LensFiles.{IsDefinitionOf, IsLensFile}
 use Rattle.hm_focal.specs.Building.{AreBuilt}
 
 module _ (bytes : List ℕ) (entries : List Entry) (own : List Own) (read : AreLines (texts_of bytes) (entry_values entries) (own_values own)) where

@@ -5,6 +5,7 @@ ghost use Rattle.hm_node_lines.specs.Entries.{entry_value, entry_values};
 ghost use Rattle.hm_node_lines.specs.FirstBad.{HasNoBad};
 ghost use Rattle.hm_node_lines.specs.Firsts.{AreFirsts, node_names, begun_name};
 ghost use Rattle.hm_node_lines.specs.BadLines.{IsNode};
+ghost use Rattle.hm_node_lines.specs.Nodes.{AreTypeNames};
 ghost use Rattle.hm_terms.specs.Programs.{definition_value};
 ghost use Rattle.hm_focal.specs.OwnLines.{lens_value, own_value, own_values, nodes_in, named_nodes};
 ghost use Rattle.hm_focal.specs.BadLines.{IsBadLine};

@@ -9,3 +9,8 @@ pub use Rattle.hm_node_lines.proofs.Judging.{bad_says, is_node, turned, always, 
 pub use Rattle.hm_node_lines.proofs.Declared.{more_before, counted_below, counted, node_line, names_empty_or, nodes_once, place_once, no_twins}
 pub use Rattle.hm_node_lines.proofs.WellFormed.{nodes_formed, own_in_range}
 pub use Rattle.hm_node_lines.proofs.FirstBad.{told_once}
+pub use Rattle.hm_node_lines.proofs.TypeNames.{type_count, type_place, type_names_once, types_formed}
+pub use Rattle.hm_node_lines.proofs.WrittenNodes.{written_sound}
+pub use Rattle.hm_node_lines.proofs.Described.{written_names, written_places, written_nodes, written_type_names}
+pub use Rattle.hm_node_lines.proofs.WrittenReads.{written_reads}
+pub use Rattle.hm_node_lines.proofs.Readable.{readable_nodes}

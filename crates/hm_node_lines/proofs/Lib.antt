@@ -25,3 +25,6 @@ mod DeclaredNames
 mod WrittenSound
 mod WrittenNodes
 mod Described
+mod TypeNames
+mod Readable
+mod WrittenReads

@@ -30,7 +30,7 @@ use Rattle.hm_node_lines.specs.FirstBad.{HasNoBad}
 -- ---- shapes
 
 -- what holds of each shape that a line says holds of the shapes of the lines
-all_shapes : (P : ShapeValue → Type 0) (lines : List EntryValue) → ((s : ShapeValue) → Contains lines (says (shape s)) → P s)
+pub all_shapes : (P : ShapeValue → Type 0) (lines : List EntryValue) → ((s : ShapeValue) → Contains lines (says (shape s)) → P s)
     → All P (shapes_in lines)
 all_shapes P [] f = All-nil P
 all_shapes P (says (shape s) ∷ lines) f = All-cons P s (shapes_in lines) (f s (0, omega arith, refl))

@@ -150,7 +150,7 @@ counted_sound c f = go c.least c.most
 -- ---- a line
 
 -- its words are words, its names are texts, and its numbers fit
-pub IsSound : NodeLineValue → Type 0
+unfoldable pub IsSound : NodeLineValue → Type 0
 IsSound (node w) = IsToken (Word w)
 IsSound (edge k w) = IsUtf8 k × IsToken (Word w)
 IsSound (other c w) = IsToken (Word w)

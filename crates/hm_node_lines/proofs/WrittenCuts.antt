@@ -254,9 +254,11 @@ module _ (names : List Name) (back : List EntryValue) (none : SaysNothing back) 
       → (i : ℕ) × IsCut names (rest ws ns) i w n k
   cut_at [] ns k w n name is = let f : ⊥ = cc in absurd f
   cut_at (v ∷ ws) [] k w n name is = let f : ⊥ = cc in absurd f
-  cut_at (v ∷ ws) (m ∷ ns) zero w n name is =
-      (0, subst (λ (z : Name × NodeValue). IsCut names (rest (v ∷ ws) (m ∷ ns)) 0 z.0 z.1 0) (λ i. (same_Some v w name i, same_Some m n is i))
-      (first_cut v ws m ns))
+  cut_at (v ∷ ws) (m ∷ ns) zero w n name is = (
+    0,
+    subst (λ (z : Name × NodeValue). IsCut names (rest (v ∷ ws) (m ∷ ns)) 0 z.0 z.1 0) (λ i. (same_Some v w name i, same_Some m n is i))
+        (first_cut v ws m ns),
+  )
   cut_at (v ∷ ws) (m ∷ ns) (suc k) w n name is =
       let c = cut_at ws ns k w n name is in (length (map says (node_lines names v m)) + c.0, next_cut v ws m ns c.0 w n k c.1)
 

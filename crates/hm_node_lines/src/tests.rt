@@ -1,7 +1,10 @@
 //! Lines, and what each is read as.
 use crate::{
-    Count, Entry, NodeLine, declared_nodes, read_entries, read_node_line, read_section, read_tokens,
+    Count, Entry, NodeLine, append_nodes, declared_nodes, read_entries, read_node_line,
+    read_section, read_tokens,
 };
+use hm_schema::{Node, NodeId, Shape};
+use hm_tree::{Class, Memory, Name, NameSet};
 use std::alloc::Global;
 use std::mem::size_of;
 use std::process::Abort;
@@ -141,4 +144,132 @@ fn first_places(rt: HostRuntime) -> Result<(), Fail> {
     assert_eq!(&rt; section.others, 0);
     assert_eq!(&rt; section.shapes, 2);
     Ok(())
+}
+
+fn names(alloc: Global, texts: &[&str]) -> Result<Vec<Name>, Memory> {
+    let mut names = Vec::new(alloc);
+    for text in texts {
+        names.push(Name::from_text(alloc, text)?)?;
+    }
+    Ok(names)
+}
+
+fn shape(
+    alloc: Global,
+    required: &[&str],
+    optional: &[&str],
+    least: u64,
+    most: Option<u64>,
+) -> Result<Shape, Memory> {
+    Ok(Shape {
+        required: NameSet::from_list(names(alloc, required)?)?,
+        optional: NameSet::from_list(names(alloc, optional)?)?,
+        least,
+        most,
+    })
+}
+
+// A node without listed names and with one shape.
+fn plain(
+    alloc: Global,
+    other: Option<(Class, NodeId)>,
+    least: u64,
+    most: Option<u64>,
+) -> Result<Node, Memory> {
+    let mut shapes = Vec::new(alloc);
+    shapes.push(shape(alloc, &[], &[], least, most)?)?;
+    Ok(Node {
+        shapes,
+        children: Vec::new(alloc),
+        other,
+        twins: Vec::new(alloc),
+    })
+}
+
+// Two listed names, of which one has to be spelled, and three shapes.
+fn book(alloc: Global) -> Result<Node, Memory> {
+    let mut book = plain(alloc, Some((Class::Filled, NodeId { place: 1 })), 0, None)?;
+    book.children.push((Name::from_text(alloc, "a \"b\\\n")?, NodeId { place: 2 }))?;
+    book.children
+        .push((Name::from_text(alloc, "title")?, NodeId { place: 1 }))?;
+    book.shapes
+        .push(shape(alloc, &["title"], &["a \"b\\\n"], 2, Some(5))?)?;
+    book.shapes
+        .push(shape(alloc, &["title", "a \"b\\\n"], &[], 0, Some(0))?)?;
+    Ok(book)
+}
+
+fn expect_written(
+    rt: &impl Abort,
+    alloc: Global,
+    names: &[Name],
+    nodes: &[Node],
+    want: &str,
+) -> Result<(), Fail> {
+    if names.len() != nodes.len() {
+        Err("a node has no name")?;
+        return Ok(());
+    }
+    let mut text = Vec::new(alloc);
+    append_nodes(&mut text, names, nodes)?;
+    assert_eq!(rt; text.as_slice(), want.as_bytes());
+    Ok(())
+}
+
+const WRITTEN: &str =
+    "node Book\n  edge \"a \\\"b\\\\\\x0a\" Empty\n  edge \"title\" Cards\n  other filled Cards\n  shape + 0..\n  shape \"title\" ? \"a \\\"b\\\\\\x0a\" + 2..5\n  shape \"a \\\"b\\\\\\x0a\" \"title\"\nnode Cards\n  shape\n";
+
+#[test]
+fn nodes_are_written(rt: HostRuntime) -> Result<(), Fail> {
+    let alloc = rt.alloc();
+    let mut nodes = Vec::new(alloc);
+    nodes.push(book(alloc)?)?;
+    nodes.push(plain(alloc, None, 0, Some(0))?)?;
+    nodes.push(plain(alloc, None, 0, Some(0))?)?;
+    let names = names(alloc, &["Book", "Cards", "Empty"])?;
+    expect_written(&rt, alloc, &names, &nodes, WRITTEN)?;
+    expect_lines(&rt, alloc, WRITTEN.as_bytes(), b"neeoxxxnx")
+}
+
+fn expect_class(rt: &impl Abort, alloc: Global, class: Class, want: &str) -> Result<(), Fail> {
+    let mut nodes = Vec::new(alloc);
+    nodes.push(plain(alloc, Some((class, NodeId { place: 0 })), 0, Some(1))?)?;
+    let names = names(alloc, &["N0"])?;
+    expect_written(rt, alloc, &names, &nodes, want)?;
+    expect_lines(rt, alloc, want.as_bytes(), b"nox")
+}
+
+#[test]
+fn classes_are_written(rt: HostRuntime) -> Result<(), Fail> {
+    let alloc = rt.alloc();
+    expect_class(
+        &rt,
+        alloc,
+        Class::Any,
+        "node N0\n  other any N0\n  shape + 0..1\n",
+    )?;
+    expect_class(
+        &rt,
+        alloc,
+        Class::Clean,
+        "node N0\n  other clean N0\n  shape + 0..1\n",
+    )?;
+    expect_class(
+        &rt,
+        alloc,
+        Class::Filled,
+        "node N0\n  other filled N0\n  shape + 0..1\n",
+    )?;
+    expect_class(
+        &rt,
+        alloc,
+        Class::Trimmed,
+        "node N0\n  other trimmed N0\n  shape + 0..1\n",
+    )?;
+    expect_class(
+        &rt,
+        alloc,
+        Class::Folded,
+        "node N0\n  other folded N0\n  shape + 0..1\n",
+    )
 }

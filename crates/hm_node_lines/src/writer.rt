@@ -121,7 +121,11 @@ fn put_edges(text: &mut Vec<u8>, names: &[Name], children: &[(Name, NodeId)]) ->
     Ok(())
 }
 
-fn put_other(text: &mut Vec<u8>, names: &[Name], other: &Option<(Class, NodeId)>) -> Result<(), Memory>
+fn put_other(
+    text: &mut Vec<u8>,
+    names: &[Name],
+    other: &Option<(Class, NodeId)>,
+) -> Result<(), Memory>
     ensures { OnOk result (text.new.items ≡ text.old.items ++ flat_map ended_text (other_lines names.now other.now)) }
 {
     match other {

@@ -4,12 +4,11 @@ use Rattle.hm_node_lines.specs.declared.entry.Entry.{Entry}
 use Rattle.hm_node_lines.specs.Entries.{entry_values}
 use Rattle.hm_node_lines.specs.BadLines.{IsBadNodeLine}
 use Rattle.hm_node_lines.specs.FirstBad.{HasNoBad}
-use Rattle.hm_node_lines.specs.Nodes.{AreNodesOf}
+use Rattle.hm_node_lines.specs.Nodes.{AreTypeNames, AreNodesOf}
 use Rattle.hm_tree.specs.Names.{Name}
 use Rattle.hm_schema.specs.Values.{node_value}
 use Rattle.hm_focal.specs.declared.own.Own.{Own}
 use Rattle.hm_focal.specs.OwnLines.{own_values, named_nodes}
-use Rattle.hm_focal.specs.LensFiles.{AreTypeNames}
 use Rattle.hm_focal.specs.Building.{AreBuilt}
 use Rattle.hm_focal.specs.BadLines.{IsBadLine, of_node}
 use Rattle.hm_focal.proofs.Files.{first_told, sound_of, missing_line, lens_file}
