@@ -30,12 +30,12 @@ same_some x y e = cc
 -- ---- lens lines
 
 -- a lens line, by its place among them
-record IsLensAt (os : List OwnValue) (k : ℕ) (d : LensValue) : Type 0 where
-  line : ℕ
-  is : slice_get os line ≡ Some (lens d)
-  before : length (lens_names (take line os)) ≡ k
+pub record IsLensAt (os : List OwnValue) (k : ℕ) (d : LensValue) : Type 0 where
+  pub line : ℕ
+  pub is : slice_get os line ≡ Some (lens d)
+  pub before : length (lens_names (take line os)) ≡ k
 
-lens_at : (os : List OwnValue) (k : ℕ) (d : LensValue) → slice_get (filter_map lens_in os) k ≡ Some d → IsLensAt os k d
+pub lens_at : (os : List OwnValue) (k : ℕ) (d : LensValue) → slice_get (filter_map lens_in os) k ≡ Some d → IsLensAt os k d
 lens_at [] k d e = let f : ⊥ = cc in absurd f
 lens_at (o ∷ os) k d e = go o k e (lens_at os)
   where
@@ -56,7 +56,7 @@ lens_at (o ∷ os) k d e = go o k e (lens_at os)
     go (main b) k e rest = next (main b) refl k (rest k d e)
 
 -- the lines of a list of definitions
-zip_at : {X Y : Type 0} (P : X → Y → Type 0) (xs : List X) (ys : List Y) → AllZip P xs ys → (k : ℕ) (y : Y) → slice_get ys k ≡ Some y
+pub zip_at : {X Y : Type 0} (P : X → Y → Type 0) (xs : List X) (ys : List Y) → AllZip P xs ys → (k : ℕ) (y : Y) → slice_get ys k ≡ Some y
     → (x : X) × (slice_get xs k ≡ Some x) × P x y
 zip_at P [] [] h k y e = let f : ⊥ = cc in absurd f
 zip_at P [] (z ∷ ys) h k y e = absurd h
@@ -156,7 +156,7 @@ module _ (bytes : List ℕ) (p : ProgramValue) (h : IsLensFile bytes p) where
           h.sound y (declared_twice to (subst (Contains (lens_names (take y h.own))) same (declares_before h.own x y d at below)))
 
   -- the line of a definition
-  line_of : (k : ℕ) (v : Name × DefinitionValue) → slice_get p.definitions k ≡ Some v
+  pub line_of : (k : ℕ) (v : Name × DefinitionValue) → slice_get p.definitions k ≡ Some v
       → (d : LensValue) × (i : ℕ) × (slice_get h.own i ≡ Some (lens d)) × IsDefinitionOf h.entries d v
   line_of k v e =
       let z = zip_at (IsDefinitionOf h.entries) (filter_map lens_in h.own) p.definitions h.definitions k v e in
@@ -174,7 +174,7 @@ module _ (bytes : List ℕ) (p : ProgramValue) (h : IsLensFile bytes p) where
       )
 
   -- a lens of the program is the body of a line
-  body_of_line : (l : Lens) → IsLensOf p l → (i : ℕ) × HasBody h.own i (term l)
+  pub body_of_line : (l : Lens) → IsLensOf p l → (i : ℕ) × HasBody h.own i (term l)
   body_of_line _ (a_body k {n} {d} e) =
       let l = line_of k (n, d) e in
       (l.1, (lens l.0, l.2, ap Some l.3.body))
@@ -208,7 +208,7 @@ module _ (bytes : List ℕ) (p : ProgramValue) (h : IsLensFile bytes p) where
       go header k e = let f : ⊥ = cc in absurd f
       go (format w ps) k e = let f : ⊥ = cc in absurd f
 
-  node_sound : HasNoBad (IsBadNodeLine h.entries)
+  pub node_sound : HasNoBad (IsBadNodeLine h.entries)
   node_sound i bad = h.sound i (of_node bad)
 
   pub file_formed : IsWellFormed p

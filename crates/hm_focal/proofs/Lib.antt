@@ -18,3 +18,5 @@ mod Broken
 mod WrittenOwn
 mod LineKinds
 mod WrittenLines
+mod OwnOneLine
+mod WrittenParts
