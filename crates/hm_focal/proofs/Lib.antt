@@ -20,3 +20,4 @@ mod LineKinds
 mod WrittenLines
 mod OwnOneLine
 mod WrittenParts
+mod WrittenFiles
