@@ -14,3 +14,4 @@ pub use Rattle.hm_node_lines.proofs.WrittenNodes.{written_sound}
 pub use Rattle.hm_node_lines.proofs.Described.{written_names, written_places, written_nodes, written_type_names}
 pub use Rattle.hm_node_lines.proofs.WrittenReads.{written_reads}
 pub use Rattle.hm_node_lines.proofs.Readable.{readable_nodes}
+pub use Rattle.hm_node_lines.proofs.Rewritten.{rewritten_nodes, rewritten_type_names}

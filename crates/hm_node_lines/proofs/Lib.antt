@@ -28,3 +28,4 @@ mod Described
 mod TypeNames
 mod Readable
 mod WrittenReads
+mod Rewritten

@@ -142,6 +142,12 @@ module _ (es : List EntryValue) (sound : HasNoBad (IsBadNodeLine es)) (read : Ar
     empty_place w _ (declared j is) same = absurd (sound j (declares_empty (subst (λ (v : Name). Says es j (node v)) same is)))
     empty_place _ _ empty same = refl
 
+    -- where `Empty` isn't named, no name is `Empty`
+    pub no_declared_empty : ¬ (NamesEmpty es own) → (i : ℕ) → ¬ (slice_get names i ≡ Some (codes "Empty"))
+    no_declared_empty not_it i is =
+        let at = empty_place (codes "Empty") i (place i (codes "Empty") is) refl in
+        omega (arith, at, ap length (n.short not_it), length_names es, slice_get_within names i (codes "Empty") is)
+
     last_one : (i : ℕ) → slice_get names i ≡ Some (codes "Empty") → (suc i ≡ length names) × (slice_get nodes i ≡ Some empty_node)
     last_one i is = go (names_empty_or es own)
       where
@@ -153,8 +159,7 @@ module _ (es : List EntryValue) (sound : HasNoBad (IsBadNodeLine es)) (read : Ar
           omega (arith, at, ap length (n.long it), length_push (node_names es) (codes "Empty"), length_names es),
           ap (slice_get nodes) at ∙ t.empty it,
         )
-        go (inr not_it) =
-            absurd (omega (arith, at, ap length (n.short not_it), length_names es, slice_get_within names i (codes "Empty") is))
+        go (inr not_it) = absurd (no_declared_empty not_it i is)
 
     writable_node : (k : ℕ) (m : NodeValue) → slice_get nodes k ≡ Some m → IsWellFormedNode (length nodes) m → IsWritableNode (length nodes) m
     writable_node k m is formed = go (one_of es own nodes t k m is)

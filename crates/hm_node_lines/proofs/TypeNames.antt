@@ -16,7 +16,7 @@ use Rattle.hm_node_lines.proofs.Declared.{counted, node_line, names_empty_or, pl
 use Rattle.hm_node_lines.proofs.Judging.{all_names, length_names}
 use Rattle.hm_node_lines.proofs.WellFormed.{nodes_formed}
 
-get_middle : {X : Type 0} (xs ys : List X) (x : X) → slice_get (xs ++ x ∷ ys) (length xs) ≡ Some x
+pub get_middle : {X : Type 0} (xs ys : List X) (x : X) → slice_get (xs ++ x ∷ ys) (length xs) ≡ Some x
 get_middle [] ys x = refl
 get_middle (y ∷ xs) ys x = get_middle xs ys x
 

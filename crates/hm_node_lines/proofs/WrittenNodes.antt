@@ -23,7 +23,7 @@ use Rattle.hm_node_lines.proofs.Declared.{more_before, counted_below}
 use Rattle.hm_node_lines.proofs.WrittenCuts.{IsInner, an_edge, an_other, a_shape, inner_is, edge_in, other_in, shape_in}
 use Rattle.hm_node_lines.proofs.WrittenSound.{all_at, in_take, one_place, shape_count, shapes_behind, names_once, in_shape, IsBegun, IsInNode, begun, in_node, line_behind, contains_behind, file, around_it, earlier_it, earlier_line, writable, is_node, child_there, other_there}
 
-named_inside : (x : NodeLineValue) (w : Name) → named x ≡ Some w → is_inside x ≡ true
+pub named_inside : (x : NodeLineValue) (w : Name) → named x ≡ Some w → is_inside x ≡ true
 named_inside (node v) w is = let f : ⊥ = cc in absurd f
 named_inside (edge k v) w is = refl
 named_inside (other c v) w is = refl

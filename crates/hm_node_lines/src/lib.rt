@@ -17,7 +17,8 @@
 //! as an entry; one that is neither skipped nor of this grammar is unknown here, and the file has to know it. A file
 //! walks through its entries with the counts of what stands before (`Before`) and of what the node holds (`Section`),
 //! by which a line is judged in constant time for each of its tokens. Where none is bad, the entries describe nodes, in
-//! the order of their lines, and the node `Empty` behind them where a line of the file names it.
+//! the order of their lines, and the node `Empty` behind them where a line of the file names it. `append_nodes` writes
+//! nodes as such lines, which describe the same nodes.
 #![tactic(auto)]
 
 mod before;
