@@ -1,22 +1,16 @@
 -- The program of a lens file is well formed.
-use Rattle.std.proofs.Common.{◌≡◌, ◌⊎◌, inl, inr, ℕ, zero, suc, ◌+◌, ◌<◌, ◌≤◌, List, [], ◌∷◌, ◌++◌, length, get_or, map, take, drop, slice_get, filter_map, Option, Some, None, refl, sym, ap, ◌∙◌, subst, arith}
-use Rattle.std.specs.Prelude.{codes, All}
+use Rattle.std.proofs.Common.{◌≡◌, ℕ, zero, suc, ◌<◌, List, [], ◌∷◌, ◌++◌, length, get_or, map, take, slice_get, filter_map, Option, Some, None, refl, sym, ap, ◌∙◌, subst, arith}
 use Rattle.std.specs.List.{AllZip, Contains, cons_option}
-use Rattle.std.proofs.lemmas.Bool.{cases_lt}
-use Rattle.std.proofs.lemmas.List.{length_push}
 use Rattle.std.proofs.lemmas.List.Elements.{Contains-append_left, Contains-append_right}
 use Rattle.std.proofs.lemmas.Option.{slice_get_within, slice_get-get_or}
 use Rattle.hm_tree.specs.Names.{Name}
-use Rattle.hm_schema.specs.Values.{NodeValue}
-use Rattle.hm_schema.specs.WellFormed.{IsWellFormedNode}
 use Rattle.hm_terms.specs.Lenses.{Lens, DefinitionValue}
 use Rattle.hm_terms.specs.Programs.{ProgramValue}
 use Rattle.hm_terms.specs.WellFormedPrograms.{HasCall, HasOnce, IsLensOf, a_body, the_main, IsWellFormed}
 use Rattle.hm_node_lines.specs.Entries.{EntryValue, texts_of}
-use Rattle.hm_node_lines.specs.BadLines.{IsBadNodeLine, begins_node}
-use Rattle.hm_node_lines.specs.Firsts.{place_in, node_names}
+use Rattle.hm_node_lines.specs.BadLines.{IsBadNodeLine}
+use Rattle.hm_node_lines.specs.Firsts.{place_in}
 use Rattle.hm_node_lines.specs.FirstBad.{HasNoBad}
-use Rattle.hm_node_lines.specs.Nodes.{IsPlaceOf, declared, empty, NamesEmpty, AreNodesOf}
 use Rattle.hm_node_lines.proofs.Laws.{at_place, there, not_there, type_count, type_names_once, types_formed, own_in_range}
 use Rattle.hm_focal.specs.OwnLines.{term, LensValue, OwnValue, nothing, header, format, lens, main, body_in, lens_in, name_in, nodes_in, lens_names, named_nodes, IsBody}
 use Rattle.hm_focal.specs.Lines.{IsOwnBehind}

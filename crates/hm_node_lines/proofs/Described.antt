@@ -1,10 +1,9 @@
 -- The lines of written nodes describe these nodes.
-use Rattle.std.proofs.Common.{◌≡◌, ◌⊎◌, inl, inr, ℕ, zero, suc, ◌+◌, ◌<◌, ◌≤◌, true, false, List, [], ◌∷◌, ◌++◌, length, map, Option, Some, None, refl, sym, ap, subst, ◌∙◌, arith, slice_get, count_by, filter_map}
+use Rattle.std.proofs.Common.{◌≡◌, ◌⊎◌, inl, inr, ℕ, suc, ◌+◌, ◌≤◌, true, List, [], ◌∷◌, ◌++◌, length, map, Some, None, refl, sym, ap, subst, ◌∙◌, arith, slice_get, count_by, filter_map}
 use Rattle.std.specs.Prelude.{codes}
 use Rattle.std.specs.List.{Contains, cons_option}
 use Rattle.std.specs.FinMap.{find}
 use Rattle.std.proofs.lemmas.Bool.{true≢false}
-use Rattle.std.proofs.lemmas.Option.{same_Some, slice_get_within}
 use Rattle.hm_tree.specs.Names.{Name, name_cmp}
 use Rattle.hm_tree.specs.declared.class.Class.{Class}
 use Rattle.hm_schema.specs.declared.node.NodeId.{NodeId}
@@ -14,15 +13,17 @@ use Rattle.hm_node_lines.specs.Entries.{EntryValue, skipped, unknown, says}
 use Rattle.hm_node_lines.specs.BadLines.{Says, begins_node, nodes_before, behind}
 use Rattle.hm_node_lines.specs.Firsts.{begun_name, node_names}
 use Rattle.hm_node_lines.specs.Nodes.{IsPlaceOf, declared, empty, shapes_in, as_shape, IsNodeOf, AreNodesOf, NamesEmpty, AreTypeNames, named_by, empty_node}
-use Rattle.hm_node_lines.specs.WrittenNodes.{name_at, edge_line, other_lines, inner_lines, declared_names, lines_under, SaysNothing, IsWritableNode, IsWritable, AreOfNodes}
+use Rattle.hm_node_lines.specs.WrittenNodes.{name_at, inner_lines, declared_names, lines_under, SaysNothing, IsWritableNode, IsWritable, AreOfNodes}
 use Rattle.hm_node_lines.proofs.Made.{at_place, from_place, brings}
 use Rattle.hm_node_lines.proofs.Building.{found_from}
 use Rattle.hm_node_lines.proofs.Judging.{length_names}
 use Rattle.hm_node_lines.proofs.Declared.{empty_or, place_once}
 use Rattle.hm_node_lines.proofs.DeclaredNames.{declared_long, declared_short, declared_all, declared_at_most}
-use Rattle.hm_node_lines.proofs.WrittenCuts.{IsInner, an_edge, an_other, a_shape, inner_is, edge_in, other_in, all_inside, inner_rest, IsCut, cuts}
-use Rattle.hm_node_lines.proofs.WrittenSound.{find_in, shapes_behind, IsBegun, begun, behind_line, contains_behind, writable, empty_last, node_cut, child_there, other_there}
-use Rattle.hm_node_lines.proofs.WrittenNodes.{name_place, written_sound}
+use Rattle.hm_node_lines.proofs.WrittenCuts.{IsInner, an_edge, an_other, a_shape, inner_is, edge_in, other_in, all_inside, inner_rest, IsCut}
+use Rattle.hm_node_lines.proofs.SortedEntries.{find_in}
+use Rattle.hm_node_lines.proofs.WrittenLines.{begun, behind_line, contains_behind, writable, empty_last, node_cut, child_there, other_there}
+use Rattle.hm_node_lines.proofs.WrittenShapes.{shapes_behind}
+use Rattle.hm_node_lines.proofs.WrittenSound.{name_place, written_sound}
 
 -- ---- the names that lines declare
 

@@ -10,7 +10,7 @@ pub use Rattle.hm_node_lines.proofs.Declared.{more_before, counted_below, counte
 pub use Rattle.hm_node_lines.proofs.WellFormed.{nodes_formed, own_in_range}
 pub use Rattle.hm_node_lines.proofs.FirstBad.{told_once}
 pub use Rattle.hm_node_lines.proofs.TypeNames.{type_count, type_place, type_names_once, types_formed}
-pub use Rattle.hm_node_lines.proofs.WrittenNodes.{written_sound}
+pub use Rattle.hm_node_lines.proofs.WrittenSound.{written_sound}
 pub use Rattle.hm_node_lines.proofs.Described.{written_names, written_places, written_nodes, written_type_names}
 pub use Rattle.hm_node_lines.proofs.WrittenReads.{written_reads}
 pub use Rattle.hm_node_lines.proofs.Readable.{readable_nodes}

@@ -22,8 +22,11 @@ mod Written
 mod WrittenText
 mod WrittenCuts
 mod DeclaredNames
+mod Lists
+mod SortedEntries
+mod WrittenShapes
+mod WrittenLines
 mod WrittenSound
-mod WrittenNodes
 mod Described
 mod TypeNames
 mod Readable

@@ -1,13 +1,11 @@
 -- Nodes that were read can be written.
-use Rattle.std.proofs.Common.{◌≡◌, ◌≢◌, ◌⊎◌, inl, inr, ℕ, zero, suc, ◌+◌, ◌<◌, ◌≤◌, ◌^◌, true, false, List, [], ◌∷◌, ◌++◌, length, map, get_or, All, Option, Some, None, refl, sym, ap, subst, ◌∙◌, arith, slice_get, take, count_by}
+use Rattle.std.proofs.Common.{◌≡◌, ◌≢◌, ◌⊎◌, inl, inr, ℕ, suc, ◌+◌, ◌<◌, ◌≤◌, ◌^◌, true, List, [], ◌∷◌, length, get_or, All, Option, Some, None, refl, sym, ap, subst, ◌∙◌, arith, slice_get, count_by}
 use Rattle.std.specs.Prelude.{codes, IsUtf8}
-use Rattle.std.specs.List.{Contains}
 use Rattle.std.proofs.lemmas.List.{length-map, length_push}
 use Rattle.std.proofs.lemmas.List.Elements.{All-nil, All-cons, All-map}
 use Rattle.std.proofs.lemmas.Option.{same_Some, slice_get_within, slice_get-get_or}
-use Rattle.hm_tree.specs.Names.{Name, name_cmp}
+use Rattle.hm_tree.specs.Names.{Name}
 use Rattle.hm_schema.specs.declared.node.NodeId.{NodeId}
-use Rattle.hm_schema.specs.declared.node.Shape.{Shape}
 use Rattle.hm_schema.specs.Values.{NodeValue}
 use Rattle.hm_schema.specs.WellFormed.{IsWellFormedNode}
 use Rattle.hm_node_lines.specs.declared.token.Token.{Token}
@@ -15,7 +13,7 @@ use Rattle.hm_node_lines.specs.declared.token.Token.TheVariants.{Word, Quoted, Q
 use Rattle.hm_node_lines.specs.declared.count.Count.{Count}
 use Rattle.hm_node_lines.specs.Tokens.{IsToken, Spaced, alone, before}
 use Rattle.hm_node_lines.specs.Counts.{IsMost}
-use Rattle.hm_node_lines.specs.NodeLines.{NodeLineValue, ShapeValue, node, edge, other, shape, edge_name, IsTail, IsNodeLine}
+use Rattle.hm_node_lines.specs.NodeLines.{NodeLineValue, ShapeValue, node, edge, shape, edge_name, IsTail, IsNodeLine}
 use Rattle.hm_node_lines.specs.Entries.{EntryValue, says}
 use Rattle.hm_node_lines.specs.BadLines.{IsBadNodeLine, Says, begins_node, is_shape, nodes_before, behind, declares_empty, too_many_nodes, too_many_shapes}
 use Rattle.hm_node_lines.specs.FirstBad.{HasNoBad}
@@ -31,7 +29,8 @@ use Rattle.hm_node_lines.proofs.Judging.{length_names}
 use Rattle.hm_node_lines.proofs.Declared.{IsOneOf, of_line, last, one_of, counted, nat_cases, names_empty_or, no_twins}
 use Rattle.hm_node_lines.proofs.WellFormed.{all_shapes, nodes_formed}
 use Rattle.hm_node_lines.proofs.TypeNames.{type_count, type_place, type_names_once}
-use Rattle.hm_node_lines.proofs.WrittenSound.{find_in, shape_count}
+use Rattle.hm_node_lines.proofs.SortedEntries.{find_in}
+use Rattle.hm_node_lines.proofs.WrittenShapes.{shape_count}
 
 -- ---- what a line that was read holds
 

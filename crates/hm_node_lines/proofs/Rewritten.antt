@@ -1,10 +1,8 @@
 -- Nodes that were read and are written again: the file that they are written to describes the same nodes with the same names.
-use Rattle.std.proofs.Common.{◌≡◌, ◌⊎◌, inl, inr, ℕ, zero, suc, ◌+◌, ◌<◌, ◌≤◌, Bool, true, false, cond, List, [], ◌∷◌, ◌++◌, length, get_or, Option, Some, None, refl, sym, ap, subst, ◌∙◌, arith, slice_get, take, drop, count_by, filter_map}
+use Rattle.std.proofs.Common.{◌≡◌, ◌⊎◌, inl, inr, ℕ, zero, suc, ◌+◌, ◌<◌, Bool, true, false, cond, List, [], ◌∷◌, ◌++◌, get_or, Some, None, refl, sym, ap, subst, ◌∙◌, arith, slice_get, take, count_by, filter_map}
 use Rattle.std.specs.Prelude.{codes}
 use Rattle.std.specs.List.{Contains}
-use Rattle.std.proofs.lemmas.List.{length_push}
-use Rattle.std.proofs.lemmas.List.Elements.{Contains-append_right}
-use Rattle.std.proofs.lemmas.Option.{same_Some, slice_get_within, slice_get-get_or, get_or_from_slice_get}
+use Rattle.std.proofs.lemmas.Option.{same_Some, slice_get-get_or, get_or_from_slice_get}
 use Rattle.hm_tree.specs.Names.{Name}
 use Rattle.hm_tree.specs.declared.class.Class.{Class}
 use Rattle.hm_schema.specs.declared.node.NodeId.{NodeId}
@@ -14,8 +12,8 @@ use Rattle.hm_node_lines.specs.Entries.{EntryValue, skipped, unknown, says}
 use Rattle.hm_node_lines.specs.BadLines.{IsBadNodeLine, Says, named, begins_node, nodes_before, up_to_node, behind, in_no_node}
 use Rattle.hm_node_lines.specs.FirstBad.{HasNoBad}
 use Rattle.hm_node_lines.specs.Firsts.{node_names}
-use Rattle.hm_node_lines.specs.Nodes.{IsPlaceOf, empty, IsNodeOf, AreNodesOf, named_by, NamesEmpty, AreTypeNames}
-use Rattle.hm_node_lines.specs.WrittenNodes.{name_at, edge_line, inner_lines, IsWritable, AreOfNodes}
+use Rattle.hm_node_lines.specs.Nodes.{IsPlaceOf, empty, AreNodesOf, named_by, NamesEmpty, AreTypeNames}
+use Rattle.hm_node_lines.specs.WrittenNodes.{name_at, inner_lines, IsWritable, AreOfNodes}
 use Rattle.hm_node_lines.proofs.Made.{at_place, from_place, brought, brings}
 use Rattle.hm_node_lines.proofs.Sections.{in_file}
 use Rattle.hm_node_lines.proofs.Building.{found_from}
@@ -24,8 +22,8 @@ use Rattle.hm_node_lines.proofs.Declared.{count_cons, counted_below, node_line, 
 use Rattle.hm_node_lines.proofs.DeclaredNames.{at_declared}
 use Rattle.hm_node_lines.proofs.TypeNames.{get_middle}
 use Rattle.hm_node_lines.proofs.WrittenCuts.{edge_in, other_in, cuts}
-use Rattle.hm_node_lines.proofs.WrittenSound.{empty_last, line_behind}
-use Rattle.hm_node_lines.proofs.WrittenNodes.{named_inside}
+use Rattle.hm_node_lines.proofs.WrittenLines.{empty_last, line_behind}
+use Rattle.hm_node_lines.proofs.WrittenSound.{named_inside}
 use Rattle.hm_node_lines.proofs.Described.{written_nodes, written_type_names}
 use Rattle.hm_node_lines.proofs.Readable.{AreRead, readable_nodes, no_declared_empty}
 

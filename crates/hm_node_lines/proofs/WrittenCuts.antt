@@ -1,12 +1,9 @@
 -- Where the lines of written nodes stand among the lines of their file.
-use Rattle.std.proofs.Common.{◌≡◌, ◌⊎◌, inl, inr, ℕ, zero, suc, ◌+◌, ◌<◌, ◌≤◌, Bool, true, false, cond, List, [], ◌∷◌, ◌++◌, length, map, Option, Some, None, refl, sym, ap, subst, ◌∙◌, append_assoc, arith, slice_get, take, drop, count_by}
-use Rattle.std.specs.Prelude.{codes}
+use Rattle.std.proofs.Common.{◌≡◌, inl, inr, ℕ, zero, suc, ◌+◌, Bool, true, false, cond, List, [], ◌∷◌, ◌++◌, length, map, Option, Some, None, refl, sym, ap, subst, ◌∙◌, append_assoc, arith, slice_get, take, drop, count_by}
 use Rattle.std.specs.List.{Contains}
-use Rattle.std.specs.Str.{bytes_eq}
 use Rattle.std.proofs.lemmas.Bool.{true≢false}
 use Rattle.std.proofs.lemmas.List.{map-append}
 use Rattle.std.proofs.lemmas.Option.{same_Some}
-use lib.Pointwise.{bytes_decides}
 use Rattle.hm_tree.specs.Names.{Name}
 use Rattle.hm_tree.specs.declared.class.Class.{Class}
 use Rattle.hm_schema.specs.declared.node.NodeId.{NodeId}
@@ -18,54 +15,7 @@ use Rattle.hm_node_lines.specs.BadLines.{Says, begins_node, nodes_before, behind
 use Rattle.hm_node_lines.specs.WrittenNodes.{name_at, edge_line, other_lines, shape_line, inner_lines, node_lines, declared_names, lines_under, SaysNothing, AreOfNodes}
 use Rattle.hm_node_lines.proofs.Made.{from_place}
 use Rattle.hm_node_lines.proofs.Declared.{count_cons}
-
--- ---- two lists
-
-nil_plus : (n : ℕ) → 0 + n ≡ n
-nil_plus n = omega arith
-
-suc_plus : (m n : ℕ) → suc m + n ≡ suc (m + n)
-suc_plus m n = omega arith
-
-module _ {X : Type 0} where
-  drop_past : (xs ys : List X) (i : ℕ) → drop (length xs + i) (xs ++ ys) ≡ drop i ys
-  drop_past [] ys i = ap (λ z. drop z ys) (nil_plus i)
-  drop_past (x ∷ xs) ys i = ap (λ z. drop z (x ∷ (xs ++ ys))) (suc_plus (length xs) i) ∙ drop_past xs ys i
-
-  take_past : (xs ys : List X) (i : ℕ) → take (length xs + i) (xs ++ ys) ≡ xs ++ take i ys
-  take_past [] ys i = ap (λ z. take z ys) (nil_plus i)
-  take_past (x ∷ xs) ys i = ap (λ z. take z (x ∷ (xs ++ ys))) (suc_plus (length xs) i) ∙ ap (λ z. x ∷ z) (take_past xs ys i)
-
-  pub get_past : (xs ys : List X) (i : ℕ) → slice_get (xs ++ ys) (length xs + i) ≡ slice_get ys i
-  get_past [] ys i = ap (slice_get ys) (nil_plus i)
-  get_past (x ∷ xs) ys i = ap (slice_get (x ∷ (xs ++ ys))) (suc_plus (length xs) i) ∙ get_past xs ys i
-
-  pub get_front : (xs ys : List X) (i : ℕ) (x : X) → slice_get xs i ≡ Some x → slice_get (xs ++ ys) i ≡ Some x
-  get_front [] ys i x is = let f : ⊥ = cc in absurd f
-  get_front (y ∷ xs) ys zero x is = is
-  get_front (y ∷ xs) ys (suc i) x is = get_front xs ys i x is
-
-  abbrev pub IsInEither : List X → List X → ℕ → X → Type 0
-  IsInEither xs ys i x = (slice_get xs i ≡ Some x) ⊎ ((j : ℕ) × (i ≡ length xs + j) × (slice_get ys j ≡ Some x))
-
-  pub in_either : (xs ys : List X) (i : ℕ) (x : X) → slice_get (xs ++ ys) i ≡ Some x → IsInEither xs ys i x
-  in_either [] ys i x is = inr (i, sym (nil_plus i), is)
-  in_either (y ∷ xs) ys zero x is = inl is
-  in_either (y ∷ xs) ys (suc i) x is = further (in_either xs ys i x is)
-    where
-      further : IsInEither xs ys i x → IsInEither (y ∷ xs) ys (suc i) x
-      further (inl here) = inl here
-      further (inr b) = inr (b.0, ap suc b.1 ∙ sym (suc_plus (length xs) b.0), b.2)
-
-pub mapped : {X Y : Type 0} (f : X → Y) (xs : List X) (m : ℕ) (y : Y) → slice_get (map f xs) m ≡ Some y → (x : X) × (slice_get xs m ≡ Some x) × (f x ≡ y)
-mapped f [] m y is = let g : ⊥ = cc in absurd g
-mapped f (x ∷ xs) zero y is = (x, refl, same_Some (f x) y is)
-mapped f (x ∷ xs) (suc m) y is = mapped f xs m y is
-
-pub map_at : {X Y : Type 0} (f : X → Y) (xs : List X) (m : ℕ) (x : X) → slice_get xs m ≡ Some x → slice_get (map f xs) m ≡ Some (f x)
-map_at f [] m x is = let g : ⊥ = cc in absurd g
-map_at f (y ∷ xs) zero x is = ap (λ z. Some (f z)) (same_Some y x is)
-map_at f (y ∷ xs) (suc m) x is = map_at f xs m x is
+use Rattle.hm_node_lines.proofs.Lists.{nil_plus, suc_plus, take_past, get_past, get_front, IsInEither, in_either, mapped, map_at}
 
 pub unsaid : (xs : List NodeLineValue) (m : ℕ) (x : NodeLineValue) → slice_get (map says xs) m ≡ Some (says x) → slice_get xs m ≡ Some x
 unsaid xs m x is =

@@ -1,6 +1,6 @@
 -- Each line of written nodes is read as it says.
-use Rattle.std.proofs.Common.{◌≡◌, ◌||◌, ℕ, suc, ◌<◌, true, false, IsTrue, is_some, List, [], ◌∷◌, ◌++◌, length, map, Option, Some, None, refl, sym, ap, subst, ◌∙◌, arith, slice_get}
-use Rattle.std.specs.Prelude.{codes, IsUtf8}
+use Rattle.std.proofs.Common.{◌≡◌, ℕ, suc, IsTrue, is_some, List, [], ◌∷◌, ◌++◌, length, map, Option, Some, None, refl, sym, subst, arith}
+use Rattle.std.specs.Prelude.{IsUtf8}
 use Rattle.std.specs.List.{Contains}
 use Rattle.std.specs.FinMap.{find}
 use Rattle.std.proofs.lemmas.List.Elements.{Contains-append_left, Contains-append_right}
@@ -14,16 +14,19 @@ use Rattle.hm_schema.specs.Values.{NodeValue}
 use Rattle.hm_schema.specs.WellFormed.{IsWellFormedShape}
 use Rattle.hm_node_lines.specs.declared.token.Token.TheVariants.{Word}
 use Rattle.hm_node_lines.specs.Tokens.{IsToken}
-use Rattle.hm_node_lines.specs.NodeLines.{NodeLineValue, node, edge, other, shape, is_inside, IsNodeLine}
+use Rattle.hm_node_lines.specs.NodeLines.{NodeLineValue, node, edge, other, shape, IsNodeLine}
 use Rattle.hm_node_lines.specs.Entries.{EntryValue, says}
 use Rattle.hm_node_lines.specs.BadLines.{Says}
 use Rattle.hm_node_lines.specs.Writing.{line_text}
-use Rattle.hm_node_lines.specs.WrittenNodes.{name_at, edge_line, shape_line, nodes_lines, IsWritableShape, IsWritableNode, IsWritable, AreOfNodes}
+use Rattle.hm_node_lines.specs.WrittenNodes.{name_at, shape_line, nodes_lines, IsWritableShape, IsWritableNode, IsWritable, AreOfNodes}
 use Rattle.hm_node_lines.proofs.Made.{at_place}
 use Rattle.hm_node_lines.proofs.Building.{found_from}
-use Rattle.hm_node_lines.proofs.Written.{Fits64, AreTexts, IsSound, line_reads}
-use Rattle.hm_node_lines.proofs.WrittenCuts.{map_at, IsInner, an_edge, an_other, a_shape, inner_is}
-use Rattle.hm_node_lines.proofs.WrittenSound.{all_at, in_shape, IsBegun, IsInNode, begun, in_node, writable, child_there, other_there}
+use Rattle.hm_node_lines.proofs.Written.{AreTexts, IsSound, line_reads}
+use Rattle.hm_node_lines.proofs.Lists.{map_at}
+use Rattle.hm_node_lines.proofs.WrittenCuts.{IsInner, an_edge, an_other, a_shape, inner_is}
+use Rattle.hm_node_lines.proofs.Lists.{all_at}
+use Rattle.hm_node_lines.proofs.WrittenLines.{IsInNode, begun, in_node, writable, child_there, other_there}
+use Rattle.hm_node_lines.proofs.WrittenShapes.{in_shape}
 
 all_texts : (ks : List Name) → ((k : Name) → Contains ks k → IsUtf8 k) → AreTexts ks
 all_texts [] h = tt

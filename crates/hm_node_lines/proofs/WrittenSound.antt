@@ -1,328 +1,234 @@
 -- No line of written nodes is bad.
-use Rattle.std.proofs.Common.{◌≡◌, ◌⊎◌, inl, inr, ℕ, zero, suc, ◌+◌, ◌<◌, ◌≤◌, Bool, true, false, cond, ◌||◌, T, IsTrue, is_some, List, [], ◌∷◌, ◌++◌, length, map, get_or, Option, Some, None, IfSome, All, refl, sym, ap, subst, ◌∙◌, append_assoc, arith, slice_get, take, drop, count_by}
+use Rattle.std.proofs.Common.{◌≡◌, ℕ, ◌<◌, ◌≤◌, true, false, IsTrue, is_some, List, [], ◌∷◌, ◌++◌, length, map, Option, Some, None, IfSome, refl, sym, ap, subst, ◌∙◌, arith, slice_get, take, count_by}
 use Rattle.std.specs.Prelude.{codes}
-use Rattle.std.specs.List.{Contains, cons_option, list_any}
-use Rattle.std.specs.Ordering.{is_lt, is_eq}
-use Rattle.std.specs.FinMap.{is_sorted, find}
-use Rattle.std.specs.FinMap.Entries.{is_some-find}
-use Rattle.std.specs.FinSet.{FinSet, from_list, contains}
-use Rattle.std.proofs.lemmas.Bool.{true≢false, or_left, or_right}
-use Rattle.std.proofs.lemmas.Cmp.{tied_itself}
-use Rattle.std.proofs.lemmas.List.{map-append, length-map}
-use Rattle.std.proofs.lemmas.Map.Keys.{any_passes_from_place}
-use Rattle.std.proofs.lemmas.Option.{same_Some, slice_get_within, slice_get-get_or, get_or_from_slice_get}
+use Rattle.std.specs.List.{Contains}
+use Rattle.std.specs.FinMap.{find}
+use Rattle.std.proofs.lemmas.List.{length-map}
 use Rattle.hm_tree.specs.Names.{Name, name_cmp}
-use Rattle.hm_tree.specs.Nodes.{first, second, below_all}
 use Rattle.hm_tree.specs.Sets.{ascending}
 use Rattle.hm_tree.specs.declared.class.Class.{Class}
-use Rattle.hm_tree.proofs.Sorted.{name_total}
-use Rattle.hm_tree.proofs.NameSets.{tied}
-use Rattle.hm_tree.proofs.Ascending.{beside, ascending_rises, contains-ascending, set_of-ascending}
 use Rattle.hm_schema.specs.declared.node.NodeId.{NodeId}
 use Rattle.hm_schema.specs.declared.node.Shape.{Shape}
-use Rattle.hm_schema.specs.Values.{NodeValue, is_listed}
+use Rattle.hm_schema.specs.Values.{NodeValue}
 use Rattle.hm_schema.specs.WellFormed.{IsWellFormedShape}
 use Rattle.hm_node_lines.specs.NodeLines.{NodeLineValue, ShapeValue, node, edge, other, shape, is_inside}
-use Rattle.hm_node_lines.specs.Entries.{EntryValue, skipped, unknown, says}
-use Rattle.hm_node_lines.specs.BadLines.{IsBadNodeLine, Says, Declares, Lists, SpeaksOfOthers, HasShape, IsNode, IsNoneCounted, HasDouble, named, names_of_shape, begins_node, is_shape, nodes_before, behind, earlier, around, in_no_node, declared_twice, declares_empty, names_no_node, listed_twice, others_twice, unlisted_name, name_twice, least_above_most, no_others_to_count, no_shape, too_many_nodes, too_many_shapes}
-use Rattle.hm_node_lines.specs.Nodes.{IsPlaceOf, declared, shapes_in, as_shape}
+use Rattle.hm_node_lines.specs.Entries.{EntryValue, says}
+use Rattle.hm_node_lines.specs.BadLines.{IsBadNodeLine, Says, Lists, SpeaksOfOthers, IsNoneCounted, HasDouble, named, names_of_shape, begins_node, is_shape, nodes_before, behind, earlier, around, in_no_node, declared_twice, declares_empty, names_no_node, listed_twice, others_twice, unlisted_name, name_twice, least_above_most, no_others_to_count, no_shape, too_many_nodes, too_many_shapes}
 use Rattle.hm_node_lines.specs.FirstBad.{HasNoBad}
-use Rattle.hm_node_lines.specs.WrittenNodes.{name_at, edge_line, other_lines, shape_line, inner_lines, node_lines, declared_names, SaysNothing, IsWritableNode, IsWritable, AreOfNodes}
-use Rattle.hm_node_lines.proofs.Made.{At, at_place, from_place}
-use Rattle.hm_node_lines.proofs.Sections.{IsInFile, in_file}
+use Rattle.hm_node_lines.specs.WrittenNodes.{name_at, shape_line, inner_lines, IsWritableNode, IsWritable, AreOfNodes}
+use Rattle.hm_node_lines.proofs.Made.{at_place}
 use Rattle.hm_node_lines.proofs.Building.{found_from}
-use mathlib.Core.List.{append-nil}
-use Rattle.hm_node_lines.proofs.Declared.{count_cons, more_before, counted_below, empty_or}
-use Rattle.hm_node_lines.proofs.DeclaredNames.{EmptyIsLast, declared_at, at_declared}
-use Rattle.hm_node_lines.proofs.WrittenCuts.{IsInEither, in_either, get_front, map_at, unsaid, IsInner, an_edge, an_other, a_shape, inner_is, edge_in, other_in, shape_in, all_inside, IsCut, IsSaidIn, cuts, said}
+use Rattle.hm_node_lines.proofs.Declared.{more_before, counted_below}
+use Rattle.hm_node_lines.proofs.WrittenCuts.{IsInner, an_edge, an_other, a_shape, inner_is, edge_in, other_in, shape_in}
+use Rattle.hm_node_lines.proofs.Lists.{all_at, in_take}
+use Rattle.hm_node_lines.proofs.SortedEntries.{one_place}
+use Rattle.hm_node_lines.proofs.WrittenLines.{IsBegun, IsInNode, begun, in_node, line_behind, contains_behind, around_it, earlier_it, earlier_line, writable, is_node, child_there, other_there}
+use Rattle.hm_node_lines.proofs.WrittenShapes.{shape_count, shapes_behind, names_once, in_shape}
 
--- ---- elements of lists
+pub named_inside : (x : NodeLineValue) (w : Name) → named x ≡ Some w → is_inside x ≡ true
+named_inside (node v) w is = let f : ⊥ = cc in absurd f
+named_inside (edge k v) w is = refl
+named_inside (other c v) w is = refl
+named_inside (shape s) w is = let f : ⊥ = cc in absurd f
 
-pub all_at : {X : Type 0} (P : X → Type 0) (xs : List X) → All P xs → (k : ℕ) (x : X) → slice_get xs k ≡ Some x → P x
-all_at P xs all k x is = subst P (get_or_from_slice_get xs k x x is) (all k x (slice_get_within xs k x is))
+edge_key : (k v l w : Name) → edge k v ≡ edge l w → k ≡ l
+edge_key k v l w e = cc
 
-pub in_take : {X : Type 0} (xs : List X) (i m : ℕ) (x : X) → slice_get (take i xs) m ≡ Some x → (m < i) × (slice_get xs m ≡ Some x)
-in_take [] zero m x is = let f : ⊥ = cc in absurd f
-in_take [] (suc i) m x is = let f : ⊥ = cc in absurd f
-in_take (y ∷ xs) zero m x is = let f : ⊥ = cc in absurd f
-in_take (y ∷ xs) (suc i) zero x is = (omega arith, is)
-in_take (y ∷ xs) (suc i) (suc m) x is = let r = in_take xs i m x is in (omega (arith, r.0), r.1)
-
--- ---- sorted entries
-
-module _ {X : Type 0} where
-  below_at : (x : Name) (es : List (Name × X)) → T (below_all x es) → (j : ℕ) (e : Name × X) → slice_get es j ≡ Some e → T (is_lt (name_cmp x e.0))
-  below_at x [] h j e is = let f : ⊥ = cc in absurd f
-  below_at x (d ∷ es) h zero e is = subst (λ (z : Name × X). T (is_lt (name_cmp x z.0))) (same_Some d e is) (first _ _ h)
-  below_at x (d ∷ es) h (suc j) e is = below_at x es (second _ _ h) j e is
-
-  pub apart : (es : List (Name × X)) → T (is_sorted name_cmp es) → (i j : ℕ) (d e : Name × X) → i < j → slice_get es i ≡ Some d → slice_get es j ≡ Some e
-      → ¬ (d.0 ≡ e.0)
-  apart [] h i j d e below at_i at_j same = let f : ⊥ = cc in f
-  apart (c ∷ es) h zero zero d e below at_i at_j same = absurd (omega (arith, below))
-  apart (c ∷ es) h (suc i) zero d e below at_i at_j same = absurd (omega (arith, below))
-  apart (c ∷ es) h zero (suc j) d e below at_i at_j same =
-      let lt = below_at c.0 es (first _ _ h) j e at_j in
-      let key : c.0 ≡ e.0 = ap (λ (z : Name × X). z.0) (same_Some c d at_i) ∙ same in
-      let lt_self = subst (λ (z : Name). T (is_lt (name_cmp z e.0))) key lt in
-      subst (λ o. T (is_lt o)) (tied_itself name_total e.0) lt_self
-  apart (c ∷ es) h (suc i) (suc j) d e below at_i at_j same = apart es (second _ _ h) i j d e (omega (arith, below)) at_i at_j same
-
-  pub one_place : (es : List (Name × X)) → T (is_sorted name_cmp es) → (i j : ℕ) (d e : Name × X) → slice_get es i ≡ Some d → slice_get es j ≡ Some e
-      → d.0 ≡ e.0 → i ≡ j
-  one_place es h i j d e at_i at_j same =
-      omega (arith, λ (lt : i < j). apart es h i j d e lt at_i at_j same, λ (lt : j < i). apart es h j i e d lt at_j at_i (sym same))
-
-  pub find_in : (es : List (Name × X)) → T (is_sorted name_cmp es) → (m : ℕ) (k : Name) (v : X) → slice_get es m ≡ Some (k, v)
-      → find name_cmp k es ≡ Some v
-  find_in es h m k v is = go (find name_cmp k es) refl
-    where
-      go : (o : Option X) → find name_cmp k es ≡ o → find name_cmp k es ≡ Some v
-      go None none =
-          let any : list_any (tied k) (map (λ (e : Name × X). e.0) es) ≡ true =
-          any_passes_from_place (tied k) (map (λ (e : Name × X). e.0) es) m k (map_at (λ (e : Name × X). e.0) es m (k, v) is)
-          (ap is_eq (tied_itself name_total k)) in
-          absurd (true≢false (sym any ∙ sym (is_some-find name_cmp k es) ∙ ap is_some none))
-      go (Some u) at =
-          let f = found_from k u es at in
-          let d : Name × X = (k, u) in
-          let e : Name × X = (k, v) in
-          let place : f.0 ≡ m = one_place es h f.0 m d e f.1 is refl in
-          let same : d ≡ e = same_Some d e (sym f.1 ∙ ap (slice_get es) place ∙ is) in
-          at ∙ ap (λ (z : Name × X). Some z.1) same
-
--- ---- names of shapes
-
-rise_once : (s : FinSet name_cmp) (i j : ℕ) (k : Name) → slice_get (ascending s) i ≡ Some k → slice_get (ascending s) j ≡ Some k → ¬ (i < j)
-rise_once s i j k at_i at_j below =
-    apart (beside (ascending s)) (ascending_rises s) i j (k, tt) (k, tt) below
-    (map_at (λ k. (k, tt)) (ascending s) i k at_i) (map_at (λ k. (k, tt)) (ascending s) j k at_j) refl
-
-pub names_once : (n : NodeValue) (t : Shape) → IsWellFormedShape n t → ¬ (HasDouble (ascending t.required ++ ascending t.optional))
-names_once n t f d = go (in_either (ascending t.required) (ascending t.optional) d.0 d.2 d.4) (in_either (ascending t.required) (ascending t.optional) d.1 d.2 d.5)
-  where
-    go : IsInEither (ascending t.required) (ascending t.optional) d.0 d.2 → IsInEither (ascending t.required) (ascending t.optional) d.1 d.2 → ⊥
-    go (inl a) (inl b) = rise_once t.required d.0 d.1 d.2 a b d.3
-    go (inl a) (inr b) =
-        true≢false (sym (contains-ascending t.optional b.0 d.2 b.2) ∙ f.apart d.2 (contains-ascending t.required d.0 d.2 a))
-    go (inr a) (inl b) =
-        let within = slice_get_within (ascending t.required) d.1 d.2 b in
-        absurd (omega (arith, a.1, d.3))
-    go (inr a) (inr b) = rise_once t.optional a.0 b.0 d.2 a.2 b.2 (omega (arith, a.1, b.1, d.3))
-
-pub in_shape : (t : Shape) (k : Name) → Contains (ascending t.required ++ ascending t.optional) k → IsTrue (contains t.required k || contains t.optional k)
-in_shape t k c =
-    let a = at_place (ascending t.required ++ ascending t.optional) k c in
-    go a.0 (in_either (ascending t.required) (ascending t.optional) a.0 k a.1)
-  where
-    go : (m : ℕ) → IsInEither (ascending t.required) (ascending t.optional) m k → IsTrue (contains t.required k || contains t.optional k)
-    go m (inl at) = or_left (contains t.required k) (contains t.optional k) (contains-ascending t.required m k at)
-    go m (inr b) = or_right (contains t.required k) (contains t.optional k) (contains-ascending t.optional b.0 k b.2)
-
--- ---- the shapes that lines say
-
-shapes_both : (xs ys : List EntryValue) → shapes_in (xs ++ ys) ≡ shapes_in xs ++ shapes_in ys
-shapes_both [] ys = refl
-shapes_both (says (shape s) ∷ xs) ys = ap (λ z. s ∷ z) (shapes_both xs ys)
-shapes_both (says (node w) ∷ xs) ys = shapes_both xs ys
-shapes_both (says (edge k w) ∷ xs) ys = shapes_both xs ys
-shapes_both (says (other c w) ∷ xs) ys = shapes_both xs ys
-shapes_both (skipped ∷ xs) ys = shapes_both xs ys
-shapes_both (unknown ∷ xs) ys = shapes_both xs ys
-
-pub shape_count : (xs : List EntryValue) → count_by is_shape xs ≡ length (shapes_in xs)
-shape_count [] = refl
-shape_count (says (shape s) ∷ xs) = let c = count_cons is_shape (says (shape s)) xs true refl in let r = shape_count xs in omega arith
-shape_count (says (node w) ∷ xs) = let c = count_cons is_shape (says (node w)) xs false refl in let r = shape_count xs in omega arith
-shape_count (says (edge k w) ∷ xs) = let c = count_cons is_shape (says (edge k w)) xs false refl in let r = shape_count xs in omega arith
-shape_count (says (other d w) ∷ xs) = let c = count_cons is_shape (says (other d w)) xs false refl in let r = shape_count xs in omega arith
-shape_count (skipped ∷ xs) = let c = count_cons is_shape skipped xs false refl in let r = shape_count xs in omega arith
-shape_count (unknown ∷ xs) = let c = count_cons is_shape unknown xs false refl in let r = shape_count xs in omega arith
-
-no_shapes : (es : List EntryValue) → SaysNothing es → shapes_in es ≡ []
-no_shapes [] h = refl
-no_shapes (skipped ∷ es) h = no_shapes es (λ x c. h x (suc c.0, omega (arith, c.1), c.2))
-no_shapes (unknown ∷ es) h = no_shapes es (λ x c. h x (suc c.0, omega (arith, c.1), c.2))
-no_shapes (says x ∷ es) h = absurd (h x (0, omega arith, refl))
-
-shape_back : (t : Shape) → record { required = from_list (ascending t.required); optional = from_list (ascending t.optional); least = t.least; most = t.most } ≡ t
-shape_back t =
-    ap (λ z. record { required = z; optional = from_list (ascending t.optional); least = t.least; most = t.most }) (set_of-ascending t.required)
-    ∙ ap (λ z. record { required = t.required; optional = z; least = t.least; most = t.most }) (set_of-ascending t.optional)
-
-module _ (names : List Name) where
-  edge_shapes : (cs : List (Name × NodeId)) → shapes_in (map says (map (edge_line names) cs)) ≡ []
-  edge_shapes [] = refl
-  edge_shapes (c ∷ cs) = edge_shapes cs
-
-  other_shapes : (o : Option (Class × NodeId)) → shapes_in (map says (other_lines names o)) ≡ []
-  other_shapes None = refl
-  other_shapes (Some o) = refl
-
-  all_shapes : (ss : List Shape) → map as_shape (shapes_in (map says (map shape_line ss))) ≡ ss
-  all_shapes [] = refl
-  all_shapes (s ∷ ss) = λ i. shape_back s i ∷ all_shapes ss i
-
-  inner_shapes : (n : NodeValue) → map as_shape (shapes_in (map says (inner_lines names n))) ≡ n.shapes
-  inner_shapes n =
-      ap (λ z. map as_shape (shapes_in z)) (map-append says (map (edge_line names) n.children) (other_lines names n.other ++ map shape_line n.shapes))
-      ∙ ap (map as_shape) (shapes_both (map says (map (edge_line names) n.children)) (map says (other_lines names n.other ++ map shape_line n.shapes)))
-      ∙ ap (λ z. map as_shape (z ++ shapes_in (map says (other_lines names n.other ++ map shape_line n.shapes)))) (edge_shapes n.children)
-      ∙ ap (λ z. map as_shape (shapes_in z)) (map-append says (other_lines names n.other) (map shape_line n.shapes))
-      ∙ ap (map as_shape) (shapes_both (map says (other_lines names n.other)) (map says (map shape_line n.shapes)))
-      ∙ ap (λ z. map as_shape (z ++ shapes_in (map says (map shape_line n.shapes)))) (other_shapes n.other)
-      ∙ all_shapes n.shapes
-
-  pub shapes_behind : (n : NodeValue) (tail : List EntryValue) → SaysNothing tail
-      → map as_shape (shapes_in (map says (inner_lines names n) ++ tail)) ≡ n.shapes
-  shapes_behind n tail nothing =
-      ap (map as_shape) (shapes_both (map says (inner_lines names n)) tail)
-      ∙ ap (λ z. map as_shape (shapes_in (map says (inner_lines names n)) ++ z)) (no_shapes tail nothing)
-      ∙ ap (map as_shape) (append-nil (shapes_in (map says (inner_lines names n))))
-      ∙ inner_shapes n
-
--- ---- a line and its node
+shape_parts : (s t : ShapeValue) → shape s ≡ shape t → s ≡ t
+shape_parts s t e = cc
 
 module _ (names : List Name) (nodes : List NodeValue) (h : IsWritable names nodes) (es : List EntryValue) (a : AreOfNodes names nodes es) where
-  pub record IsBegun (i : ℕ) (w : Name) : Type 0 where
-    pub order : ℕ
-    pub value : NodeValue
-    pub named : slice_get names order ≡ Some w
-    pub differs : ¬ (w ≡ codes "Empty")
-    pub is : slice_get nodes order ≡ Some value
-    pub cut : IsCut names es i w value order
+  inner_of : (i : ℕ) (x : NodeLineValue) (s : IsInNode names nodes h es a i x) → IsInner names s.value s.inner x
+  inner_of i x s = inner_is names s.value s.inner x s.line
 
-  pub record IsInNode (i : ℕ) (x : NodeLineValue) : Type 0 where
-    pub order : ℕ
-    pub name : Name
-    pub value : NodeValue
-    pub start : ℕ
-    pub inner : ℕ
-    pub is : slice_get nodes order ≡ Some value
-    pub cut : IsCut names es start name value order
-    pub place : i ≡ suc start + inner
-    pub line : slice_get (inner_lines names value) inner ≡ Some x
+  in_some_node : (i : ℕ) (x : NodeLineValue) → IsInNode names nodes h es a i x → ¬ (nodes_before es i ≡ 0)
+  in_some_node i x s none =
+      let less = more_before begins_node es s.start i (says (node s.name)) s.cut.at refl (omega (arith, s.place)) in
+      omega (arith, less, none)
 
-  abbrev SaidIn : ℕ → NodeLineValue → Type 0
-  SaidIn i x = IsSaidIn names a.back a.behind (declared_names names) nodes es i x
+  once : (i j : ℕ) (w : Name) → Says es i (node w) → Says es j (node w) → ¬ (i < j)
+  once i j w at_i at_j below =
+      let b = begun names nodes h es a i w at_i in
+      let c = begun names nodes h es a j w at_j in
+      let same = h.once b.order c.order w b.named c.named in
+      let less = more_before begins_node es i j (says (node w)) at_i refl below in
+      omega (arith, less, same, b.cut.before, c.cut.before)
 
-  pub begun : (i : ℕ) (w : Name) → Says es i (node w) → IsBegun i w
-  begun i w is = by (said names nodes es a i (node w) is)
+  -- a name that a line names is one of the names
+  pub name_place : (i : ℕ) (x : NodeLineValue) (w : Name) → Says es i x → named x ≡ Some w → (p : ℕ) × (slice_get names p ≡ Some w)
+  name_place i x w is name = by (in_node names nodes h es a i x is (named_inside x w name))
     where
-      by : SaidIn i (node w) → IsBegun i w
-      by s = go s.inner s.place s.line
+      by : IsInNode names nodes h es a i x → (p : ℕ) × (slice_get names p ≡ Some w)
+      by s = go (inner_of i x s)
         where
-          name_is : node s.name ≡ node w → s.name ≡ w
-          name_is e = cc
+          f : IsWritableNode (length nodes) s.value
+          f = writable names nodes h es a s.order s.value s.is
 
-          go : (m : ℕ) → i ≡ s.start + m → slice_get (node_lines names s.name s.value) m ≡ Some (node w) → IsBegun i w
-          go zero place line =
-              let same : s.name ≡ w = name_is (same_Some (node s.name) (node w) line) in
-              let at : s.start ≡ i = omega (arith, place) in
-              let d = declared_at names s.order w (s.named ∙ ap Some same) in record {
-                order = s.order;
-                value = s.value;
-                named = d.0;
-                differs = d.1;
-                is = s.is;
-                cut = subst (λ (z : ℕ × Name). IsCut names es z.0 z.1 s.value s.order) (λ j. (at j, same j)) s.cut;
-              }
-          go (suc m) place line = absurd (true≢false (sym (all_inside names s.value m (node w) line)))
+          go : IsInner names s.value s.inner x → (p : ℕ) × (slice_get names p ≡ Some w)
+          go (an_edge child at same) =
+              (child.1.place, child_there names nodes h es a s.value f s.inner child at ∙ ap named same ∙ name)
+          go (an_other o at place same) = (o.1.place, other_there names nodes h es a s.value f o at ∙ ap named same ∙ name)
+          go (a_shape t q at same) = let no : None ≡ Some w = ap named same ∙ name in let g : ⊥ = cc in absurd g
 
-  pub in_node : (i : ℕ) (x : NodeLineValue) → Says es i x → is_inside x ≡ true → IsInNode i x
-  in_node i x is inside = by (said names nodes es a i x is)
+  edge_once : (i : ℕ) (k w v : Name) → IsInNode names nodes h es a i (edge k w) → ¬ (Contains (earlier es i) (says (edge k v)))
+  edge_once i k w v s c =
+      let e = earlier_line names nodes h es a i (edge k w) (edge k v) s c in
+      go e.0 e.1 (inner_is names s.value e.0 (edge k v) e.2) (inner_of i (edge k w) s)
     where
-      by : SaidIn i x → IsInNode i x
-      by s = go s.inner s.place s.line
+      f : IsWritableNode (length nodes) s.value
+      f = writable names nodes h es a s.order s.value s.is
+
+      go : (m : ℕ) → m < s.inner → IsInner names s.value m (edge k v) → IsInner names s.value s.inner (edge k w) → ⊥
+      go m below (an_edge one at same) (an_edge two there also) =
+          let place = one_place s.value.children f.formed.ascending m s.inner one two at there
+          (edge_key one.0 (name_at names one.1) k v same ∙ sym (edge_key two.0 (name_at names two.1) k w also)) in
+          omega (arith, below, place)
+      go m below (an_edge one at same) (an_other o there place also) = let g : ⊥ = cc in g
+      go m below (an_edge one at same) (a_shape t q there also) = let g : ⊥ = cc in g
+      go m below (an_other o at place same) second = let g : ⊥ = cc in g
+      go m below (a_shape t q at same) second = let g : ⊥ = cc in g
+
+  other_once : (i : ℕ) (c : Class) (w : Name) (d : Class) (v : Name) → IsInNode names nodes h es a i (other c w)
+      → ¬ (Contains (earlier es i) (says (other d v)))
+  other_once i c w d v s there =
+      let e = earlier_line names nodes h es a i (other c w) (other d v) s there in
+      go e.0 e.1 (inner_is names s.value e.0 (other d v) e.2) (inner_of i (other c w) s)
+    where
+      go : (m : ℕ) → m < s.inner → IsInner names s.value m (other d v) → IsInner names s.value s.inner (other c w) → ⊥
+      go m below (an_other o at place same) (an_other p is also_place also) = omega (arith, below, place, also_place)
+      go m below (an_other o at place same) (an_edge child is also) = let g : ⊥ = cc in g
+      go m below (an_other o at place same) (a_shape t q is also) = let g : ⊥ = cc in g
+      go m below (an_edge child at same) second = let g : ⊥ = cc in g
+      go m below (a_shape t q at same) second = let g : ⊥ = cc in g
+
+  -- ---- shapes
+
+  record IsShapeOf (i : ℕ) (s : ShapeValue) : Type 0 where
+    line : IsInNode names nodes h es a i (shape s)
+    of : Shape
+    is : shape_line of ≡ shape s
+    formed : IsWellFormedShape line.value of
+
+  shape_of : (i : ℕ) (s : ShapeValue) → Says es i (shape s) → IsShapeOf i s
+  shape_of i s is = by (in_node names nodes h es a i (shape s) is refl)
+    where
+      by : IsInNode names nodes h es a i (shape s) → IsShapeOf i s
+      by l = go (inner_of i (shape s) l)
         where
-          go : (m : ℕ) → i ≡ s.start + m → slice_get (node_lines names s.name s.value) m ≡ Some x → IsInNode i x
-          go zero place line = absurd (true≢false (sym inside ∙ ap is_inside (sym (same_Some (node s.name) x line))))
-          go (suc m) place line = record {
-            order = s.order;
-            name = s.name;
-            value = s.value;
-            start = s.start;
-            inner = m;
-            is = s.is;
-            cut = s.cut;
-            place = omega (arith, place);
-            line = line;
+          f : IsWritableNode (length nodes) l.value
+          f = writable names nodes h es a l.order l.value l.is
+
+          go : IsInner names l.value l.inner (shape s) → IsShapeOf i s
+          go (an_edge child at same) = let g : ⊥ = cc in absurd g
+          go (an_other o at place same) = let g : ⊥ = cc in absurd g
+          go (a_shape t q at same) = record {
+            line = l;
+            of = t;
+            is = same;
+            formed = all_at (IsWellFormedShape l.value) l.value.shapes f.formed.shapes q t at;
           }
 
-  -- a line of the node, by its place behind the node line
-  pub behind_line : (i : ℕ) (w : Name) (n : NodeValue) (k : ℕ) → IsCut names es i w n k → (m : ℕ) (x : NodeLineValue)
-      → slice_get (behind es i) m ≡ Some (says x) → slice_get (inner_lines names n) m ≡ Some x
-  behind_line i w n k c m x is =
-      by (in_either (map says (inner_lines names n)) c.tail m (says x) (ap (λ z. slice_get z m) (sym c.behind_is) ∙ is))
+  shape_value_is : (i : ℕ) (s : ShapeValue) (o : IsShapeOf i s)
+      → record { required = ascending o.of.required; optional = ascending o.of.optional; count = record { least = o.of.least; most = o.of.most } } ≡ s
+  shape_value_is i s o = shape_parts _ s o.is
+
+  is_listed_there : (i : ℕ) (s : ShapeValue) (k : Name) → IsShapeOf i s → Contains (names_of_shape s) k → Lists (around es i) k
+  is_listed_there i s k o c = go (find name_cmp k l.value.children) refl
     where
-      by : IsInEither (map says (inner_lines names n)) c.tail m (says x) → slice_get (inner_lines names n) m ≡ Some x
-      by (inl at) = unsaid (inner_lines names n) m x at
-      by (inr b) = absurd (c.nothing x (from_place c.tail (says x) (b.0, b.2)))
+      l : IsInNode names nodes h es a i (shape s)
+      l = o.line
 
-  pub line_behind : (i : ℕ) (w : Name) (n : NodeValue) (k : ℕ) → IsCut names es i w n k → (m : ℕ) (x : NodeLineValue)
-      → slice_get (inner_lines names n) m ≡ Some x → slice_get (behind es i) m ≡ Some (says x)
-  line_behind i w n k c m x is =
-      ap (λ z. slice_get z m) c.behind_is
-      ∙ get_front (map says (inner_lines names n)) c.tail m (says x) (map_at says (inner_lines names n) m x is)
+      is_there : IsTrue (is_some (find name_cmp k l.value.children))
+      is_there = o.formed.listed k (in_shape o.of k (subst (λ (z : ShapeValue). Contains (names_of_shape z) k) (sym (shape_value_is i s o)) c))
 
-  pub contains_behind : (i : ℕ) (w : Name) (n : NodeValue) (k : ℕ) → IsCut names es i w n k → (m : ℕ) (x : NodeLineValue)
-      → slice_get (inner_lines names n) m ≡ Some x → Contains (behind es i) (says x)
-  contains_behind i w n k c m x is = from_place (behind es i) (says x) (m, line_behind i w n k c m x is)
+      go : (x : Option NodeId) → find name_cmp k l.value.children ≡ x → Lists (around es i) k
+      go None none = let g : false ≡ true = sym (ap is_some none) ∙ is_there in let no : ⊥ = cc in absurd no
+      go (Some id) found =
+          let f = found_from k id l.value.children found in
+          let child : Name × NodeId = (k, id) in (
+            name_at names id,
+            subst (λ z. Contains z (says (edge k (name_at names id)))) (sym (around_it names nodes h es a i (shape s) l))
+                (contains_behind names nodes h es a l.start l.name l.value l.order l.cut f.0 (edge k (name_at names id))
+                (edge_in names l.value f.0 child f.1)),
+          )
 
-  pub file : (i : ℕ) (x : NodeLineValue) (s : IsInNode i x) → IsInFile es s.start s.inner (says x)
-  file i x s = in_file es s.start s.name s.cut.at s.inner (says x) (line_behind s.start s.name s.value s.order s.cut s.inner x s.line)
+  in_order : (i : ℕ) (s : ShapeValue) (most : ℕ) → IsShapeOf i s → s.count.most ≡ Some most → ¬ (most < s.count.least)
+  in_order i s most o is less =
+      let same = shape_value_is i s o in
+      let bound : o.of.most ≡ Some most = ap (λ (z : ShapeValue). z.count.most) same ∙ is in
+      let least : o.of.least ≡ s.count.least = ap (λ (z : ShapeValue). z.count.least) same in
+      let fits = subst (λ z. IfSome z (λ most. o.of.least ≤ most)) bound o.formed.ordered in
+      omega (arith, least, fits, less)
 
-  pub around_it : (i : ℕ) (x : NodeLineValue) (s : IsInNode i x) → around es i ≡ behind es s.start
-  around_it i x s = ap (around es) s.place ∙ (file i x s).around_is
-
-  pub earlier_it : (i : ℕ) (x : NodeLineValue) (s : IsInNode i x) → earlier es i ≡ take s.inner (behind es s.start)
-  earlier_it i x s = ap (earlier es) s.place ∙ (file i x s).earlier_are
-
-  -- a line before another in its node
-  pub earlier_line : (i : ℕ) (x y : NodeLineValue) (s : IsInNode i x) → Contains (earlier es i) (says y)
-      → (m : ℕ) × (m < s.inner) × (slice_get (inner_lines names s.value) m ≡ Some y)
-  earlier_line i x y s c =
-      let p = at_place (take s.inner (behind es s.start)) (says y) (subst (λ z. Contains z (says y)) (earlier_it i x s) c) in
-      let t = in_take (behind es s.start) s.inner p.0 (says y) p.1 in
-      (p.0, t.0, behind_line s.start s.name s.value s.order s.cut p.0 y t.1)
-
-  pub writable : (k : ℕ) (n : NodeValue) → slice_get nodes k ≡ Some n → IsWritableNode (length nodes) n
-  writable = all_at (IsWritableNode (length nodes)) nodes h.each
-
-  pub empty_last : EmptyIsLast names
-  empty_last i is = (h.last i is).0
-
-  -- ---- names
-
-  pub value_at : (k : ℕ) (w : Name) → slice_get names k ≡ Some w → (n : NodeValue) × (slice_get nodes k ≡ Some n)
-  value_at k w is =
-      let within = slice_get_within names k w is in
-      let long = h.named in
-      (get_or nodes k none, slice_get-get_or nodes k none (omega arith))
+  counts_others : (i : ℕ) (s : ShapeValue) → IsShapeOf i s → ¬ (IsNoneCounted s.count) → SpeaksOfOthers (around es i)
+  counts_others i s o some = go l.value.other refl
     where
-      none : NodeValue
-      none = record { shapes = []; children = []; other = None; twins = [] }
+      l : IsInNode names nodes h es a i (shape s)
+      l = o.line
 
-  pub node_cut : (k : ℕ) (w : Name) → slice_get names k ≡ Some w → ¬ (w ≡ codes "Empty") → (i : ℕ) × (n : NodeValue) × IsCut names es i w n k
-  node_cut k w is differs =
-      let v = value_at k w is in
-      let c = cuts names nodes es a k w v.0 (at_declared names empty_last k w is differs) v.1 in
-      (c.0, v.0, c.1)
+      go : (x : Option (Class × NodeId)) → l.value.other ≡ x → SpeaksOfOthers (around es i)
+      go None none =
+          let n = o.formed.none none in
+          let same = shape_value_is i s o in
+          absurd (some (
+            sym (ap (λ (z : ShapeValue). z.count.least) same) ∙ n.0,
+            sym (ap (λ (z : ShapeValue). z.count.most) same) ∙ n.1,
+          ))
+      go (Some p) is = (
+        p.0,
+        name_at names p.1,
+        subst (λ z. Contains z (says (other p.0 (name_at names p.1)))) (sym (around_it names nodes h es a i (shape s) l))
+            (contains_behind names nodes h es a l.start l.name l.value l.order l.cut _ (other p.0 (name_at names p.1)) (other_in names l.value p is)),
+      )
 
-  pub is_node : (k : ℕ) (w : Name) → slice_get names k ≡ Some w → IsNode es w
-  is_node k w is = go (empty_or w)
+  few_shapes : (i : ℕ) (s : ShapeValue) → IsInNode names nodes h es a i (shape s) → ¬ (256 ≤ count_by is_shape (earlier es i))
+  few_shapes i s l many =
+      let f = writable names nodes h es a l.order l.value l.is in
+      let at = line_behind names nodes h es a l.start l.name l.value l.order l.cut l.inner (shape s) l.line in
+      let less = counted_below is_shape (behind es l.start) l.inner (says (shape s)) at refl in
+      let before = ap (count_by is_shape) (earlier_it names nodes h es a i (shape s) l) in
+      let all = ap (count_by is_shape) l.cut.behind_is ∙ shape_count (map says (inner_lines names l.value) ++ l.cut.tail) in
+      let long = sym (length-map _ _) ∙ ap length (shapes_behind names l.value l.cut.tail l.cut.nothing) in
+      let few = f.few_shapes in
+      omega (arith, less, before, all, long, few, many)
+
+  some_shape : (i : ℕ) (w : Name) → IsBegun names nodes h es a i w → (s : ShapeValue) × Contains (behind es i) (says (shape s))
+  some_shape i w b = go b.value.shapes refl f.formed.some_shape
     where
-      go : (w ≡ codes "Empty") ⊎ ((w ≡ codes "Empty") → ⊥) → IsNode es w
-      go (inl same) = inr same
-      go (inr differs) = let c = node_cut k w is differs in inl (from_place es (says (node w)) (c.0, c.2.at))
+      f : IsWritableNode (length nodes) b.value
+      f = writable names nodes h es a b.order b.value b.is
 
-  pub name_there : (id : NodeId) → id.place < length nodes → slice_get names id.place ≡ Some (name_at names id)
-  name_there id below = slice_get-get_or names id.place [] (let long = h.named in omega arith)
+      go : (ss : List Shape) → b.value.shapes ≡ ss → 0 < length ss → (s : ShapeValue) × Contains (behind es i) (says (shape s))
+      go [] is some = absurd (omega (arith, some))
+      go (t ∷ ss) is some = (
+        record { required = ascending t.required; optional = ascending t.optional; count = record { least = t.least; most = t.most } },
+        contains_behind names nodes h es a i w b.value b.order b.cut _ (shape_line t)
+            (shape_in names b.value 0 t (ap (λ (z : List Shape). slice_get z 0) is)),
+      )
 
-  pub child_there : (n : NodeValue) → IsWritableNode (length nodes) n → (m : ℕ) (child : Name × NodeId) → slice_get n.children m ≡ Some child
-      → slice_get names child.1.place ≡ Some (name_at names child.1)
-  child_there n f m child is = name_there child.1 (all_at (λ (c : Name × NodeId). c.1.place < length nodes) n.children f.formed.children m child is)
+  -- ---- all lines
 
-  pub other_there : (n : NodeValue) → IsWritableNode (length nodes) n → (o : Class × NodeId) → n.other ≡ Some o
-      → slice_get names o.1.place ≡ Some (name_at names o.1)
-  other_there n f o is = name_there o.1 (subst (λ z. IfSome z (λ (o : Class × NodeId). o.1.place < length nodes)) is f.formed.other)
+  pub written_sound : HasNoBad (IsBadNodeLine es)
+  written_sound i (in_no_node {x} is inside none) = in_some_node i x (in_node names nodes h es a i x is inside) none
+  written_sound i (declared_twice {w} is before) =
+      let p = at_place (take i es) (says (node w)) before in
+      let t = in_take es i p.0 (says (node w)) p.1 in
+      once p.0 i w t.1 is t.0
+  written_sound i (declares_empty is) = let b = begun names nodes h es a i (codes "Empty") is in b.differs refl
+  written_sound i (names_no_node {x} {w} is name none) =
+      let p = name_place i x w is name in none (is_node names nodes h es a p.0 w p.1)
+  written_sound i (listed_twice {k} {w} is lists) = edge_once i k w lists.0 (in_node names nodes h es a i (edge k w) is refl) lists.1
+  written_sound i (others_twice {c} {w} is speaks) =
+      other_once i c w speaks.0 speaks.1 (in_node names nodes h es a i (other c w) is refl) speaks.2
+  written_sound i (unlisted_name {s} {k} is there none) = none (is_listed_there i s k (shape_of i s is) there)
+  written_sound i (name_twice {s} is d) =
+      let o = shape_of i s is in
+      names_once o.line.value o.of o.formed (subst (λ (z : ShapeValue). HasDouble (names_of_shape z)) (sym (shape_value_is i s o)) d)
+  written_sound i (least_above_most {s} {most} is bound less) = in_order i s most (shape_of i s is) bound less
+  written_sound i (no_others_to_count {s} is some none) = none (counts_others i s (shape_of i s is) some)
+  written_sound i (no_shape {w} is none) = none (some_shape i w (begun names nodes h es a i w is))
+  written_sound i (too_many_nodes {w} is many) =
+      let b = begun names nodes h es a i w is in
+      let few = h.few b.order w b.named b.differs in
+      omega (arith, few, b.cut.before, many)
+  written_sound i (too_many_shapes {s} is many) = few_shapes i s (in_node names nodes h es a i (shape s) is refl) many

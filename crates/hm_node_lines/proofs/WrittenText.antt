@@ -6,7 +6,7 @@ use Rattle.std.specs.Str.{bytes_eq}
 use lib.Pointwise.{bytes_decides}
 use Rattle.hm_tree.specs.Names.{Name}
 use Rattle.hm_schema.specs.declared.node.Node.{Node}
-use Rattle.hm_schema.specs.Values.{NodeValue, node_value}
+use Rattle.hm_schema.specs.Values.{node_value}
 use Rattle.hm_node_lines.specs.declared.token.Token.{Token}
 use Rattle.hm_node_lines.specs.Tokens.{token_text}
 use Rattle.hm_node_lines.specs.NodeLines.{NodeLineValue}

@@ -1,4 +1,4 @@
-use Rattle.std.proofs.Common.{false, sym, ◌∙◌}
+use Rattle.std.proofs.Common.{sym, ◌∙◌}
 use Rattle.std.proofs.lemmas.Bool.{true≢false}
 use Rattle.hm_node_lines.proofs.WrittenText.{node_put}
 use Rattle.hm_node_lines.proofs.writer.append_nodes.Goals as goal
