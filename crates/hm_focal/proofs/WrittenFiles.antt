@@ -17,12 +17,12 @@ use Rattle.hm_node_lines.specs.declared.token.Token.TheVariants.{Word}
 use Rattle.hm_node_lines.specs.Tokens.{IsToken}
 use Rattle.hm_node_lines.specs.NodeLines.{NodeLineValue, node, IsNodeLine}
 use Rattle.hm_node_lines.specs.Entries.{EntryValue, unknown, says, texts_of}
-use Rattle.hm_node_lines.specs.BadLines.{Says, IsNode, begins_node, declares_empty}
+use Rattle.hm_node_lines.specs.BadLines.{Says, IsNode, begins_node, IsBadNodeLine, declares_empty}
 use Rattle.hm_node_lines.specs.FirstBad.{HasNoBad}
 use Rattle.hm_node_lines.specs.Nodes.{IsPlaceOf, declared, empty, named_by, NamesEmpty}
 use Rattle.hm_node_lines.specs.Writing.{line_text}
 use Rattle.hm_node_lines.specs.WrittenNodes.{name_at, nodes_lines, IsWritable, AreOfNodes}
-use Rattle.hm_node_lines.proofs.Laws.{at_place, from_place, names_empty_or, type_place, readable_nodes, written_reads as written_nodes_read, written_sound, written_places, written_nodes, written_type_names}
+use Rattle.hm_node_lines.proofs.Laws.{at_place, from_place, names_empty_or, type_place, readable_nodes, rewritten_nodes, written_reads as written_nodes_read, written_sound, written_places, written_nodes, written_type_names}
 use Rattle.hm_focal.specs.OwnLines.{BodyValue, term, oversized, LensValue, OwnValue, nothing, header, format, lens, main, body_in, lens_in, lens_names, named_nodes, IsHeaded, equals, word, IsBody, IsLensLine}
 use Rattle.hm_focal.specs.Lines.{IsOwnBehind, AreLines}
 use Rattle.hm_focal.specs.BadLines.{HasBody, DeclaresLens, IsBadLine, unreadable, of_node, declared_twice, names_no_source, names_no_view, calls_no_lens, too_many_lenses, too_large, too_long}
@@ -52,6 +52,12 @@ headed_words line _ text (word {next} {ws} f h) = (f.1.sound, headed_words next 
 place_is_node : (es : List EntryValue) (w : Name) (i : ℕ) → IsPlaceOf es w i → IsNode es w
 place_is_node es w _ (declared j is) = inl (from_place es _ (j, is))
 place_is_node es _ _ empty = inr refl
+
+-- the place of `Empty`
+empty_place : (es : List EntryValue) → HasNoBad (IsBadNodeLine es) → (w : Name) (i : ℕ) → IsPlaceOf es w i → w ≡ codes "Empty"
+    → i ≡ count_by begins_node es
+empty_place es sound w _ (declared j is) same = absurd (sound j (declares_empty (subst (λ (v : Name). Says es j (node v)) same is)))
+empty_place es sound _ _ empty same = refl
 
 lines_both : (xs ys : List (List ℕ)) → AreOneLine xs → AreOneLine ys → AreOneLine (xs ++ ys)
 lines_both [] ys h k = k
@@ -311,25 +317,24 @@ module _ (bytes : List ℕ) (p : ProgramValue) (h : IsLensFile bytes p) where
       (subst (λ (z : List Name). Contains z w)
       (all_nodes p.options.type_names (term p.main) (nodes_lines p.options.type_names p.options.types) p.definitions) c)
 
-  -- the place of `Empty`
-  empty_place : (w : Name) (i : ℕ) → IsPlaceOf h.entries w i → w ≡ codes "Empty" → i ≡ count_by begins_node h.entries
-  empty_place w _ (declared j is) same = absurd (node_sound bytes p h j (declares_empty (subst (λ (v : Name). Says h.entries j (node v)) same is)))
-  empty_place _ _ empty same = refl
-
-  module _ (c : Contains p.options.type_names (codes "Empty"))
-      (by_lines : Contains (filter_map named_by h.entries) (codes "Empty") → Contains (filter_map named_by (written_entries p)) (codes "Empty")) where
+  module _ (c : Contains p.options.type_names (codes "Empty")) where
     empty_at : (i : ℕ) × (slice_get p.options.type_names i ≡ Some (codes "Empty"))
     empty_at = at_place p.options.type_names (codes "Empty") c
 
     empty_here : empty_at.0 ≡ count_by begins_node h.entries
-    empty_here = empty_place (codes "Empty") empty_at.0
+    empty_here = empty_place h.entries (node_sound bytes p h) (codes "Empty") empty_at.0
         (type_place h.entries (node_sound bytes p h) (named_nodes h.own) p.options.type_names p.options.types h.type_names h.types empty_at.0
         (codes "Empty") empty_at.1) refl
+
+    empty_written : empty_at.0 ≡ count_by begins_node (written_entries p)
+    empty_written = empty_place (written_entries p) (written_sound p.options.type_names p.options.types writable (written_entries p) are_of_nodes)
+        (codes "Empty") empty_at.0
+        (written_places p.options.type_names p.options.types writable (written_entries p) are_of_nodes empty_at.0 (codes "Empty") empty_at.1) refl
 
     -- its place has its name
     empty_is : (i : ℕ) (w : Name) → IsPlaceOf h.entries w i → w ≡ codes "Empty" → get_or p.options.type_names i [] ≡ codes "Empty"
     empty_is i w place same =
-        ap (λ n. get_or p.options.type_names n []) (empty_place w i place same ∙ sym empty_here)
+        ap (λ n. get_or p.options.type_names n []) (empty_place h.entries (node_sound bytes p h) w i place same ∙ sym empty_here)
         ∙ get_or_from_slice_get p.options.type_names empty_at.0 (codes "Empty") [] empty_at.1
 
     by_lens : Contains (named_nodes h.own) (codes "Empty") → Contains (named_nodes (written_own p)) (codes "Empty")
@@ -346,23 +351,32 @@ module _ (bytes : List ℕ) (p : ProgramValue) (h : IsLensFile bytes p) where
         go (inl same) = inl (empty_is n.0.1.source.place n.2.source n.3.source same)
         go (inr same) = inr (empty_is n.0.1.view.place n.2.view n.3.view same)
 
-    empty_named : NamesEmpty (written_entries p) (named_nodes (written_own p))
-    empty_named = go (names_empty_or h.entries (named_nodes h.own))
+    -- the lines that were read and the written lines name it alike
+    empty_kept : NamesEmpty (written_entries p) (named_nodes h.own)
+    empty_kept = go (names_empty_or (written_entries p) (named_nodes h.own))
       where
-        go : NamesEmpty h.entries (named_nodes h.own) ⊎ (NamesEmpty h.entries (named_nodes h.own) → ⊥)
-            → NamesEmpty (written_entries p) (named_nodes (written_own p))
-        go (inl (inl line)) = inl (by_lines line)
-        go (inl (inr named)) = inr (by_lens named)
-        go (inr none) = absurd (omega (
-          arith,
-          slice_get_within p.options.type_names empty_at.0 (codes "Empty") empty_at.1,
-          empty_here,
-          formed.named,
-          h.types.short none,
-        ))
+        go : NamesEmpty (written_entries p) (named_nodes h.own) ⊎ (NamesEmpty (written_entries p) (named_nodes h.own) → ⊥)
+            → NamesEmpty (written_entries p) (named_nodes h.own)
+        go (inl it) = it
+        go (inr none) =
+            let nodes = rewritten_nodes h.entries (node_sound bytes p h) node_read (named_nodes h.own) p.options.type_names p.options.types h.types
+            h.type_names (written_entries p) are_of_nodes in
+            absurd (omega (
+              arith,
+              slice_get_within p.options.type_names empty_at.0 (codes "Empty") empty_at.1,
+              empty_written,
+              formed.named,
+              nodes.short none,
+            ))
 
-  module _ (by_lines : Contains (filter_map named_by h.entries) (codes "Empty") → Contains (filter_map named_by (written_entries p)) (codes "Empty"))
-      (small : (l : Lens) → IsLensOf p l → ¬ (IsOversized (term_text l))) where
+    empty_named : NamesEmpty (written_entries p) (named_nodes (written_own p))
+    empty_named = go empty_kept
+      where
+        go : NamesEmpty (written_entries p) (named_nodes h.own) → NamesEmpty (written_entries p) (named_nodes (written_own p))
+        go (inl line) = inl line
+        go (inr named) = inr (by_lens named)
+
+  module _ (small : (l : Lens) → IsLensOf p l → ¬ (IsOversized (term_text l))) where
     lens_read : (v : Name × DefinitionValue) → Contains p.definitions v → (l : Lens) → IsLensOf p l → v.1.body ≡ l
         → IsLensLine (definition_text p.options.type_names v) (lens_line p.options.type_names v)
     lens_read v c l is e =
@@ -406,9 +420,9 @@ module _ (bytes : List ℕ) (p : ProgramValue) (h : IsLensFile bytes p) where
       sound = not_bad;
       format = from_place (written_own p) (format p.format p.options.pairs) (1, refl);
       type_names = written_type_names p.options.type_names p.options.types writable (written_entries p) are_of_nodes (named_nodes (written_own p))
-          (λ c. empty_named c by_lines) (node_name (codes "Empty"));
+          empty_named (node_name (codes "Empty"));
       types = written_nodes p.options.type_names p.options.types writable (written_entries p) are_of_nodes (named_nodes (written_own p))
-          (λ c. empty_named c by_lines) (node_name (codes "Empty"));
+          empty_named (node_name (codes "Empty"));
       definitions = definitions_are;
       main = Contains-append_right (header ∷ format p.format p.options.pairs ∷ [])
           (owns p.options.type_names (term p.main) (nodes_lines p.options.type_names p.options.types) p.definitions) (main (term p.main))
