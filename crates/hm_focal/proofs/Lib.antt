@@ -1,3 +1,4 @@
+pub mod Laws
 mod Fronts
 mod ReadUpTo
 mod Formats

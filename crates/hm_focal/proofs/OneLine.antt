@@ -14,6 +14,7 @@ use Rattle.hm_node_lines.specs.declared.token.Token.{Token}
 use Rattle.hm_node_lines.specs.declared.token.Token.TheVariants.{Word, Quoted, Question, Plus}
 use Rattle.hm_node_lines.specs.Tokens.{is_word_byte, is_word, token_text, IsToken, AreSpaces, one, more, Spaced, alone, before}
 use Rattle.hm_node_lines.specs.NodeLines.{NodeLineValue, node, edge as edge_line, other, shape, indent, IsNodeLine}
+use Rattle.hm_node_lines.proofs.Laws.{is_true}
 
 abbrev pub IsOneLine : List ℕ → Type 0
 IsOneLine [] = Unit {0}
@@ -24,10 +25,6 @@ line_both [] ys h k = k
 line_both (x ∷ xs) ys h k = (h.0, line_both xs ys h.1 k)
 
 -- ---- names
-
-is_true : (b : Bool) → T b → b ≡ true
-is_true true h = refl
-is_true false h = absurd h
 
 word_byte : (b : ℕ) → is_word_byte b ≡ true → 32 ≤ b
 word_byte b h = grind (arith, nat_tests)

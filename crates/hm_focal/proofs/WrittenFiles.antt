@@ -4,7 +4,7 @@ use Rattle.std.specs.Prelude.{codes, flat_map}
 use Rattle.std.specs.List.{AllZip, Contains}
 use Rattle.std.proofs.lemmas.List.{length-map, length-take}
 use Rattle.std.proofs.lemmas.List.Elements.{Contains-append_left, Contains-append_right}
-use Rattle.std.proofs.lemmas.Option.{slice_get_within, slice_get-get_or, get_or_from_slice_get}
+use Rattle.std.proofs.lemmas.Option.{same_Some, slice_get_within, slice_get-get_or, get_or_from_slice_get}
 use Rattle.hm_tree.specs.Names.{Name}
 use Rattle.hm_terms.specs.Lenses.{Lens, DefinitionValue}
 use Rattle.hm_terms.specs.Programs.{ProgramValue}
@@ -27,7 +27,7 @@ use Rattle.hm_focal.specs.OwnLines.{BodyValue, term, oversized, LensValue, OwnVa
 use Rattle.hm_focal.specs.Lines.{IsOwnBehind, AreLines}
 use Rattle.hm_focal.specs.BadLines.{HasBody, DeclaresLens, IsBadLine, unreadable, of_node, declared_twice, names_no_source, names_no_view, calls_no_lens, too_many_lenses, too_large, too_long}
 use Rattle.hm_focal.specs.LensFiles.{IsDefinitionOf, IsLensFile}
-use Rattle.hm_focal.specs.Writing.{header_text, format_text, definition_text, main_text, lens_lines, lens_text}
+use Rattle.hm_focal.specs.Writing.{header_text, format_text, definition_text, main_text, lens_lines, lens_text, HasSmallTexts}
 use Rattle.hm_focal.proofs.Broken.{AreOneLine, texts_are}
 use Rattle.hm_focal.proofs.Formed.{lens_at, zip_at, line_of, body_of_line, node_sound, file_formed}
 use Rattle.hm_focal.proofs.LensNames.{count_lenses}
@@ -36,9 +36,6 @@ use Rattle.hm_focal.proofs.OwnOneLine.{format_line, lens_line_line, main_line_li
 use Rattle.hm_focal.proofs.WrittenLines.{lens_line, own_line, written_entries, written_own, AreReadable, lines_read}
 use Rattle.hm_focal.proofs.WrittenOwn.{header_reads, format_reads, lens_reads, main_reads}
 use Rattle.hm_focal.proofs.WrittenParts.{name_of, owns, back_quiet, front_quiet, readable, lens_place, main_place, has_main, lens_values, all_lens_names, all_nodes, named_before, name_is}
-
-same_some : {X : Type 0} (x y : X) → Some x ≡ Some y → x ≡ y
-same_some x y e = cc
 
 -- the words in front of `=` are words
 abbrev AreWords : List Name → Type 0
@@ -87,8 +84,8 @@ module _ (names : List Name) where
 
       go : Contains names (name_at names v.1.source) → Contains names (name_at names v.1.view) → (Contains rest w → Contains names w)
           → (m : ℕ) × (slice_get (name_at names v.1.source ∷ name_at names v.1.view ∷ rest) m ≡ Some w) → Contains names w
-      go s t more (zero, e) = subst (Contains names) (same_some (name_at names v.1.source) w e) s
-      go s t more (suc zero, e) = subst (Contains names) (same_some (name_at names v.1.view) w e) t
+      go s t more (zero, e) = subst (Contains names) (same_Some (name_at names v.1.source) w e) s
+      go s t more (suc zero, e) = subst (Contains names) (same_Some (name_at names v.1.view) w e) t
       go s t more (suc (suc m), e) = more (from_place rest w (m, e))
 
   among_named : (ds : List (Name × DefinitionValue)) (w : Name) (v : Name × DefinitionValue) → Contains ds v
@@ -102,7 +99,7 @@ module _ (names : List Name) where
       go (u ∷ ds) zero e = first is
         where
           same : u ≡ v
-          same = same_some u v e
+          same = same_Some u v e
 
           first : (name_at names v.1.source ≡ w) ⊎ (name_at names v.1.view ≡ w)
               → Contains (name_at names u.1.source ∷ name_at names u.1.view ∷ flat_map (λ (v : Name × DefinitionValue). name_at names v.1.source ∷ name_at names v.1.view ∷ []) ds) w
@@ -130,8 +127,8 @@ naming P (lens d ∷ os) (v ∷ ds) z w c = go (naming P os ds z.1 w) (at_place 
   where
     go : (Contains (named_nodes os) w → IsNaming P ds w) → (m : ℕ) × (slice_get (d.source ∷ d.view ∷ named_nodes os) m ≡ Some w)
         → IsNaming P (v ∷ ds) w
-    go more (zero, e) = (v, (0, omega arith, refl), d, z.0, inl (same_some d.source w e))
-    go more (suc zero, e) = (v, (0, omega arith, refl), d, z.0, inr (same_some d.view w e))
+    go more (zero, e) = (v, (0, omega arith, refl), d, z.0, inl (same_Some d.source w e))
+    go more (suc zero, e) = (v, (0, omega arith, refl), d, z.0, inr (same_Some d.view w e))
     go more (suc (suc m), e) =
         let r = more (from_place (named_nodes os) w (m, e)) in
         (r.0, (suc r.1.0, omega (arith, r.1.1), r.1.2), r.2, r.3, r.4)
@@ -173,8 +170,8 @@ module _ (bytes : List ℕ) (p : ProgramValue) (h : IsLensFile bytes p) where
     where
       go : (i : ℕ) (o : OwnValue) (line : List ℕ) → IsOwnBehind (take i h.entries) (take i h.own) line o → body_in o ≡ Some (term l)
           → (text : List ℕ) × IsTermText text l
-      go i (lens d) line k e = let same : d.body ≡ term l = same_some d.body (term l) e in let b = subst (IsBody k.0.0) same k.0.2 in (k.0.0, b.2)
-      go i (main c) line k e = let same : c ≡ term l = same_some c (term l) e in let b = subst (IsBody k.0.0) same k.0.2 in (k.0.0, b.2)
+      go i (lens d) line k e = let same : d.body ≡ term l = same_Some d.body (term l) e in let b = subst (IsBody k.0.0) same k.0.2 in (k.0.0, b.2)
+      go i (main c) line k e = let same : c ≡ term l = same_Some c (term l) e in let b = subst (IsBody k.0.0) same k.0.2 in (k.0.0, b.2)
       go i nothing line k e = let f : ⊥ = cc in absurd f
       go i header line k e = let f : ⊥ = cc in absurd f
       go i (format w ps) line k e = let f : ⊥ = cc in absurd f
@@ -214,21 +211,21 @@ module _ (bytes : List ℕ) (p : ProgramValue) (h : IsLensFile bytes p) where
   body_place : (i : ℕ) (o : OwnValue) (b : BodyValue) → slice_get (written_own p) i ≡ Some o → body_in o ≡ Some b
       → (l : Lens) × (b ≡ term l) × IsLensOf p l
   body_place zero o b at body =
-      let same : header ≡ o = same_some header o at in
+      let same : header ≡ o = same_Some header o at in
       let f : ◌≡◌ {A = _} (body_in header) (Some b) = ap body_in same ∙ body in let no : ⊥ = cc in absurd no
   body_place (suc zero) o b at body =
-      let same : format p.format p.options.pairs ≡ o = same_some (format p.format p.options.pairs) o at in
+      let same : format p.format p.options.pairs ≡ o = same_Some (format p.format p.options.pairs) o at in
       let f : ◌≡◌ {A = _} (body_in (format p.format p.options.pairs)) (Some b) = ap body_in same ∙ body in let no : ⊥ = cc in absurd no
   body_place (suc (suc i)) o b at body = go o at body
     where
       go : (o : OwnValue) → slice_get (written_own p) (suc (suc i)) ≡ Some o → body_in o ≡ Some b → (l : Lens) × (b ≡ term l) × IsLensOf p l
       go (lens d) at body =
           let r = lens_place p.options.type_names (term p.main) (nodes_lines p.options.type_names p.options.types) p.definitions i d at in
-          let same : d.body ≡ b = same_some d.body b body in
+          let same : d.body ≡ b = same_Some d.body b body in
           (r.value.1.body, sym same ∙ ap (λ (z : LensValue). z.body) r.line, a_body r.place r.is)
       go (main c) at body =
           let r = main_place p.options.type_names (term p.main) (nodes_lines p.options.type_names p.options.types) p.definitions i c at in
-          let same : c ≡ b = same_some c b body in
+          let same : c ≡ b = same_Some c b body in
           (p.main, sym same ∙ r, the_main)
       go nothing at body = let f : ⊥ = cc in absurd f
       go header at body = let f : ⊥ = cc in absurd f
@@ -249,9 +246,9 @@ module _ (bytes : List ℕ) (p : ProgramValue) (h : IsLensFile bytes p) where
     earlier : lens_names (take i (written_own p)) ≡ map name_of (take place p.definitions)
 
   defined : (i : ℕ) (d : LensValue) → slice_get (written_own p) i ≡ Some (lens d) → IsDefined i d
-  defined zero d at = let f : header ≡ lens d = same_some header (lens d) at in let no : ⊥ = cc in absurd no
+  defined zero d at = let f : header ≡ lens d = same_Some header (lens d) at in let no : ⊥ = cc in absurd no
   defined (suc zero) d at =
-      let f : format p.format p.options.pairs ≡ lens d = same_some (format p.format p.options.pairs) (lens d) at in let no : ⊥ = cc in absurd no
+      let f : format p.format p.options.pairs ≡ lens d = same_Some (format p.format p.options.pairs) (lens d) at in let no : ⊥ = cc in absurd no
   defined (suc (suc i)) d at =
       let r = lens_place p.options.type_names (term p.main) (nodes_lines p.options.type_names p.options.types) p.definitions i d at in
       record { place = r.place; value = r.value; is = r.is; line = r.line; earlier = r.earlier }
@@ -260,9 +257,9 @@ module _ (bytes : List ℕ) (p : ProgramValue) (h : IsLensFile bytes p) where
   all_names = all_lens_names p.options.type_names (term p.main) (nodes_lines p.options.type_names p.options.types) p.definitions
 
   not_bad : HasNoBad (IsBadLine (written_entries p) (written_own p))
-  not_bad zero (unreadable e o) = let f : header ≡ nothing = same_some header nothing o in let no : ⊥ = cc in no
+  not_bad zero (unreadable e o) = let f : header ≡ nothing = same_Some header nothing o in let no : ⊥ = cc in no
   not_bad (suc zero) (unreadable e o) =
-      let f : format p.format p.options.pairs ≡ nothing = same_some (format p.format p.options.pairs) nothing o in let no : ⊥ = cc in no
+      let f : format p.format p.options.pairs ≡ nothing = same_Some (format p.format p.options.pairs) nothing o in let no : ⊥ = cc in no
   not_bad (suc (suc i)) (unreadable e o) =
       readable p.options.type_names (term p.main) (nodes_lines p.options.type_names p.options.types) p.definitions i e o
   not_bad i (of_node bad) = written_sound p.options.type_names p.options.types writable (written_entries p) are_of_nodes i bad
@@ -376,7 +373,7 @@ module _ (bytes : List ℕ) (p : ProgramValue) (h : IsLensFile bytes p) where
         go (inl line) = inl line
         go (inr named) = inr (by_lens named)
 
-  module _ (small : (l : Lens) → IsLensOf p l → ¬ (IsOversized (term_text l))) where
+  module _ (small : HasSmallTexts p) where
     lens_read : (v : Name × DefinitionValue) → Contains p.definitions v → (l : Lens) → IsLensOf p l → v.1.body ≡ l
         → IsLensLine (definition_text p.options.type_names v) (lens_line p.options.type_names v)
     lens_read v c l is e =

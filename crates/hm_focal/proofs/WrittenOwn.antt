@@ -14,7 +14,7 @@ use Rattle.hm_node_lines.specs.declared.token.Token.TheVariants.{Word, Quoted, Q
 use Rattle.hm_node_lines.specs.Tokens.{is_word, begins_word, token_text, IsToken, one, alone, before}
 use Rattle.hm_node_lines.specs.NodeLines.{edge_name}
 use Rattle.hm_node_lines.specs.WrittenNodes.{name_at}
-use Rattle.hm_node_lines.proofs.Laws.{not_word, word_utf8}
+use Rattle.hm_node_lines.proofs.Laws.{is_true, not_word, word_utf8}
 use Rattle.hm_focal.specs.Front.{IsFrontWord, IsFrontEdge, IsGap, IsWordBefore}
 use Rattle.hm_focal.specs.OwnLines.{term, LensValue, AreEdges, last, more, IsPair, IsOption, AreOptions, no_option, an_option, IsFormat, IsHeader, IsHeaded, equals, word, IsTrimmed, IsLensLine, IsMainLine}
 use Rattle.hm_focal.specs.Writing.{header_text, edges_text, option_text, format_text, definition_text, main_text}
@@ -49,10 +49,6 @@ IsWritablePair p = IsToken (Word p.0) × (p.1 ≢ []) × AreTexts p.1
 abbrev ArePairs : List (Name × List Name) → Type 0
 ArePairs [] = Unit {0}
 ArePairs (p ∷ ps) = IsWritablePair p × ArePairs ps
-
-is_true : (b : Bool) → T b → b ≡ true
-is_true true h = refl
-is_true false h = absurd h
 
 front_text : (bytes rest : List ℕ) (k : Name) → IsFrontEdge bytes k rest → IsUtf8 k
 front_text bytes rest k f = go f.0 f.1 f.2.sound

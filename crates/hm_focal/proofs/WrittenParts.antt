@@ -3,6 +3,7 @@ use Rattle.std.proofs.Common.{◌≡◌, ℕ, zero, suc, ◌<◌, List, [], ◌�
 use Rattle.std.specs.Prelude.{flat_map}
 use Rattle.std.specs.List.{Contains}
 use Rattle.std.proofs.lemmas.List.Elements.{Contains-append_right}
+use Rattle.std.proofs.lemmas.Option.{same_Some}
 use Rattle.hm_tree.specs.Names.{Name}
 use Rattle.hm_terms.specs.Lenses.{Lens, DefinitionValue}
 use Rattle.hm_node_lines.specs.NodeLines.{NodeLineValue}
@@ -11,9 +12,6 @@ use Rattle.hm_node_lines.specs.WrittenNodes.{name_at, SaysNothing}
 use Rattle.hm_node_lines.proofs.Laws.{at_place, from_place}
 use Rattle.hm_focal.specs.OwnLines.{BodyValue, term, LensValue, OwnValue, nothing, lens, main, lens_in, lens_names, named_nodes}
 use Rattle.hm_focal.proofs.WrittenLines.{lens_line, own_line}
-
-same_some : {X : Type 0} (x y : X) → Some x ≡ Some y → x ≡ y
-same_some x y e = cc
 
 abbrev Definitions : Type 0
 Definitions = List (Name × DefinitionValue)
@@ -24,9 +22,9 @@ name_of v = v.0
 -- ---- entries
 
 unknown_last : (ds : Definitions) (m : ℕ) (x : NodeLineValue) → slice_get (map (λ v. unknown) ds ++ unknown ∷ []) m ≡ Some (says x) → ⊥
-unknown_last [] zero x e = let f : unknown ≡ says x = same_some unknown (says x) e in let no : ⊥ = cc in no
+unknown_last [] zero x e = let f : unknown ≡ says x = same_Some unknown (says x) e in let no : ⊥ = cc in no
 unknown_last [] (suc m) x e = let no : ⊥ = cc in no
-unknown_last (d ∷ ds) zero x e = let f : unknown ≡ says x = same_some unknown (says x) e in let no : ⊥ = cc in no
+unknown_last (d ∷ ds) zero x e = let f : unknown ≡ says x = same_Some unknown (says x) e in let no : ⊥ = cc in no
 unknown_last (d ∷ ds) (suc m) x e = unknown_last ds m x e
 
 pub back_quiet : (ds : Definitions) → SaysNothing (map (λ v. unknown) ds ++ unknown ∷ [])
@@ -36,8 +34,8 @@ pub front_quiet : SaysNothing (unknown ∷ unknown ∷ [])
 front_quiet x c = let a = at_place (unknown ∷ unknown ∷ []) (says x) c in go a.0 a.1
   where
     go : (m : ℕ) → slice_get (unknown ∷ unknown ∷ []) m ≡ Some (says x) → ⊥
-    go zero e = let f : unknown ≡ says x = same_some unknown (says x) e in let no : ⊥ = cc in no
-    go (suc zero) e = let f : unknown ≡ says x = same_some unknown (says x) e in let no : ⊥ = cc in no
+    go zero e = let f : unknown ≡ says x = same_Some unknown (says x) e in let no : ⊥ = cc in no
+    go (suc zero) e = let f : unknown ≡ says x = same_Some unknown (says x) e in let no : ⊥ = cc in no
     go (suc (suc m)) e = let no : ⊥ = cc in no
 
 -- ---- the file's own lines, behind the header and the format line
@@ -47,15 +45,15 @@ module _ (names : List Name) (b : BodyValue) where
   owns xs ds = map (λ x. nothing) xs ++ (map (own_line names) ds ++ main b ∷ [])
 
   own_readable : (ds : Definitions) (i : ℕ) → slice_get (map (own_line names) ds ++ main b ∷ []) i ≡ Some nothing → ⊥
-  own_readable [] zero e = let f : main b ≡ nothing = same_some (main b) nothing e in let no : ⊥ = cc in no
+  own_readable [] zero e = let f : main b ≡ nothing = same_Some (main b) nothing e in let no : ⊥ = cc in no
   own_readable [] (suc i) e = let no : ⊥ = cc in no
-  own_readable (v ∷ ds) zero e = let f : own_line names v ≡ nothing = same_some (own_line names v) nothing e in let no : ⊥ = cc in no
+  own_readable (v ∷ ds) zero e = let f : own_line names v ≡ nothing = same_Some (own_line names v) nothing e in let no : ⊥ = cc in no
   own_readable (v ∷ ds) (suc i) e = own_readable ds i e
 
   pub readable : (xs : List NodeLineValue) (ds : Definitions) (i : ℕ)
       → slice_get (map says xs ++ (map (λ v. unknown) ds ++ unknown ∷ [])) i ≡ Some unknown → slice_get (owns xs ds) i ≡ Some nothing → ⊥
   readable [] ds i e o = own_readable ds i o
-  readable (x ∷ xs) ds zero e o = let f : says x ≡ unknown = same_some (says x) unknown e in let no : ⊥ = cc in no
+  readable (x ∷ xs) ds zero e o = let f : says x ≡ unknown = same_Some (says x) unknown e in let no : ⊥ = cc in no
   readable (x ∷ xs) ds (suc i) e o = readable xs ds i e o
 
   -- a lens line is that of a definition, behind those of the definitions before it
@@ -68,10 +66,10 @@ module _ (names : List Name) (b : BodyValue) where
 
   lens_behind : (ds : Definitions) (i : ℕ) (d : LensValue) → slice_get (map (own_line names) ds ++ main b ∷ []) i ≡ Some (lens d)
       → IsOwnAt ds (take i (map (own_line names) ds ++ main b ∷ [])) d
-  lens_behind [] zero d e = let f : main b ≡ lens d = same_some (main b) (lens d) e in let no : ⊥ = cc in absurd no
+  lens_behind [] zero d e = let f : main b ≡ lens d = same_Some (main b) (lens d) e in let no : ⊥ = cc in absurd no
   lens_behind [] (suc i) d e = let no : ⊥ = cc in absurd no
   lens_behind (v ∷ ds) zero d e =
-      let f : lens (lens_line names v) ≡ lens d = same_some (own_line names v) (lens d) e in
+      let f : lens (lens_line names v) ≡ lens d = same_Some (own_line names v) (lens d) e in
       let same : lens_line names v ≡ d = cc in
       record { place = 0; value = v; is = refl; line = sym same; earlier = refl }
   lens_behind (v ∷ ds) (suc i) d e =
@@ -81,20 +79,20 @@ module _ (names : List Name) (b : BodyValue) where
   pub lens_place : (xs : List NodeLineValue) (ds : Definitions) (i : ℕ) (d : LensValue) → slice_get (owns xs ds) i ≡ Some (lens d)
       → IsOwnAt ds (take i (owns xs ds)) d
   lens_place [] ds i d e = lens_behind ds i d e
-  lens_place (x ∷ xs) ds zero d e = let f : nothing ≡ lens d = same_some nothing (lens d) e in let no : ⊥ = cc in absurd no
+  lens_place (x ∷ xs) ds zero d e = let f : nothing ≡ lens d = same_Some nothing (lens d) e in let no : ⊥ = cc in absurd no
   lens_place (x ∷ xs) ds (suc i) d e =
       let r = lens_place xs ds i d e in
       record { place = r.place; value = r.value; is = r.is; line = r.line; earlier = r.earlier }
 
   main_behind : (ds : Definitions) (i : ℕ) (c : BodyValue) → slice_get (map (own_line names) ds ++ main b ∷ []) i ≡ Some (main c) → c ≡ b
-  main_behind [] zero c e = let f : main b ≡ main c = same_some (main b) (main c) e in let same : b ≡ c = cc in sym same
+  main_behind [] zero c e = let f : main b ≡ main c = same_Some (main b) (main c) e in let same : b ≡ c = cc in sym same
   main_behind [] (suc i) c e = let no : ⊥ = cc in absurd no
-  main_behind (v ∷ ds) zero c e = let f : own_line names v ≡ main c = same_some (own_line names v) (main c) e in let no : ⊥ = cc in absurd no
+  main_behind (v ∷ ds) zero c e = let f : own_line names v ≡ main c = same_Some (own_line names v) (main c) e in let no : ⊥ = cc in absurd no
   main_behind (v ∷ ds) (suc i) c e = main_behind ds i c e
 
   pub main_place : (xs : List NodeLineValue) (ds : Definitions) (i : ℕ) (c : BodyValue) → slice_get (owns xs ds) i ≡ Some (main c) → c ≡ b
   main_place [] ds i c e = main_behind ds i c e
-  main_place (x ∷ xs) ds zero c e = let f : nothing ≡ main c = same_some nothing (main c) e in let no : ⊥ = cc in absurd no
+  main_place (x ∷ xs) ds zero c e = let f : nothing ≡ main c = same_Some nothing (main c) e in let no : ⊥ = cc in absurd no
   main_place (x ∷ xs) ds (suc i) c e = main_place xs ds i c e
 
   pub has_main : (xs : List NodeLineValue) (ds : Definitions) → Contains (owns xs ds) (main b)
@@ -129,5 +127,5 @@ named_before (v ∷ ds) (suc k) (suc j) n e = let r = named_before ds k j n e in
 
 pub name_is : (ds : Definitions) (k : ℕ) (v : Name × DefinitionValue) → slice_get ds k ≡ Some v → slice_get (map name_of ds) k ≡ Some v.0
 name_is [] k v e = let no : ⊥ = cc in absurd no
-name_is (w ∷ ds) zero v e = ap (λ (z : Name × DefinitionValue). Some z.0) (same_some w v e)
+name_is (w ∷ ds) zero v e = ap (λ (z : Name × DefinitionValue). Some z.0) (same_Some w v e)
 name_is (w ∷ ds) (suc k) v e = name_is ds k v e

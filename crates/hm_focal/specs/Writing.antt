@@ -4,6 +4,8 @@ use Rattle.hm_tree.specs.Names.{Name}
 use Rattle.hm_tree.specs.Spelling.{spelled}
 use Rattle.hm_terms.specs.Lenses.{Lens, DefinitionValue}
 use Rattle.hm_terms.specs.Programs.{ProgramValue}
+use Rattle.hm_terms.specs.WellFormedPrograms.{IsLensOf}
+use Rattle.hm_term_text.specs.Limits.{IsOversized}
 use Rattle.hm_term_text.specs.Written.{term_text}
 use Rattle.hm_node_lines.specs.Writing.{line_text}
 use Rattle.hm_node_lines.specs.WrittenNodes.{name_at, nodes_lines}
@@ -47,3 +49,7 @@ ended line = line ++ codes "\n"
 
 abbrev pub lens_text : ProgramValue → List ℕ
 lens_text p = flat_map ended (lens_lines p)
+
+-- no text of a lens of a program is oversized
+abbrev pub HasSmallTexts : ProgramValue → Type 0
+HasSmallTexts p = (l : Lens) → IsLensOf p l → ¬ (IsOversized (term_text l))

@@ -6,7 +6,7 @@ ghost use Rattle.hm_terms.specs.Programs.{definition_value, program_value};
 ghost use Rattle.hm_term_text.specs.Written.{term_text};
 ghost use Rattle.hm_node_lines.specs.WrittenNodes.{name_at};
 ghost use Rattle.hm_focal.specs.LensFiles.{IsLensFile};
-ghost use Rattle.hm_focal.specs.Writing.{edges_text, option_text, format_text, definition_text, ended, lens_text};
+ghost use Rattle.hm_focal.specs.Writing.{edges_text, option_text, format_text, definition_text, ended, lens_text, HasSmallTexts};
 
 use hm_node_lines::append_nodes;
 use hm_schema::NodeId;
@@ -113,10 +113,12 @@ fn put_definitions(
     Ok(())
 }
 
-/// The file of a program that some file describes: no comments, and one space between two tokens.
+/// The file of a program that some file describes: no comments, and one space between two tokens. It is read as this
+/// program, unless the text of a lens is oversized, which is longer in the one form in which it is written.
 pub fn write_lens(program: &Program) -> Result<Vec<u8>, Memory>
     requires { (bytes : List ℕ) × IsLensFile bytes (program_value program.now) }
-    ensures { IfOk result (λ text. text.items ≡ lens_text (program_value program.now)) }
+    ensures written { IfOk result (λ text. text.items ≡ lens_text (program_value program.now)) }
+    ensures reads { IfOk result (λ text. HasSmallTexts (program_value program.now) → IsLensFile text.items (program_value program.now)) }
 {
     let names = &program.options.type_names;
     let mut text = Vec::new(*program.definitions.allocator());

@@ -6,6 +6,9 @@ use Rattle.hm_terms.specs.declared.term.Definition.{Definition}
 use Rattle.hm_terms.specs.Programs.{definition_value, program_value, lens_of}
 use Rattle.hm_term_text.specs.Written.{term_text}
 use Rattle.hm_node_lines.specs.WrittenNodes.{nodes_text}
+use Rattle.std.proofs.lemmas.List.{length-map}
+use Rattle.hm_focal.specs.LensFiles.{IsLensFile}
+use Rattle.hm_focal.proofs.WrittenFiles.{written_lens_reads}
 use Rattle.hm_focal.specs.Writing.{format_text, definition_text, ended}
 use Rattle.hm_focal.proofs.Writing.{lens_put, within}
 use Rattle.hm_focal.proofs.Formed.{file_formed}
@@ -18,8 +21,8 @@ put_definitions-requires c =
     (sym c.deref-5.ensures.value)
     (within _ _ (ap length c.deref-4.ensures.value ∙ formed.named) c.args.program.now.definitions.items formed.in_range)
 
-pub returns : goal.returns
-returns c =
+pub returns-clause-written : goal.returns-clause-written
+returns-clause-written c =
     lens_put (program_value c.args.program.now) c.args.program.now.definitions.items refl
     _ _ _ _ _ _ _ c.new-text.ensures.items c.in_ok-extend_from_slice.ensures.items
     (c.in_ok-put_format.ensures
@@ -34,3 +37,12 @@ returns c =
     ++ flat_map (λ (d : Definition). ended (definition_text c.args.program.now.options.type_names.items (definition_value d))) z)
     c.deref-5.ensures.value)
     c.in_ok-extend_from_slice-2.ensures.items (term_text (lens_of c.args.program.now.main)) c.in_ok-append_term.ensures.ok refl _ c.in_ok-push.ensures.items
+
+pub returns-clause-reads : goal.returns-clause-reads
+returns-clause-reads c = λ small. subst (λ z. IsLensFile z (program_value c.args.program.now)) (sym (returns-clause-written c))
+    (written_lens_reads c.requires.0 (program_value c.args.program.now) c.requires.1 small)
+
+pub append_nodes-requires : goal.append_nodes-requires
+append_nodes-requires c =
+    let formed = file_formed _ _ c.requires.1 in
+    ap length c.deref-2.ensures.value ∙ formed.named ∙ length-map c.args.program.now.options.types.items node_value ∙ sym (ap length c.deref-3.ensures.value)
