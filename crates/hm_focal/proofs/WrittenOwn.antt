@@ -76,9 +76,9 @@ edges_read k [] rest h stop =
     last (Quoted k, refl, record { sound = h.0; is = append_assoc (spelled k) [] rest; stops = tt }) stop
 edges_read k (j ∷ js) rest h stop =
     more {next = edges_text (j ∷ js) ++ rest} (
-    Quoted k,
-    refl,
-    record { sound = h.0; is = append_assoc (spelled k) (44 ∷ edges_text (j ∷ js)) rest; stops = tt },
+      Quoted k,
+      refl,
+      record { sound = h.0; is = append_assoc (spelled k) (44 ∷ edges_text (j ∷ js)) rest; stops = tt },
     ) (edges_read j js rest h.1 stop)
 
 values_read : (ks : List Name) (rest : List ℕ) → ks ≢ [] → AreTexts ks → ((r : List ℕ) → rest ≢ 44 ∷ r) → AreEdges (edges_text ks ++ rest) ks rest
@@ -104,13 +104,13 @@ options_read (p ∷ ps) h =
     let text : List ℕ = (p.0 ++ (61 ∷ edges)) ++ rest in
     let cut : text ≡ p.0 ++ (61 ∷ (edges ++ rest)) = append_assoc p.0 (61 ∷ edges) rest in
     an_option (
-    text,
-    one_gap text (λ r e. word_no_space p.0 (61 ∷ (edges ++ rest)) h.0.0 r (sym cut ∙ e)),
-    record {
-      edges = edges ++ rest;
-      key = record { sound = h.0.0; is = cut; stops = refl };
-      values = values_read p.1 rest h.0.1 h.0.2 (options_stop ps).1;
-    },
+      text,
+      one_gap text (λ r e. word_no_space p.0 (61 ∷ (edges ++ rest)) h.0.0 r (sym cut ∙ e)),
+      record {
+        edges = edges ++ rest;
+        key = record { sound = h.0.0; is = cut; stops = refl };
+        values = values_read p.1 rest h.0.1 h.0.2 (options_stop ps).1;
+      },
     ) (options_read ps h.1)
 
 pub format_reads : (line : List ℕ) (w : Name) (ps : List (Name × List Name)) → IsFormat line w ps → IsFormat (format_text w ps) w ps
@@ -204,8 +204,8 @@ module _ (l : Lens) (h : IsTermText (term_text l) l) (small : ¬ (IsOversized (t
       here = (
         term_text l,
         word (word_then (codes "lens") (v.0 ++ (32 ∷ (source ++ (32 ∷ (view ++ (codes " = " ++ term_text l)))))) (omega arith, tt) (word_no_space v.0 _ n))
-        (word (word_then v.0 (source ++ (32 ∷ (view ++ (codes " = " ++ term_text l)))) n (word_no_space source _ s))
-        (word (word_then source (view ++ (codes " = " ++ term_text l)) s (word_no_space view _ w))
-        (word (word_then view (61 ∷ 32 ∷ term_text l) w (no_equals _)) body_head))),
+            (word (word_then v.0 (source ++ (32 ∷ (view ++ (codes " = " ++ term_text l)))) n (word_no_space source _ s))
+            (word (word_then source (view ++ (codes " = " ++ term_text l)) s (word_no_space view _ w))
+            (word (word_then view (61 ∷ 32 ∷ term_text l) w (no_equals _)) body_head))),
         (trimmed l, small, h),
       )

@@ -1,5 +1,6 @@
 use crate::fault::LensFault;
 use crate::read::read_lens;
+use crate::writer::write_lens;
 use std::alloc::Global;
 use std::process::Abort;
 use std::test::Fail;
@@ -241,6 +242,83 @@ fn faults_are_told(rt: HostRuntime) -> Result<(), Fail> {
         (LensFault::Memory, "there was no memory"),
     ] {
         assert_eq!(&rt; format!(in alloc; "{fault}")?.as_str(), want);
+    }
+    Ok(())
+}
+
+// The file of docs/LENSES.md, and below its table's lenses.
+const RENAMED: &str =
+    "harmony lens 1\nformat tree root=Book\nnode Book\n  other filled Card\n  shape + 0..\nnode Card\n  edge a Empty\n  shape ? a\nlens renamed Card Card = acond(a,b,rename(a,b),id)\nmain = map(call(renamed))\n";
+
+#[test]
+fn the_lenses_of_the_docs_are_read(rt: HostRuntime) -> Result<(), Fail> {
+    let alloc = rt.alloc();
+    expect_line(&rt, alloc, RENAMED, 0);
+    for lens in [
+        "id",
+        "hoist(a);hoist(b)",
+        "const({},{\"x\"})",
+        "hoist(a)",
+        "plunge(a)",
+        "xfork({a},{b},hoist(a);plunge(b),id)",
+        "map(hoist(n))",
+        "wmap(x=hoist(n))",
+        "list(hoist(n))",
+        "copy(a,b)",
+        "merge(a,b)",
+        "ccond(a,hoist(a),id)",
+        "acond(a,b,rename(a,b),id)",
+        "map(call(L))",
+        "filter({a},{})",
+        "prune(b,{\"z\"})",
+        "focus(a,{})",
+        "add(b,{\"2\"})",
+        "rename(a,b)",
+    ] {
+        let lines = format!(in alloc; "lens L Empty Empty = {lens}\nmain = {lens}\n")?;
+        expect_behind(&rt, alloc, lines.as_str(), 0)?;
+        let file = format!(in alloc;
+            "harmony lens 1\nformat tree\n{lines}",
+            lines = lines.as_str()
+        )?;
+        expect_rewritten(&rt, alloc, file.as_bytes())?;
+    }
+    Ok(())
+}
+
+// What is read of a file, written.
+fn rewritten(alloc: Global, file: &[u8]) -> Result<Vec<u8>, LensFault> {
+    let program = read_lens(alloc, file)?;
+    Ok(write_lens(&program)?)
+}
+
+// A file that is read and written is written the same again.
+fn expect_rewritten(rt: &impl Abort, alloc: Global, file: &[u8]) -> Result<(), Fail> {
+    let Ok(once) = rewritten(alloc, file) else {
+        return Err("a file isn't written".into());
+    };
+    let Ok(twice) = rewritten(alloc, &once) else {
+        return Err("what was written isn't read".into());
+    };
+    assert!(rt; once.as_slice() == twice.as_slice());
+    Ok(())
+}
+
+const SPACED: &str =
+    "# all kinds of lines\n\nharmony  lens 1\nformat csv  key=Name many=Phone,\"E \\\"mail\" show=a\nnode A\n  edge x Empty\n  edge \"b c\" B\n  other filled A\n  shape x ? \"b c\"\n  shape + 2..5\n#\nnode B\n  other any Empty\n  shape + 0..\nlens  one A Empty = map( call(two) )\nlens two B  A = id ; id ; id\nmain  =  rename(a,b);(call(one);id);id\n";
+
+const WRITTEN: &str =
+    "harmony lens 1\nformat csv key=\"Name\" many=\"Phone\",\"E \\\"mail\" show=\"a\"\nnode A\n  edge \"b c\" B\n  edge \"x\" Empty\n  other filled A\n  shape \"x\" ? \"b c\"\n  shape + 2..5\nnode B\n  other any Empty\n  shape + 0..\nlens one A Empty = map(call(two))\nlens two B A = id;id;id\nmain = xfork({\"a\"},{\"b\"},hoist(\"a\");plunge(\"b\"),id);(call(one);id);id\n";
+
+#[test]
+fn files_are_written(rt: HostRuntime) -> Result<(), Fail> {
+    let alloc = rt.alloc();
+    for file in [BOOK, CALLS, RENAMED, SPACED] {
+        expect_rewritten(&rt, alloc, file.as_bytes())?;
+    }
+    match rewritten(alloc, SPACED.as_bytes()) {
+        Ok(text) => assert!(&rt; text.as_slice() == WRITTEN.as_bytes()),
+        Err(_) => assert!(&rt; false),
     }
     Ok(())
 }

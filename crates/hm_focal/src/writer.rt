@@ -78,11 +78,7 @@ fn put_node(text: &mut Vec<u8>, names: &[Name], node: NodeId) -> Result<(), Memo
     Ok(())
 }
 
-fn put_definition(
-    text: &mut Vec<u8>,
-    names: &[Name],
-    definition: &Definition,
-) -> Result<(), Memory>
+fn put_definition(text: &mut Vec<u8>, names: &[Name], definition: &Definition) -> Result<(), Memory>
     requires source { definition.now.source.place < length names.now }
     requires view { definition.now.view.place < length names.now }
     ensures { OnOk result (text.new.items ≡ text.old.items ++ ended (definition_text names.now (definition_value definition.now))) }
