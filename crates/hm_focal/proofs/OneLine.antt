@@ -1,9 +1,9 @@
 -- What stands on one line: it has no control character, so no end of a line.
-use Rattle.std.proofs.Common.{◌≡◌, ℕ, ◌/◌, ◌%◌, ◌<◌, ◌≤◌, Bool, true, false, T, List, [], ◌∷◌, ◌++◌, inl, inr, refl, sym, ap, ◌∙◌, subst, arith}
+use Rattle.std.proofs.Common.{◌≡◌, ℕ, ◌/◌, ◌%◌, ◌≤◌, true, List, [], ◌∷◌, ◌++◌, inl, inr, sym, subst, arith}
 use Rattle.std.specs.Prelude.{◌||◌, ◌==◌}
-use Rattle.std.specs.Bool.{nat_lt, nat_le}
+use Rattle.std.specs.Bool.{nat_lt}
 use Rattle.std.specs.Char.{digit_char}
-use Rattle.std.proofs.lemmas.Bool.{or_cases, or_parts, and_parts, not-true, eqb-true, leb-true, ltb-false}
+use Rattle.std.proofs.lemmas.Bool.{or_cases, or_parts, and_parts, not-true, eqb-true, ltb-false}
 use Rattle.std.proofs.lemmas.Bool.Decides.{nat_tests}
 use Rattle.hm_tree.specs.Names.{Name}
 use Rattle.hm_tree.specs.Spelling.{is_quote_or_backslash, is_control, is_plain, spelled_byte, escaped, spelled}

@@ -1,6 +1,6 @@
 -- The text of a term stands on one line.
-use Rattle.std.proofs.Common.{◌≡◌, ℕ, suc, ◌+◌, cond, ◌≤◌, Bool, true, false, List, [], ◌∷◌, ◌++◌, drop, refl, sym, ap, ◌∙◌, subst, arith}
-use Rattle.std.specs.Prelude.{◌==◌, codes}
+use Rattle.std.proofs.Common.{◌≡◌, ℕ, suc, ◌+◌, cond, ◌≤◌, Bool, true, false, List, [], ◌∷◌, drop, refl, sym, subst, arith}
+use Rattle.std.specs.Prelude.{◌==◌}
 use Rattle.std.specs.List.{prefix_len}
 use Rattle.std.proofs.lemmas.Bool.{eqb-true}
 use Rattle.hm_tree.specs.Names.{Name}
@@ -11,7 +11,6 @@ use Rattle.hm_tree_text.specs.Text.{whole, text}
 use Rattle.hm_node_lines.specs.declared.token.Token.{Token}
 use Rattle.hm_node_lines.specs.Tokens.{token_text}
 use Rattle.hm_term_text.specs.declared.keyword.Keyword.{Keyword}
-use Rattle.hm_term_text.specs.declared.keyword.Keyword.TheVariants.{Id}
 use Rattle.hm_term_text.specs.Fronts.{unspaced, IsSign, IsFront, IsWord, IsEdge, IsTree, AreNames, no_names, a_name, IsSet, Behind, One, Two}
 use Rattle.hm_term_text.specs.TermText.{IsTerm, one_part, more_parts, IsPart, in_parentheses, by_keyword, IsForm, id_form, const_form, hoist_form, plunge_form, fork_form, map_form, each_form, list_form, copy_form, merge_form, concrete_form, view_form, call_form, filter_form, prune_form, focus_form, add_form, rename_form, BehindSign, behind_sign, InParentheses, parentheses, TwoTerms, two_terms, ArePairs, last_pair, more_pairs, IsTermText}
 use Rattle.hm_focal.proofs.OneLine.{IsOneLine, line_both, token_line, text_line}

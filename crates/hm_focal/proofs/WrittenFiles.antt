@@ -1,16 +1,15 @@
 -- The text of a program that some file describes is a file of that program.
-use Rattle.std.proofs.Common.{◌≡◌, ◌≢◌, ◌⊎◌, inl, inr, ℕ, zero, suc, ◌+◌, ◌<◌, ◌≤◌, List, [], ◌∷◌, ◌++◌, length, get_or, map, take, slice_get, count_by, filter_map, Some, refl, sym, ap, ◌∙◌, subst, arith}
+use Rattle.std.proofs.Common.{◌≡◌, ◌⊎◌, inl, inr, ℕ, zero, suc, ◌<◌, List, [], ◌∷◌, ◌++◌, length, get_or, map, take, slice_get, count_by, filter_map, Some, refl, sym, ap, ◌∙◌, subst, arith}
 use Rattle.std.specs.Prelude.{codes, flat_map}
 use Rattle.std.specs.List.{AllZip, Contains}
 use Rattle.std.proofs.lemmas.List.{length-map, length-take}
-use Rattle.std.proofs.lemmas.List.Elements.{Contains-append_left, Contains-append_right}
+use Rattle.std.proofs.lemmas.List.Elements.{Contains-append_right}
 use Rattle.std.proofs.lemmas.Option.{same_Some, slice_get_within, slice_get-get_or, get_or_from_slice_get}
 use Rattle.hm_tree.specs.Names.{Name}
 use Rattle.hm_terms.specs.Lenses.{Lens, DefinitionValue}
 use Rattle.hm_terms.specs.Programs.{ProgramValue}
 use Rattle.hm_terms.specs.WellFormedPrograms.{IsLensOf, a_body, the_main, IsWellFormed}
 use Rattle.hm_term_text.specs.TermText.{IsTermText}
-use Rattle.hm_term_text.specs.Limits.{IsOversized}
 use Rattle.hm_term_text.specs.Written.{term_text}
 use Rattle.hm_term_text.proofs.Laws.{written_reads}
 use Rattle.hm_node_lines.specs.declared.token.Token.TheVariants.{Word}
@@ -19,13 +18,13 @@ use Rattle.hm_node_lines.specs.NodeLines.{NodeLineValue, node, IsNodeLine}
 use Rattle.hm_node_lines.specs.Entries.{EntryValue, unknown, says, texts_of}
 use Rattle.hm_node_lines.specs.BadLines.{Says, IsNode, begins_node, IsBadNodeLine, declares_empty}
 use Rattle.hm_node_lines.specs.FirstBad.{HasNoBad}
-use Rattle.hm_node_lines.specs.Nodes.{IsPlaceOf, declared, empty, named_by, NamesEmpty}
+use Rattle.hm_node_lines.specs.Nodes.{IsPlaceOf, declared, empty, NamesEmpty}
 use Rattle.hm_node_lines.specs.Writing.{line_text}
 use Rattle.hm_node_lines.specs.WrittenNodes.{name_at, nodes_lines, IsWritable, AreOfNodes}
 use Rattle.hm_node_lines.proofs.Laws.{at_place, from_place, names_empty_or, type_place, readable_nodes, rewritten_nodes, written_reads as written_nodes_read, written_sound, written_places, written_nodes, written_type_names}
 use Rattle.hm_focal.specs.OwnLines.{BodyValue, term, oversized, LensValue, OwnValue, nothing, header, format, lens, main, body_in, lens_in, lens_names, named_nodes, IsHeaded, equals, word, IsBody, IsLensLine}
 use Rattle.hm_focal.specs.Lines.{IsOwnBehind, AreLines}
-use Rattle.hm_focal.specs.BadLines.{HasBody, DeclaresLens, IsBadLine, unreadable, of_node, declared_twice, names_no_source, names_no_view, calls_no_lens, too_many_lenses, too_large, too_long}
+use Rattle.hm_focal.specs.BadLines.{HasBody, IsBadLine, unreadable, of_node, declared_twice, names_no_source, names_no_view, calls_no_lens, too_many_lenses, too_large, too_long}
 use Rattle.hm_focal.specs.LensFiles.{IsDefinitionOf, IsLensFile}
 use Rattle.hm_focal.specs.Writing.{header_text, format_text, definition_text, main_text, lens_lines, lens_text, HasSmallTexts}
 use Rattle.hm_focal.proofs.Broken.{AreOneLine, texts_are}
@@ -33,9 +32,9 @@ use Rattle.hm_focal.proofs.Formed.{lens_at, zip_at, line_of, body_of_line, node_
 use Rattle.hm_focal.proofs.LensNames.{count_lenses}
 use Rattle.hm_focal.proofs.OneLine.{IsOneLine, node_line_line, spaced_line}
 use Rattle.hm_focal.proofs.OwnOneLine.{format_line, lens_line_line, main_line_line}
-use Rattle.hm_focal.proofs.WrittenLines.{lens_line, own_line, written_entries, written_own, AreReadable, lines_read}
+use Rattle.hm_focal.proofs.WrittenLines.{lens_line, written_entries, written_own, AreReadable, lines_read}
 use Rattle.hm_focal.proofs.WrittenOwn.{header_reads, format_reads, lens_reads, main_reads}
-use Rattle.hm_focal.proofs.WrittenParts.{name_of, owns, back_quiet, front_quiet, readable, lens_place, main_place, has_main, lens_values, all_lens_names, all_nodes, named_before, name_is}
+use Rattle.hm_focal.proofs.WrittenParts.{name_of, ends_of, owns, back_quiet, front_quiet, readable, lens_place, main_place, has_main, lens_values, all_lens_names, all_nodes, named_before, name_is}
 
 -- the words in front of `=` are words
 abbrev AreWords : List Name → Type 0
@@ -73,14 +72,14 @@ zip_each P f (y ∷ ys) h = (h y (0, omega arith, refl), zip_each P f ys (λ z c
 module _ (names : List Name) where
   named_among : (ds : List (Name × DefinitionValue)) → ((v : Name × DefinitionValue) → (k : ℕ) × (slice_get ds k ≡ Some v)
       → Contains names (name_at names v.1.source) × Contains names (name_at names v.1.view)) → (w : Name)
-      → Contains (flat_map (λ (v : Name × DefinitionValue). name_at names v.1.source ∷ name_at names v.1.view ∷ []) ds) w → Contains names w
+      → Contains (flat_map (ends_of names) ds) w → Contains names w
   named_among [] each w c = absurd (omega (arith, c.1))
   named_among (v ∷ ds) each w c =
       let here = each v (0, refl) in
       go here.0 here.1 (named_among ds (λ u a. each u (suc a.0, a.1)) w) (at_place (name_at names v.1.source ∷ name_at names v.1.view ∷ rest) w c)
     where
       rest : List Name
-      rest = flat_map (λ (v : Name × DefinitionValue). name_at names v.1.source ∷ name_at names v.1.view ∷ []) ds
+      rest = flat_map (ends_of names) ds
 
       go : Contains names (name_at names v.1.source) → Contains names (name_at names v.1.view) → (Contains rest w → Contains names w)
           → (m : ℕ) × (slice_get (name_at names v.1.source ∷ name_at names v.1.view ∷ rest) m ≡ Some w) → Contains names w
@@ -90,11 +89,11 @@ module _ (names : List Name) where
 
   among_named : (ds : List (Name × DefinitionValue)) (w : Name) (v : Name × DefinitionValue) → Contains ds v
       → (name_at names v.1.source ≡ w) ⊎ (name_at names v.1.view ≡ w)
-      → Contains (flat_map (λ (v : Name × DefinitionValue). name_at names v.1.source ∷ name_at names v.1.view ∷ []) ds) w
+      → Contains (flat_map (ends_of names) ds) w
   among_named ds w v c is = let a = at_place ds v c in go ds a.0 a.1
     where
       go : (ds : List (Name × DefinitionValue)) (k : ℕ) → slice_get ds k ≡ Some v
-          → Contains (flat_map (λ (v : Name × DefinitionValue). name_at names v.1.source ∷ name_at names v.1.view ∷ []) ds) w
+          → Contains (flat_map (ends_of names) ds) w
       go [] k e = let no : ⊥ = cc in absurd no
       go (u ∷ ds) zero e = first is
         where
@@ -102,13 +101,13 @@ module _ (names : List Name) where
           same = same_Some u v e
 
           first : (name_at names v.1.source ≡ w) ⊎ (name_at names v.1.view ≡ w)
-              → Contains (name_at names u.1.source ∷ name_at names u.1.view ∷ flat_map (λ (v : Name × DefinitionValue). name_at names v.1.source ∷ name_at names v.1.view ∷ []) ds) w
+              → Contains (name_at names u.1.source ∷ name_at names u.1.view ∷ flat_map (ends_of names) ds) w
           first (inl s) =
               let here : name_at names u.1.source ≡ w = ap (λ (z : Name × DefinitionValue). name_at names z.1.source) same ∙ s in
-              from_place (name_at names u.1.source ∷ name_at names u.1.view ∷ flat_map (λ (v : Name × DefinitionValue). name_at names v.1.source ∷ name_at names v.1.view ∷ []) ds) w (0, ap Some here)
+              from_place (name_at names u.1.source ∷ name_at names u.1.view ∷ flat_map (ends_of names) ds) w (0, ap Some here)
           first (inr s) =
               let here : name_at names u.1.view ≡ w = ap (λ (z : Name × DefinitionValue). name_at names z.1.view) same ∙ s in
-              from_place (name_at names u.1.source ∷ name_at names u.1.view ∷ flat_map (λ (v : Name × DefinitionValue). name_at names v.1.source ∷ name_at names v.1.view ∷ []) ds) w (1, ap Some here)
+              from_place (name_at names u.1.source ∷ name_at names u.1.view ∷ flat_map (ends_of names) ds) w (1, ap Some here)
       go (u ∷ ds) (suc k) e = let r = go ds k e in (suc (suc r.0), omega (arith, r.1), r.2)
 
 -- a lens line that names a node, and its definition

@@ -1,24 +1,21 @@
 -- The lines of a file that was written, each in its place.
-use Rattle.std.proofs.Common.{◌≡◌, ℕ, suc, true, ◌<◌, List, [], ◌∷◌, ◌++◌, length, map, get_or, refl, sym, ap, ◌∙◌, subst, arith, append_assoc}
-use Rattle.std.specs.Prelude.{flat_map}
+use Rattle.std.proofs.Common.{◌≡◌, ℕ, suc, true, List, [], ◌∷◌, ◌++◌, map, refl, sym, subst, arith, append_assoc}
 use Rattle.std.specs.List.{Contains}
 use mathlib.Core.List.{append-nil}
 use Rattle.hm_tree.specs.Names.{Name}
 use Rattle.hm_terms.specs.Lenses.{DefinitionValue}
 use Rattle.hm_terms.specs.Programs.{ProgramValue}
 use Rattle.hm_node_lines.specs.NodeLines.{NodeLineValue, IsNodeLine}
-use Rattle.hm_node_lines.specs.Entries.{EntryValue, unknown, says, texts_of}
+use Rattle.hm_node_lines.specs.Entries.{EntryValue, unknown, says}
 use Rattle.hm_node_lines.specs.Writing.{line_text}
 use Rattle.hm_node_lines.specs.WrittenNodes.{name_at, nodes_lines}
 use Rattle.hm_focal.specs.declared.lines.Stage.{Stage}
-use Rattle.hm_focal.specs.declared.lines.Stage.TheVariants.{Header, Format, Nodes, Lenses, End}
+use Rattle.hm_focal.specs.declared.lines.Stage.TheVariants.{Header, Format, Nodes, Lenses}
 use Rattle.hm_focal.specs.OwnLines.{BodyValue, term, LensValue, OwnValue, nothing, header, format, lens, main, IsFormat, IsLensLine, IsMainLine, IsOwn, IsReadOwn}
 use Rattle.hm_focal.specs.Lines.{AreLines}
-use Rattle.hm_focal.specs.Stages.{placed_entry, placed_own, next_stage}
-use Rattle.hm_focal.specs.Writing.{header_text, format_text, definition_text, main_text, ended, lens_lines, lens_text}
-use Rattle.hm_focal.proofs.Broken.{AreOneLine, texts_are}
+use Rattle.hm_focal.specs.Stages.{placed_own, next_stage}
+use Rattle.hm_focal.specs.Writing.{header_text, format_text, definition_text, main_text, lens_lines}
 use Rattle.hm_focal.proofs.LineKinds.{node_entry, node_own, own_entry}
-use Rattle.hm_focal.proofs.OneLine.{IsOneLine, node_line_line}
 use Rattle.hm_focal.proofs.Placing.{IsReadTo, none_read, one_read, all_read}
 use Rattle.hm_focal.proofs.WrittenOwn.{header_reads}
 

@@ -1,8 +1,7 @@
 -- A line of the file's own that was written is read as what it says.
-use Rattle.std.proofs.Common.{◌≡◌, ◌≢◌, ℕ, zero, suc, ◌+◌, ◌-◌, ◌<◌, Bool, true, false, T, List, [], ◌∷◌, ◌++◌, length, slice_get, Option, Some, None, refl, sym, ap, ◌∙◌, subst, arith, append_assoc}
+use Rattle.std.proofs.Common.{◌≡◌, ◌≢◌, ℕ, ◌-◌, false, List, [], ◌∷◌, ◌++◌, length, slice_get, Some, refl, sym, ap, ◌∙◌, subst, arith, append_assoc}
 use Rattle.std.specs.Prelude.{codes, flat_map, IsUtf8}
 use Rattle.std.proofs.lemmas.List.{length_push}
-use mathlib.Core.List.{append-nil}
 use Rattle.hm_tree.specs.Names.{Name}
 use Rattle.hm_tree.specs.Spelling.{spelled}
 use Rattle.hm_terms.specs.Lenses.{Lens, DefinitionValue, identity, sequence, constant, hoist, plunge, fork, each, among, items, copy, merge, on_concrete, on_view, call}
@@ -11,12 +10,12 @@ use Rattle.hm_term_text.specs.Limits.{IsOversized}
 use Rattle.hm_term_text.specs.Written.{set_text, spelled_tree, is_sequence, opening, closing, term_text, pairs_text}
 use Rattle.hm_node_lines.specs.declared.token.Token.{Token}
 use Rattle.hm_node_lines.specs.declared.token.Token.TheVariants.{Word, Quoted, Question, Plus}
-use Rattle.hm_node_lines.specs.Tokens.{is_word, begins_word, token_text, IsToken, one, alone, before}
+use Rattle.hm_node_lines.specs.Tokens.{is_word, begins_word, IsToken, one, alone, before}
 use Rattle.hm_node_lines.specs.NodeLines.{edge_name}
 use Rattle.hm_node_lines.specs.WrittenNodes.{name_at}
 use Rattle.hm_node_lines.proofs.Laws.{is_true, not_word, word_utf8}
-use Rattle.hm_focal.specs.Front.{IsFrontWord, IsFrontEdge, IsGap, IsWordBefore}
-use Rattle.hm_focal.specs.OwnLines.{term, LensValue, AreEdges, last, more, IsPair, IsOption, AreOptions, no_option, an_option, IsFormat, IsHeader, IsHeaded, equals, word, IsTrimmed, IsLensLine, IsMainLine}
+use Rattle.hm_focal.specs.Front.{IsFrontEdge, IsGap, IsWordBefore}
+use Rattle.hm_focal.specs.OwnLines.{term, AreEdges, last, more, AreOptions, no_option, an_option, IsFormat, IsHeader, IsHeaded, equals, word, IsTrimmed, IsLensLine, IsMainLine}
 use Rattle.hm_focal.specs.Writing.{header_text, edges_text, option_text, format_text, definition_text, main_text}
 
 pub header_reads : IsHeader header_text

@@ -1,16 +1,16 @@
 -- What stands where among the lines of a file that was written.
-use Rattle.std.proofs.Common.{◌≡◌, ℕ, zero, suc, ◌<◌, List, [], ◌∷◌, ◌++◌, length, map, take, slice_get, filter_map, Some, refl, sym, ap, ◌∙◌, subst, arith}
+use Rattle.std.proofs.Common.{◌≡◌, ℕ, zero, suc, ◌<◌, List, [], ◌∷◌, ◌++◌, map, take, slice_get, filter_map, Some, refl, sym, ap, arith}
 use Rattle.std.specs.Prelude.{flat_map}
 use Rattle.std.specs.List.{Contains}
 use Rattle.std.proofs.lemmas.List.Elements.{Contains-append_right}
 use Rattle.std.proofs.lemmas.Option.{same_Some}
 use Rattle.hm_tree.specs.Names.{Name}
-use Rattle.hm_terms.specs.Lenses.{Lens, DefinitionValue}
+use Rattle.hm_terms.specs.Lenses.{DefinitionValue}
 use Rattle.hm_node_lines.specs.NodeLines.{NodeLineValue}
-use Rattle.hm_node_lines.specs.Entries.{EntryValue, unknown, says}
+use Rattle.hm_node_lines.specs.Entries.{unknown, says}
 use Rattle.hm_node_lines.specs.WrittenNodes.{name_at, SaysNothing}
-use Rattle.hm_node_lines.proofs.Laws.{at_place, from_place}
-use Rattle.hm_focal.specs.OwnLines.{BodyValue, term, LensValue, OwnValue, nothing, lens, main, lens_in, lens_names, named_nodes}
+use Rattle.hm_node_lines.proofs.Laws.{at_place}
+use Rattle.hm_focal.specs.OwnLines.{BodyValue, LensValue, OwnValue, nothing, lens, main, lens_in, lens_names, named_nodes}
 use Rattle.hm_focal.proofs.WrittenLines.{lens_line, own_line}
 
 abbrev Definitions : Type 0
@@ -18,6 +18,10 @@ Definitions = List (Name × DefinitionValue)
 
 abbrev pub name_of : Name × DefinitionValue → Name
 name_of v = v.0
+
+-- the nodes between which a definition goes
+abbrev pub ends_of : List Name → Name × DefinitionValue → List Name
+ends_of names v = name_at names v.1.source ∷ name_at names v.1.view ∷ []
 
 -- ---- entries
 
@@ -110,7 +114,7 @@ module _ (names : List Name) (b : BodyValue) where
   all_lens_names (x ∷ xs) ds = all_lens_names xs ds
 
   pub all_nodes : (xs : List NodeLineValue) (ds : Definitions)
-      → named_nodes (owns xs ds) ≡ flat_map (λ (v : Name × DefinitionValue). name_at names v.1.source ∷ name_at names v.1.view ∷ []) ds
+      → named_nodes (owns xs ds) ≡ flat_map (ends_of names) ds
   all_nodes [] [] = refl
   all_nodes [] (v ∷ ds) = ap (λ z. name_at names v.1.source ∷ name_at names v.1.view ∷ z) (all_nodes [] ds)
   all_nodes (x ∷ xs) ds = all_nodes xs ds

@@ -1,4 +1,4 @@
-//! The text of lens files: reading.
+//! The text of lens files: reading and writing.
 //!
 //! ```text
 //! file     = *skipped header *skipped format *( skipped / a line of a node ) *( skipped / lens ) main *skipped
@@ -12,6 +12,8 @@
 //! are; a term is as `hm_term_text` says. A file is read line by line, each as a line of a node and as one of the file's
 //! own; a line out of its place is neither, and declares nothing. The lines are judged one after another, up to the
 //! first bad one; where none is bad and the main line is there, they describe the program.
+//!
+//! A program that was read has one text (`specs/Writing`), which is read as the same program again.
 #![tactic(auto)]
 
 mod calls;

@@ -31,7 +31,8 @@ returns-clause-written c =
     ∙ ap (λ z. c.put_format.new.text.items ++ nodes_text z (map node_value c.deref-3.result.now)) c.deref-2.ensures.value
     ∙ ap (λ z. c.put_format.new.text.items ++ nodes_text c.args.program.now.options.type_names.items (map node_value z)) c.deref-3.ensures.value)
     (c.in_ok-put_definitions.ensures
-    ∙ ap (λ (z : List Name). c.append_nodes.new.text.items ++ flat_map (λ (d : Definition). ended (definition_text z (definition_value d))) c.deref-5.result.now)
+    ∙ ap (λ (z : List Name). c.append_nodes.new.text.items
+    ++ flat_map (λ (d : Definition). ended (definition_text z (definition_value d))) c.deref-5.result.now)
     c.deref-4.ensures.value
     ∙ ap (λ (z : List Definition). c.append_nodes.new.text.items
     ++ flat_map (λ (d : Definition). ended (definition_text c.args.program.now.options.type_names.items (definition_value d))) z)
