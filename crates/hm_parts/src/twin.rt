@@ -115,8 +115,8 @@ fn copied_child(tree: &Tree, name: &Name) -> Result<Tree, Memory>
     Ok(tree.child(name).unwrap().copy()?)
 }
 
-// A copy of a tree that may be missing.
-fn copied(tree: Option<&Tree>) -> Result<Option<Tree>, Memory>
+/// A copy of a tree that may be missing.
+pub fn copied(tree: Option<&Tree>) -> Result<Option<Tree>, Memory>
     ensures { IfOk result (λ copy. copy ≡ option_copied tree.entry) }
 {
     match tree {
