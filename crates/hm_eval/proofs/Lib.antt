@@ -1,6 +1,7 @@
 mod Paired
 mod Beside
 mod OnChildren
+mod Rows
 mod ShowSteps
 mod PutSteps
 mod PutItems

@@ -17,13 +17,9 @@ use Rattle.hm_terms.proofs.Rows.{each_items}
 use Rattle.hm_eval.specs.declared.children.Child.{Child}
 use Rattle.hm_eval.specs.Terms.{option_lens}
 use Rattle.hm_eval.specs.Conditions.{IsShown}
-use Rattle.hm_eval.specs.Children.{lens_for, edge_of, AreChildren}
+use Rattle.hm_eval.specs.Children.{lens_for, edge_of, AreChildren, IsOnChildren, on_each, on_among}
 use Rattle.hm_eval.proofs.Paired.{Paired, no_more, one_more}
 use Rattle.hm_eval.proofs.Beside.{NamedBy, beside_edges, IsBesideTree, beside_tree}
-
-pub data IsOnChildren : Lens → Type 0 where
-  on_each : {l : Lens} → IsOnChildren (each l)
-  on_among : {ls : _} → IsOnChildren (among ls)
 
 pub on_children : (t : Term) → ((b : Box Term Global) × (t ≡ Map b)) ⊎ ((v : Vec (Name × Term) Global) × (t ≡ Each v)) → IsOnChildren (lens_of t)
 on_children t (inl w) = subst IsOnChildren (sym (ap lens_of w.1)) on_each

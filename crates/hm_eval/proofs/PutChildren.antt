@@ -17,10 +17,10 @@ use Rattle.hm_terms.proofs.Maps.{beside}
 use Rattle.hm_eval.specs.declared.children.Child.{Child}
 use Rattle.hm_eval.specs.Terms.{option_lens}
 use Rattle.hm_eval.specs.Conditions.{IsPut}
-use Rattle.hm_eval.specs.Children.{lens_for, edge_of, AreChildren}
+use Rattle.hm_eval.specs.Children.{lens_for, edge_of, AreChildren, IsOnChildren, on_each, on_among}
 use Rattle.hm_eval.proofs.Paired.{Paired, none_paired, more_paired}
 use Rattle.hm_eval.proofs.Beside.{NamedBy, beside_edges, IsBesideTree, beside_tree}
-use Rattle.hm_eval.proofs.OnChildren.{IsOnChildren, on_each, on_among, over_edges, child_at, lens_here}
+use Rattle.hm_eval.proofs.OnChildren.{over_edges, child_at, lens_here}
 
 -- what is put of a child by the lens for it, if there is one
 abbrev pub PutsBy : Setting → Option Lens → Tree → Option Tree → Tree → Type 0

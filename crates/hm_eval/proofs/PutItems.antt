@@ -75,20 +75,17 @@ module _ (S : Setting) (l : Lens) where
     pub left : old ≡ behind xs b
     pub puts : PutsItems S l xs b ys
 
-  module _ (z : Lens) (v : Tree) (b : Option Tree) (e : z ≡ items l) (h : IsPut S z v b) where
-    whole : Puts S (items l) v b h.tree
-    whole = subst (λ z. Puts S z v b h.tree) e h.is
-
+  module _ (v : Tree) (b : Option Tree) (h : IsPut S (items l) v b) where
     pub items_list : IsList v
-    items_list = view_list v b h.tree whole
+    items_list = view_list v b h.tree h.is
 
     pub none_put : (ys : List Tree) → ys ≡ [] → IsPutSoFar b [] ys b
-    none_put ys none = record { left = refl; puts = subst (PutsItems S l [] b) (sym none) (puts_none (puts_of v b h.tree whole)) }
+    none_put ys none = record { left = refl; puts = subst (PutsItems S l [] b) (sym none) (puts_none (puts_of v b h.tree h.is)) }
 
     module _ (all : List Tree) (has : HasItems v all) (xs us : List Tree) (x : Tree) (cut : all ≡ xs ++ x ∷ us) (ys : List Tree) (old : Option Tree)
         (so : IsPutSoFar b xs ys old) where
       place : IsPutHere xs x b
-      place = let made = items_put v b h.tree all has whole in put_here xs us x b made.0 (subst (λ l2. PutsItems S l l2 b made.0) cut made.1)
+      place = let made = items_put v b h.tree all has h.is in put_here xs us x b made.0 (subst (λ l2. PutsItems S l l2 b made.0) cut made.1)
 
       pub old_list : IfSome old IsList
       old_list = subst (λ o. IfSome o IsList) (sym so.left) place.here
@@ -105,6 +102,6 @@ module _ (S : Setting) (l : Lens) where
       }
 
     pub items_puts : (all xs ys : List Tree) (old : Option Tree) (c : Tree) → HasItems v all → xs ≡ all → IsPutSoFar b xs ys old → HasItems c ys
-        → Puts S z v b c
+        → Puts S (items l) v b c
     items_puts all xs ys old c has taken so made =
-        subst (λ z. Puts S z v b c) (sym e) (items_of v b c all ys has (subst (λ l2. PutsItems S l l2 b ys) taken so.puts) made)
+        items_of v b c all ys has (subst (λ l2. PutsItems S l l2 b ys) taken so.puts) made

@@ -1,13 +1,13 @@
 -- What a lens shows, from what its parts show.
-use Rattle.std.proofs.Common.{◌≡◌, ℕ, ◌<◌, ◌-◌, ◌⊎◌, inl, inr, Box, cond, is_some, List, [], ◌∷◌, Option, Some, None, IsSome, slice_get, sym, ap, subst, ◌∙◌, refl, arith}
+use Rattle.std.proofs.Common.{◌≡◌, ℕ, ◌<◌, ◌+◌, ◌-◌, ◌*◌, Result, IfOk, ◌⊎◌, inl, inr, Box, cond, is_some, List, [], ◌∷◌, Option, Some, None, IsSome, slice_get, sym, ap, subst, ◌∙◌, refl, arith}
 use Rattle.std.proofs.lemmas.Option.{same_Some}
 use Rattle.hm_tree.specs.Names.{Name}
-use Rattle.hm_tree.specs.Nodes.{Tree, below}
+use Rattle.hm_tree.specs.Nodes.{Tree, below, without_edge}
 use Rattle.hm_tree.specs.Parts.{IsSplit, AreApart, Joins}
 use Rattle.hm_schema.specs.Values.{Names}
-use Rattle.hm_terms.specs.Lenses.{Lens, sequence, plunge, fork, items, on_concrete, on_view, call, Setting, body_of}
+use Rattle.hm_terms.specs.Lenses.{Lens, sequence, plunge, merge, fork, items, on_concrete, on_view, call, Setting, body_of}
 use Rattle.hm_terms.specs.Parts.{IsEdge, IsList, no_items, an_item, HasItems, none_left, and_then}
-use Rattle.hm_terms.specs.Shown.{Shows, by_sequence, by_plunge, by_fork, by_items_none, by_items_more, by_concrete_has, by_concrete_none, by_view_has, by_view_none, by_call}
+use Rattle.hm_terms.specs.Shown.{Shows, by_sequence, by_plunge, by_merge, by_fork, by_items_none, by_items_more, by_concrete_has, by_concrete_none, by_view_has, by_view_none, by_call}
 use Rattle.hm_terms.proofs.Maps.{one_head, one_tail, nil_item}
 use Rattle.hm_terms.proofs.OneShown.{one_shown}
 use Rattle.std.specs.declared.alloc.Global.{Global}
@@ -16,9 +16,15 @@ use Rattle.hm_terms.specs.Programs.{lens_of}
 use Rattle.hm_eval.specs.Conditions.{IsShown}
 use Rattle.hm_eval.proofs.Paired.{Paired, no_more, one_more, paired_at}
 
--- one level of recursion less
-pub fewer : (levels t : ℕ) → levels ≡ t → (levels ≡ 0 → ⊥) → levels - 1 < t
+-- levels of recursion: a term inside has one less, and the function of a row comes between
+pub row_falls : (levels t : ℕ) → 2 * levels ≡ t → (levels ≡ 0 → ⊥) → 2 * (levels - 1) + 1 < t
+row_falls levels t e some = omega arith
+
+pub fewer : (levels t : ℕ) → 2 * levels ≡ t → (levels ≡ 0 → ⊥) → 2 * (levels - 1) < t
 fewer levels t e some = omega arith
+
+pub inner_falls : (levels t : ℕ) → 2 * levels + 1 ≡ t → 2 * levels < t
+inner_falls levels t e = omega arith
 
 module _ (S : Setting) where
   pub same_shown : (l k : Lens) (c : Tree) → l ≡ k → IsShown S k c → IsShown S l c
@@ -27,41 +33,44 @@ module _ (S : Setting) where
   pub same_shows : (l k : Lens) (c v : Tree) → k ≡ l → Shows S k c v → Shows S l c v
   same_shows l k c v e h = subst (λ l. Shows S l c v) e h
 
+  pub row_shows : {E : Type 0} (r : Result Tree E) (l k : Lens) (c : Tree) → k ≡ l → IfOk r (Shows S k c) → IfOk r (Shows S l c)
+  row_shows r l k c e h = subst (λ l. IfOk r (Shows S l c)) e h
+
   -- ---- sequence
-  pub first_shown : (l k z : Lens) (c : Tree) → z ≡ sequence l k → IsShown S z c → IsShown S l c
-  first_shown l k z c e h = go (subst (λ z. Shows S z c h.tree) e h.is)
+  pub first_shown : (l k : Lens) (c : Tree) → IsShown S (sequence l k) c → IsShown S l c
+  first_shown l k c h = go h.is
     where
       go : Shows S (sequence l k) c h.tree → IsShown S l c
       go (by_sequence {m = m} p q) = record { tree = m; is = p }
 
-  pub second_shown : (l k z : Lens) (c m : Tree) → z ≡ sequence l k → IsShown S z c → Shows S l c m → IsShown S k m
-  second_shown l k z c m e h s = go (subst (λ z. Shows S z c h.tree) e h.is)
+  pub second_shown : (l k : Lens) (c m : Tree) → IsShown S (sequence l k) c → Shows S l c m → IsShown S k m
+  second_shown l k c m h s = go h.is
     where
       go : Shows S (sequence l k) c h.tree → IsShown S k m
       go (by_sequence p q) = record { tree = h.tree; is = subst (λ m. Shows S k m h.tree) (one_shown S p s) q }
 
-  pub sequence_shows : (l k z : Lens) (c m v : Tree) → z ≡ sequence l k → Shows S l c m → Shows S k m v → Shows S z c v
-  sequence_shows l k z c m v e p q = subst (λ z. Shows S z c v) (sym e) (by_sequence p q)
+  pub merge_shows : (m n : Name) (z : Lens) (c v : Tree) → z ≡ merge m n → v ≡ without_edge n c → Shows S z c v
+  merge_shows m n z c v e is = subst (λ z. Shows S z c v) (sym e) (by_merge is)
 
   pub plunge_shows : (n m : Name) (z : Lens) (c v : Tree) → z ≡ plunge n → m ≡ n → IsEdge m c v → Shows S z c v
   plunge_shows n m z c v e same p = subst (λ z. Shows S z c v) (sym e) (by_plunge (subst (λ (n : Name). IsEdge n c v) same p))
 
   -- ---- fork
-  module _ (P Q : Names) (l k z : Lens) (c : Tree) (parts : Tree × Tree) (e : z ≡ fork P Q l k) (s : IsSplit P c parts) where
-    pub inside_shown : IsShown S z c → IsShown S l parts.0
-    inside_shown h = go (subst (λ z. Shows S z c h.tree) e h.is)
+  module _ (P Q : Names) (l k : Lens) (c : Tree) (parts : Tree × Tree) (s : IsSplit P c parts) where
+    pub inside_shown : IsShown S (fork P Q l k) c → IsShown S l parts.0
+    inside_shown h = go h.is
       where
         go : Shows S (fork P Q l k) c h.tree → IsShown S l parts.0
         go (by_fork {x = x} p q j) = record { tree = x; is = subst (λ c. Shows S l c x) (sym s.inside) p }
 
-    pub outside_shown : IsShown S z c → IsShown S k parts.1
-    outside_shown h = go (subst (λ z. Shows S z c h.tree) e h.is)
+    pub outside_shown : IsShown S (fork P Q l k) c → IsShown S k parts.1
+    outside_shown h = go h.is
       where
         go : Shows S (fork P Q l k) c h.tree → IsShown S k parts.1
         go (by_fork {y = y} p q j) = record { tree = y; is = subst (λ c. Shows S k c y) (sym s.outside) q }
 
-    pub apart_shown : (x y : Tree) → IsShown S z c → Shows S l parts.0 x → Shows S k parts.1 y → AreApart x y
-    apart_shown x y h p q = go (subst (λ z. Shows S z c h.tree) e h.is)
+    pub apart_shown : (x y : Tree) → IsShown S (fork P Q l k) c → Shows S l parts.0 x → Shows S k parts.1 y → AreApart x y
+    apart_shown x y h p q = go h.is
       where
         go : Shows S (fork P Q l k) c h.tree → AreApart x y
         go (by_fork {x = u} {y = w} r t j) =
@@ -69,9 +78,8 @@ module _ (S : Setting) where
             let two : w ≡ y = one_shown S t (subst (λ c. Shows S k c y) s.outside q) in
             subst (AreApart x) two (subst (λ x. AreApart x w) one j.apart)
 
-    pub fork_shows : (x y v : Tree) → Shows S l parts.0 x → Shows S k parts.1 y → Joins x y v → Shows S z c v
-    fork_shows x y v p q j = subst (λ z. Shows S z c v) (sym e)
-        (by_fork (subst (λ c. Shows S l c x) s.inside p) (subst (λ c. Shows S k c y) s.outside q) j)
+    pub fork_shows : (x y v : Tree) → Shows S l parts.0 x → Shows S k parts.1 y → Joins x y v → Shows S (fork P Q l k) c v
+    fork_shows x y v p q j = by_fork (subst (λ c. Shows S l c x) s.inside p) (subst (λ c. Shows S k c y) s.outside q) j
 
   -- ---- the first lens where the tree has a name
   module _ (n : Name) (l k : Lens) (c : Tree) where
@@ -143,8 +151,8 @@ module _ (S : Setting) where
   shown_list l c v (by_items_none none e) = no_items none
   shown_list l c v (by_items_more {t = t} {r = r} is p q e) = an_item is tt (shown_list l t r q)
 
-  pub items_list : (l z : Lens) (c : Tree) → z ≡ items l → IsShown S z c → IsList c
-  items_list l z c e h = shown_list l c h.tree (subst (λ z. Shows S z c h.tree) e h.is)
+  pub items_list : (l : Lens) (c : Tree) → IsShown S (items l) c → IsList c
+  items_list l c h = shown_list l c h.tree h.is
 
   items_shown : (l : Lens) (c v : Tree) (xs : List Tree) → HasItems c xs → Shows S (items l) c v → (ys : List Tree) × Paired (Shows S l) xs ys
   items_shown l c v xs (none_left none) (by_items_none e f) = ([], no_more)
@@ -155,10 +163,10 @@ module _ (S : Setting) where
       let behind = items_shown l r s xs1 rest (subst (λ t. Shows S (items l) t s) tails q) in
       (y ∷ behind.0, one_more (subst (λ h. Shows S l h y) (one_head h t x r c other is) p) behind.1)
 
-  pub item_shown : (l z : Lens) (c : Tree) (xs : List Tree) (i : ℕ) (x : Tree) → z ≡ items l → HasItems c xs → slice_get xs i ≡ Some x → IsShown S z c
+  pub item_shown : (l : Lens) (c : Tree) (xs : List Tree) (i : ℕ) (x : Tree) → HasItems c xs → slice_get xs i ≡ Some x → IsShown S (items l) c
       → IsShown S l x
-  item_shown l z c xs i x e has at h =
-      let ys = items_shown l c h.tree xs has (subst (λ z. Shows S z c h.tree) e h.is) in
+  item_shown l c xs i x has at h =
+      let ys = items_shown l c h.tree xs has h.is in
       let y = paired_at xs ys.0 i x ys.1 at in
       record { tree = y.0; is = y.1 }
 
@@ -167,7 +175,6 @@ module _ (S : Setting) where
   items_of l c v xs ys (and_then {r = r} {xs = us} is rest) (one_more {ys = ws} s p) (and_then {r = q} {xs = ws2} made more) =
       by_items_more is s (items_of l r q us ws rest p more) made
 
-  pub items_show : (l z : Lens) (c v : Tree) (xs us ys : List Tree) → z ≡ items l → HasItems c xs → us ≡ xs → Paired (Shows S l) us ys → HasItems v ys
-      → Shows S z c v
-  items_show l z c v xs us ys e has taken p made =
-      subst (λ z. Shows S z c v) (sym e) (items_of l c v xs ys has (subst (λ l2. Paired (Shows S l) l2 ys) taken p) made)
+  pub items_show : (l : Lens) (c v : Tree) (xs us ys : List Tree) → HasItems c xs → us ≡ xs → Paired (Shows S l) us ys → HasItems v ys
+      → Shows S (items l) c v
+  items_show l c v xs us ys has taken p made = items_of l c v xs ys has (subst (λ l2. Paired (Shows S l) l2 ys) taken p) made

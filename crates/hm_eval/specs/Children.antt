@@ -13,6 +13,11 @@ lens_for (each l) n = Some l
 lens_for (among ls) n = lens_at n ls
 lens_for _ n = None
 
+-- a lens on the children of a tree
+pub data IsOnChildren : Lens → Type 0 where
+  on_each : {l : Lens} → IsOnChildren (each l)
+  on_among : {ls : _} → IsOnChildren (among ls)
+
 -- one lens for a name, and others for other names
 abbrev pub given : Name → Lens → (Name → Option Lens) → Name → Option Lens
 given k l by n = cond (eq_by_cmp name_cmp n k) (Some l) (by n)

@@ -1,5 +1,5 @@
 //! Trees from before, which may be missing.
-ghost use Rattle.std.specs.Prelude.{◌≡◌, T, IfOk, IfSome, cond, is_some, option_copied};
+ghost use Rattle.std.specs.Prelude.{◌≡◌, T, IfOk, IfSome, cond, is_some};
 ghost use Rattle.std.specs.FinMap.{find, is_sorted};
 ghost use Rattle.hm_tree.specs.Archives.{under};
 ghost use Rattle.hm_tree.specs.Names.{name_cmp, Name as NameValue};
@@ -11,16 +11,6 @@ use hm_parts::take_first;
 use hm_tree::{Memory, Name, NameSet, Tree};
 use std::alloc::Global;
 use std::collections::VecDeque;
-
-/// A copy of a tree from before.
-pub fn copied(before: Option<&Tree>) -> Result<Option<Tree>, Memory>
-    ensures { IfOk result (λ tree. tree ≡ option_copied before.entry) }
-{
-    match before {
-        Some(tree) => Ok(Some(tree.copy()?)),
-        None => Ok(None),
-    }
-}
 
 /// The tree from before, or a copy of another one.
 pub fn before_else(before: Option<Tree>, default: &Tree) -> Result<Tree, Memory>

@@ -8,6 +8,7 @@ mod before;
 mod bodies;
 mod children;
 mod putting;
+mod run;
 mod show;
 mod stages;
 

@@ -6,10 +6,10 @@ ghost use Rattle.hm_eval.specs.Conditions.{IsShownBefore};
 ghost use Rattle.hm_eval.specs.Stages.{AddsStages, CanPut, PutThrough};
 ghost use Rattle.hm_eval.specs.Terms.{setting_by, IsIndex};
 
+use crate::run::Run;
 use crate::show::show;
-use hm_terms::{Definition, Term};
-use hm_text_lens::TextLens;
-use hm_tree::{Memory, Name, Tree};
+use hm_terms::Term;
+use hm_tree::{Memory, Tree};
 use std::alloc::Global;
 
 /// The stages of a sequence, however it is nested, each with what the stages before it show of the tree from before. No
@@ -17,15 +17,13 @@ use std::alloc::Global;
 pub fn stages_before<'a>(
     alloc: Global,
     levels: u64,
-    texts: &[Box<dyn TextLens>],
-    definitions: &[Definition],
-    bodies: &[(Name, &Term)],
+    run: &Run,
     term: &'a Term,
     before: Option<Tree>,
 ) -> Result<Vec<(&'a Term, Option<Tree>)>, Memory>
-    requires index { IsIndex definitions.now bodies.now }
-    requires put { CanPut (setting_by definitions.now) (lens_of term.now) before }
-    ensures { IfOk result (λ stages. PutThrough (setting_by definitions.now) (lens_of term.now) before stages.items) }
+    requires index { IsIndex run.now.definitions.now run.now.bodies.now }
+    requires put { CanPut (setting_by run.now.definitions.now) (lens_of term.now) before }
+    ensures { IfOk result (λ stages. PutThrough (setting_by run.now.definitions.now) (lens_of term.now) before stages.items) }
 {
     let mut stages = Vec::new(alloc);
     add_stages(&mut stages, term)?;
@@ -35,7 +33,7 @@ pub fn stages_before<'a>(
     let mut passed = Vec::with_capacity(alloc, stages.len())?;
     let mut here = before;
     for stage in &stages {
-        let next = show_before(levels, texts, definitions, bodies, stage, here.as_ref())?;
+        let next = show_before(levels, run, stage, here.as_ref())?;
         passed.push((*stage, here))?;
         here = next;
     }
@@ -60,18 +58,16 @@ fn add_stages<'a>(stages: &mut Vec<&'a Term>, term: &'a Term) -> Result<(), Memo
 // What a lens shows of a tree from before, if there is one.
 fn show_before(
     levels: u64,
-    texts: &[Box<dyn TextLens>],
-    definitions: &[Definition],
-    bodies: &[(Name, &Term)],
+    run: &Run,
     term: &Term,
     before: Option<&Tree>,
 ) -> Result<Option<Tree>, Memory>
-    requires index { IsIndex definitions.now bodies.now }
-    requires shown { IsShownBefore (setting_by definitions.now) (lens_of term.now) (option_copied before) }
-    ensures { IfOk result (ShowsBefore (setting_by definitions.now) (lens_of term.now) (option_copied before.entry)) }
+    requires index { IsIndex run.now.definitions.now run.now.bodies.now }
+    requires shown { IsShownBefore (setting_by run.now.definitions.now) (lens_of term.now) (option_copied before) }
+    ensures { IfOk result (ShowsBefore (setting_by run.now.definitions.now) (lens_of term.now) (option_copied before.entry)) }
 {
     match before {
-        Some(tree) => Ok(Some(show(levels, texts, definitions, bodies, term, tree.copy()?)?)),
+        Some(tree) => Ok(Some(show(levels, run, term, tree.copy()?)?)),
         None => Ok(None),
     }
 }

@@ -6,5 +6,5 @@ use Rattle.hm_eval.proofs.StageSteps.{ArePassed}
 use Rattle.hm_eval.proofs.stages.stages_before.Given as goal
 
 abbrev pub invariant-loop-stage : goal.invariant-loop-stage
-invariant-loop-stage g l =
-    ArePassed (setting_by l.definitions) (lens_of l.term) l.fn.before (lenses (drop l.stage-index l.stage-items)) (lens_of l.last) l.here l.passed.items
+invariant-loop-stage l =
+    ArePassed (setting_by l.run.definitions.now) (lens_of l.term) l.fn.before (lenses (drop l.stage-index l.stage-items)) (lens_of l.last) l.here l.passed.items
