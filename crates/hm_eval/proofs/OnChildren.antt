@@ -9,7 +9,7 @@ use Rattle.hm_tree.specs.Nodes.{Tree, node, edges, below, are_edges}
 use Rattle.hm_tree.specs.NodeLaws.{edges_are}
 use Rattle.hm_tree.proofs.Sorted.{below_edge}
 use Rattle.hm_terms.specs.declared.term.Term.{Term, Map, Each}
-use Rattle.hm_terms.specs.Lenses.{Lens, each, among, lens_at, Setting}
+use Rattle.hm_terms.specs.Lenses.{Lens, lens_at, Setting}
 use Rattle.hm_terms.specs.Programs.{lens_of}
 use Rattle.hm_terms.specs.Shown.{Shows, by_each, by_among}
 use Rattle.hm_terms.proofs.Maps.{beside}

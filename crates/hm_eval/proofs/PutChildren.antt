@@ -80,14 +80,15 @@ module _ (S : Setting) where
       → ((k : Name) → find name_cmp k rest ≡ under k b) → IsPutSoFar S b [] made rest
   none_put b made rest e s f = record { paired = none_paired made e; sorted = s; left = λ k h. f k }
 
-  pub more_put : (b : Option Tree) (xs : List (Name × Child)) (made more rest left : List (Name × Tree)) (k : Name) (x : Child) (y : Tree)
-      → IsPutSoFar S b xs made rest → PutsBy S (option_lens x.lens) x.tree (under k b) y → more ≡ made ++ (k, y) ∷ [] → T (is_sorted name_cmp left)
-      → ((q : Name) → name_cmp k q ≡ Less → find name_cmp q left ≡ find name_cmp q rest) → IsPutSoFar S b (xs ++ (k, x) ∷ []) more left
-  more_put b xs made more rest left k x y so p e s f = record {
+  pub more_put : (b : Option Tree) (xs : List (Name × Child)) (made more rest taken left : List (Name × Tree)) (k : Name) (x : Child) (y : Tree)
+      → IsPutSoFar S b xs made rest → PutsBy S (option_lens x.lens) x.tree (under k b) y → more ≡ made ++ (k, y) ∷ [] → left ≡ taken
+      → T (is_sorted name_cmp taken) → ((q : Name) → name_cmp k q ≡ Less → find name_cmp q taken ≡ find name_cmp q rest)
+      → IsPutSoFar S b (xs ++ (k, x) ∷ []) more left
+  more_put b xs made more rest taken left k x y so p e same s f = subst (IsPutSoFar S b (xs ++ (k, x) ∷ []) more) (sym same) (record {
     paired = more_paired xs made more (k, x) (k, y) so.paired (record { name = refl; put = p }) e;
     sorted = s;
     left = λ q h. let parts = before_last xs k q x h in f q parts.1 ∙ so.left q parts.0;
-  }
+  })
 
   abbrev PutsFor : Lens → Option Tree → Name → Tree → Tree → Type 0
   PutsFor z b k x y = PutsBy S (lens_for z k) x (under k b) y

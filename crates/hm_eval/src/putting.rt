@@ -233,9 +233,11 @@ fn put_children(
     let mut edges = Vec::with_capacity(shown.allocator(), shown.count())?;
     let mut rest = edges_before(shown.allocator(), before);
     for (name, child) in children(term, shown)? {
-        let old = take_under(&mut rest, &name);
         let tree = match child.lens {
-            Some(lens) => put_by(levels, run, lens, child.tree, old)?,
+            Some(lens) => {
+                let old = take_under(&mut rest, &name);
+                put_by(levels, run, lens, child.tree, old)?
+            }
             None => child.tree,
         };
         edges.push((name, tree))?;

@@ -1,4 +1,4 @@
-use Rattle.std.proofs.Common.{rules, ap, ◌∙◌, arith}
+use Rattle.std.proofs.Common.{rules, refl, ap, deque_items, ◌∙◌, arith}
 use Rattle.std.proofs.lemmas.Iterator.Adapters.{YieldsList-from_vec}
 use Rattle.std.proofs.lemmas.Result.{IfOk-weaker}
 use Rattle.hm_terms.specs.Programs.{lens_of}
@@ -6,7 +6,7 @@ use Rattle.hm_eval.proofs.Paired.{next_at, next_cut, all_taken}
 use Rattle.hm_eval.proofs.OnChildren.{on_children}
 use Rattle.hm_eval.proofs.Rows.{row_fork, row_concrete, row_view, row_items}
 use Rattle.hm_eval.proofs.ShowSteps.{row_falls, fewer, inner_falls}
-use Rattle.hm_eval.proofs.PutSteps.{same_put, row_puts, hoist_puts, has_first, lacks_second, had_both, merge_puts, inside_put, outside_put, apart_put, fork_puts, concrete_put, concrete_puts, view_put, view_puts, called_put, call_puts}
+use Rattle.hm_eval.proofs.PutSteps.{same_put, row_puts, hoist_puts, had_both, merge_puts, inside_put, outside_put, apart_put, fork_puts, concrete_put, concrete_puts, view_put, view_puts, called_put, call_puts}
 use Rattle.hm_eval.proofs.PutItems.{items_list, none_put, old_list, item_put, one_put_more, items_puts}
 use Rattle.hm_eval.proofs.PutChildren.{none_put as none_under, more_put, next_before, child_put, put_edges, children_put, put_by_lens, put_by_none}
 use Rattle.hm_eval.proofs.StageSteps.{here_put, one_back, back_done, seq_puts}
@@ -217,50 +217,24 @@ put_children-put_by-requires t c =
       ),
     )
 
-pub put_children-loop-name-preserved-in_ok-push : goal.put_children-loop-name-preserved-in_ok-push
-put_children-loop-name-preserved-in_ok-push t c =
-    let all = c.in_ok-items.items.items in
-    let road = YieldsList-from_vec {s = c.into_iter-name-iterator.result} all (search rules) (search rules) in
-    let w = next_cut all road c.loop-name.yielded c.loop-name.name-iterator c.loop-name.yielded_by c.next.result c.next.new.self
-    c.next.ensures.steps _ c.in-Some.is in
-    let old = c.take_under-old.ensures.taken ∙ c.loop-name.invariant.left c.in-Some.name
-    (next_before _ _ _ _ _ _ c.in-Some.child c.in_ok-items.ensures w.1) in
-    more_put _ _ _ _ _ _ _ c.in-Some.name c.in-Some.child c.match-child.tree c.loop-name.invariant
-    (elim c.match-child.branch [
-      | put_children-in-Some-lens+in_ok-tree-in-Some-lens w ↦ put_by_lens _ _ _ _ _ _ _ _ w.in-Some-lens.is w.tree-is old w.in_ok-tree-in-Some-lens.ensures
-      | put_children-in-None-lens w ↦ put_by_none _ _ _ _ _ w.in-None-lens.is w.tree-is
-    ])
-    c.in_ok-push.ensures.items c.take_under-old.ensures.sorted c.take_under-old.ensures.later
-
-pub put_children-loop-name-preserved-in_ok-push-2 : goal.put_children-loop-name-preserved-in_ok-push-2
-put_children-loop-name-preserved-in_ok-push-2 t c =
-    let all = c.in_ok-items.items.items in
-    let road = YieldsList-from_vec {s = c.into_iter-name-iterator.result} all (search rules) (search rules) in
-    let w = next_cut all road c.loop-name.yielded c.loop-name.name-iterator c.loop-name.yielded_by c.next.result c.next.new.self
-    c.next.ensures.steps _ c.in-Some.is in
-    let old = c.take_under-old.ensures.taken ∙ c.loop-name.invariant.left c.in-Some.name
-    (next_before _ _ _ _ _ _ c.in-Some.child c.in_ok-items.ensures w.1) in
-    more_put _ _ _ _ _ _ _ c.in-Some.name c.in-Some.child c.match-child.tree c.loop-name.invariant
-    (elim c.match-child.branch [
-      | put_children-in-Some-lens+in_ok-tree-in-Some-lens w ↦ put_by_lens _ _ _ _ _ _ _ _ w.in-Some-lens.is w.tree-is old w.in_ok-tree-in-Some-lens.ensures
-      | put_children-in-None-lens w ↦ put_by_none _ _ _ _ _ w.in-None-lens.is w.tree-is
-    ])
-    c.in_ok-push.ensures.items c.take_under-old.ensures.sorted c.take_under-old.ensures.later
-
 pub put_children-loop-name-preserved : goal.put_children-loop-name-preserved
 put_children-loop-name-preserved t c =
     let all = c.in_ok-items.items.items in
     let road = YieldsList-from_vec {s = c.into_iter-name-iterator.result} all (search rules) (search rules) in
     let w = next_cut all road c.loop-name.yielded c.loop-name.name-iterator c.loop-name.yielded_by c.next.result c.next.new.self
     c.next.ensures.steps _ c.in-Some.is in
-    let old = c.take_under-old.ensures.taken ∙ c.loop-name.invariant.left c.in-Some.name
-    (next_before _ _ _ _ _ _ c.in-Some.child c.in_ok-items.ensures w.1) in
-    more_put _ _ _ _ _ _ _ c.in-Some.name c.in-Some.child c.match-child.tree c.loop-name.invariant
-    (elim c.match-child.branch [
-      | put_children-in-Some-lens+in_ok-tree-in-Some-lens w ↦ put_by_lens _ _ _ _ _ _ _ _ w.in-Some-lens.is w.tree-is old w.in_ok-tree-in-Some-lens.ensures
-      | put_children-in-None-lens w ↦ put_by_none _ _ _ _ _ w.in-None-lens.is w.tree-is
-    ])
-    c.in_ok-push.ensures.items c.take_under-old.ensures.sorted c.take_under-old.ensures.later
+    let left = c.loop-name.invariant.left c.in-Some.name (next_before _ _ _ _ _ _ c.in-Some.child c.in_ok-items.ensures w.1) in
+    elim c.match-child.branch [
+      | put_children-in-Some-lens+in_ok-tree-in-Some-lens w ↦
+          more_put _ _ _ _ _ _ _ _ c.in-Some.name c.in-Some.child c.match-child.tree c.loop-name.invariant
+          (put_by_lens _ _ _ _ _ _ _ _ w.in-Some-lens.is w.tree-is (w.take_under-old.ensures.taken ∙ left) w.in_ok-tree-in-Some-lens.ensures)
+          c.in_ok-push.ensures.items
+          (ap deque_items w.rest-is) w.take_under-old.ensures.sorted w.take_under-old.ensures.later
+      | put_children-in-None-lens w ↦
+          more_put _ _ _ _ _ _ _ _ c.in-Some.name c.in-Some.child c.match-child.tree c.loop-name.invariant
+          (put_by_none _ _ _ _ _ w.in-None-lens.is w.tree-is) c.in_ok-push.ensures.items
+          (ap deque_items w.rest-is) c.loop-name.invariant.sorted (λ q less. refl)
+    ]
 
 pub put_children-of_edges-requires : goal.put_children-of_edges-requires
 put_children-of_edges-requires t c =

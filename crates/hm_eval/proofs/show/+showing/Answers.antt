@@ -1,4 +1,4 @@
-use Rattle.std.proofs.Common.{rules, refl, ap, sym}
+use Rattle.std.proofs.Common.{rules, refl, ap}
 use Rattle.std.proofs.lemmas.Iterator.Adapters.{YieldsList-from_vec}
 use Rattle.std.proofs.lemmas.Result.{IfOk-weaker}
 use Rattle.hm_terms.specs.Programs.{lens_of}
