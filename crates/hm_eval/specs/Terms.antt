@@ -5,6 +5,7 @@ use Rattle.std.specs.FinMap.{find, is_sorted}
 use Rattle.hm_tree.specs.Names.{Name, name_cmp}
 use Rattle.hm_terms.specs.declared.term.Term.{Term}
 use Rattle.hm_terms.specs.declared.term.Definition.{Definition}
+use Rattle.hm_eval.specs.declared.run.Run.{Run}
 use Rattle.hm_terms.specs.Lenses.{Lens, Setting, body_of}
 use Rattle.hm_terms.specs.Programs.{lens_of, definition_value}
 
@@ -20,3 +21,10 @@ setting_by ds = record { definitions = map definition_value ds }
 pub record IsIndex (ds : List Definition) (bodies : List (Name × Bor Term)) : Type 0 where
   pub sorted : T (is_sorted name_cmp bodies)
   pub all : (n : Name) → option_lens (find name_cmp n bodies) ≡ body_of (setting_by ds) n
+
+-- what the lenses of a run are read in
+abbrev pub setting_in : Run → Setting
+setting_in r = setting_by r.definitions.now
+
+abbrev pub IsIndexed : Run → Type 0
+IsIndexed r = IsIndex r.definitions.now r.bodies.now

@@ -5,7 +5,7 @@ ghost use Rattle.hm_terms.specs.Programs.{lens_of, program_value, setting_of};
 ghost use Rattle.hm_terms.specs.Put.{Puts};
 ghost use Rattle.hm_eval.specs.Children.{IsOnChildren};
 ghost use Rattle.hm_eval.specs.Conditions.{IsPut};
-ghost use Rattle.hm_eval.specs.Terms.{setting_by, IsIndex};
+ghost use Rattle.hm_eval.specs.Terms.{setting_in, IsIndexed};
 
 use crate::before::{before_else, before_where, edges_before, item_before, parts_before};
 use crate::bodies::{bodies_of, body};
@@ -50,9 +50,9 @@ fn put_by(
     shown: Tree,
     before: Option<Tree>,
 ) -> Result<Tree, Memory>
-    requires index { IsIndex run.now.definitions.now run.now.bodies.now }
-    requires put { IsPut (setting_by run.now.definitions.now) (lens_of term.now) shown before }
-    ensures { IfOk result (Puts (setting_by run.now.definitions.now) (lens_of term.now) shown before) }
+    requires index { IsIndexed run.now }
+    requires put { IsPut (setting_in run.now) (lens_of term.now) shown before }
+    ensures { IfOk result (Puts (setting_in run.now) (lens_of term.now) shown before) }
 {
     if levels == 0 {
         return Err(Memory);
@@ -118,9 +118,9 @@ fn put_sequence(
     shown: Tree,
     before: Option<Tree>,
 ) -> Result<Tree, Memory>
-    requires index { IsIndex run.now.definitions.now run.now.bodies.now }
-    requires put { IsPut (setting_by run.now.definitions.now) (lens_of term.now) shown before }
-    ensures { IfOk result (Puts (setting_by run.now.definitions.now) (lens_of term.now) shown before) }
+    requires index { IsIndexed run.now }
+    requires put { IsPut (setting_in run.now) (lens_of term.now) shown before }
+    ensures { IfOk result (Puts (setting_in run.now) (lens_of term.now) shown before) }
 {
     let mut stages = stages_before(shown.allocator(), levels, run, term, before)?;
     let mut made = shown;
@@ -142,9 +142,9 @@ fn put_fork(
     shown: Tree,
     before: Option<Tree>,
 ) -> Result<Tree, Memory>
-    requires index { IsIndex run.now.definitions.now run.now.bodies.now }
-    requires put { IsPut (setting_by run.now.definitions.now) (fork concrete.now names.now (lens_of inside.now) (lens_of outside.now)) shown before }
-    ensures { IfOk result (Puts (setting_by run.now.definitions.now) (fork concrete.now names.now (lens_of inside.now) (lens_of outside.now)) shown before) }
+    requires index { IsIndexed run.now }
+    requires put { IsPut (setting_in run.now) (fork concrete.now names.now (lens_of inside.now) (lens_of outside.now)) shown before }
+    ensures { IfOk result (Puts (setting_in run.now) (fork concrete.now names.now (lens_of inside.now) (lens_of outside.now)) shown before) }
 {
     let (within, without) = shown.into_parts(names)?;
     let (old_within, old_without) = parts_before(before, concrete)?;
@@ -164,9 +164,9 @@ fn put_by_concrete(
     shown: Tree,
     before: Option<Tree>,
 ) -> Result<Tree, Memory>
-    requires index { IsIndex run.now.definitions.now run.now.bodies.now }
-    requires put { IsPut (setting_by run.now.definitions.now) (on_concrete name.now (lens_of yes.now) (lens_of no.now)) shown before }
-    ensures { IfOk result (Puts (setting_by run.now.definitions.now) (on_concrete name.now (lens_of yes.now) (lens_of no.now)) shown before) }
+    requires index { IsIndexed run.now }
+    requires put { IsPut (setting_in run.now) (on_concrete name.now (lens_of yes.now) (lens_of no.now)) shown before }
+    ensures { IfOk result (Puts (setting_in run.now) (on_concrete name.now (lens_of yes.now) (lens_of no.now)) shown before) }
 {
     let lens = chosen(before.as_ref(), name, yes, no);
     put_by(levels, run, lens, shown, before)
@@ -184,9 +184,9 @@ fn put_by_view(
     shown: Tree,
     before: Option<Tree>,
 ) -> Result<Tree, Memory>
-    requires index { IsIndex run.now.definitions.now run.now.bodies.now }
-    requires put { IsPut (setting_by run.now.definitions.now) (on_view name.now mark.now (lens_of yes.now) (lens_of no.now)) shown before }
-    ensures { IfOk result (Puts (setting_by run.now.definitions.now) (on_view name.now mark.now (lens_of yes.now) (lens_of no.now)) shown before) }
+    requires index { IsIndexed run.now }
+    requires put { IsPut (setting_in run.now) (on_view name.now mark.now (lens_of yes.now) (lens_of no.now)) shown before }
+    ensures { IfOk result (Puts (setting_in run.now) (on_view name.now mark.now (lens_of yes.now) (lens_of no.now)) shown before) }
 {
     let lens = chosen(Some(&shown), mark, yes, no);
     let old = before_where(before, name, has(Some(&shown), mark));
@@ -202,9 +202,9 @@ fn put_list(
     shown: Tree,
     before: Option<Tree>,
 ) -> Result<Tree, Memory>
-    requires index { IsIndex run.now.definitions.now run.now.bodies.now }
-    requires put { IsPut (setting_by run.now.definitions.now) (items (lens_of inner.now)) shown before }
-    ensures { IfOk result (Puts (setting_by run.now.definitions.now) (items (lens_of inner.now)) shown before) }
+    requires index { IsIndexed run.now }
+    requires put { IsPut (setting_in run.now) (items (lens_of inner.now)) shown before }
+    ensures { IfOk result (Puts (setting_in run.now) (items (lens_of inner.now)) shown before) }
 {
     let mut made = Vec::new(shown.allocator());
     let mut old = before;
@@ -225,10 +225,10 @@ fn put_children(
     shown: Tree,
     before: Option<Tree>,
 ) -> Result<Tree, Memory>
-    requires index { IsIndex run.now.definitions.now run.now.bodies.now }
+    requires index { IsIndexed run.now }
     requires kind { IsOnChildren (lens_of term.now) }
-    requires put { IsPut (setting_by run.now.definitions.now) (lens_of term.now) shown before }
-    ensures { IfOk result (Puts (setting_by run.now.definitions.now) (lens_of term.now) shown before) }
+    requires put { IsPut (setting_in run.now) (lens_of term.now) shown before }
+    ensures { IfOk result (Puts (setting_in run.now) (lens_of term.now) shown before) }
 {
     let mut edges = Vec::with_capacity(shown.allocator(), shown.count())?;
     let mut rest = edges_before(shown.allocator(), before);

@@ -6,7 +6,7 @@ ghost use Rattle.hm_terms.specs.Programs.{lens_of, program_value, setting_of};
 ghost use Rattle.hm_terms.specs.Shown.{Shows};
 ghost use Rattle.hm_eval.specs.Children.{IsOnChildren};
 ghost use Rattle.hm_eval.specs.Conditions.{IsShown};
-ghost use Rattle.hm_eval.specs.Terms.{setting_by, IsIndex};
+ghost use Rattle.hm_eval.specs.Terms.{setting_in, IsIndexed};
 
 use crate::bodies::{bodies_of, body};
 use crate::children::{children, chosen};
@@ -32,9 +32,9 @@ pub fn get(program: &Program, texts: &[Box<dyn TextLens>], concrete: &Tree) -> R
 /// What a lens shows of a tree, by so many levels of recursion at most.
 #[cycle(showing)]
 pub fn show(levels: u64, run: &Run, term: &Term, tree: Tree) -> Result<Tree, Memory>
-    requires index { IsIndex run.now.definitions.now run.now.bodies.now }
-    requires shown { IsShown (setting_by run.now.definitions.now) (lens_of term.now) tree }
-    ensures { IfOk result (Shows (setting_by run.now.definitions.now) (lens_of term.now) tree) }
+    requires index { IsIndexed run.now }
+    requires shown { IsShown (setting_in run.now) (lens_of term.now) tree }
+    ensures { IfOk result (Shows (setting_in run.now) (lens_of term.now) tree) }
 {
     if levels == 0 {
         return Err(Memory);
@@ -75,9 +75,9 @@ fn show_sequence(
     second: &Term,
     tree: Tree,
 ) -> Result<Tree, Memory>
-    requires index { IsIndex run.now.definitions.now run.now.bodies.now }
-    requires shown { IsShown (setting_by run.now.definitions.now) (sequence (lens_of first.now) (lens_of second.now)) tree }
-    ensures { IfOk result (Shows (setting_by run.now.definitions.now) (sequence (lens_of first.now) (lens_of second.now)) tree) }
+    requires index { IsIndexed run.now }
+    requires shown { IsShown (setting_in run.now) (sequence (lens_of first.now) (lens_of second.now)) tree }
+    ensures { IfOk result (Shows (setting_in run.now) (sequence (lens_of first.now) (lens_of second.now)) tree) }
 {
     let middle = show(levels, run, first, tree)?;
     show(levels, run, second, middle)
@@ -93,9 +93,9 @@ fn show_fork(
     outside: &Term,
     tree: Tree,
 ) -> Result<Tree, Memory>
-    requires index { IsIndex run.now.definitions.now run.now.bodies.now }
-    requires shown { (Q : NamesValue) × IsShown (setting_by run.now.definitions.now) (fork concrete.now Q (lens_of inside.now) (lens_of outside.now)) tree }
-    ensures { IfOk result (λ view. (Q : NamesValue) → Shows (setting_by run.now.definitions.now) (fork concrete.now Q (lens_of inside.now) (lens_of outside.now)) tree view) }
+    requires index { IsIndexed run.now }
+    requires shown { (Q : NamesValue) × IsShown (setting_in run.now) (fork concrete.now Q (lens_of inside.now) (lens_of outside.now)) tree }
+    ensures { IfOk result (λ view. (Q : NamesValue) → Shows (setting_in run.now) (fork concrete.now Q (lens_of inside.now) (lens_of outside.now)) tree view) }
 {
     let (within, without) = tree.into_parts(concrete)?;
     let one = show(levels, run, inside, within)?;
@@ -105,9 +105,9 @@ fn show_fork(
 
 #[cycle(showing)]
 fn show_list(levels: u64, run: &Run, inner: &Term, tree: Tree) -> Result<Tree, Memory>
-    requires index { IsIndex run.now.definitions.now run.now.bodies.now }
-    requires shown { IsShown (setting_by run.now.definitions.now) (items (lens_of inner.now)) tree }
-    ensures { IfOk result (Shows (setting_by run.now.definitions.now) (items (lens_of inner.now)) tree) }
+    requires index { IsIndexed run.now }
+    requires shown { IsShown (setting_in run.now) (items (lens_of inner.now)) tree }
+    ensures { IfOk result (Shows (setting_in run.now) (items (lens_of inner.now)) tree) }
 {
     let mut views = Vec::new(tree.allocator());
     for item in into_items(tree)? {
@@ -118,10 +118,10 @@ fn show_list(levels: u64, run: &Run, inner: &Term, tree: Tree) -> Result<Tree, M
 
 #[cycle(showing)]
 fn show_children(levels: u64, run: &Run, term: &Term, tree: Tree) -> Result<Tree, Memory>
-    requires index { IsIndex run.now.definitions.now run.now.bodies.now }
+    requires index { IsIndexed run.now }
     requires kind { IsOnChildren (lens_of term.now) }
-    requires shown { IsShown (setting_by run.now.definitions.now) (lens_of term.now) tree }
-    ensures { IfOk result (Shows (setting_by run.now.definitions.now) (lens_of term.now) tree) }
+    requires shown { IsShown (setting_in run.now) (lens_of term.now) tree }
+    ensures { IfOk result (Shows (setting_in run.now) (lens_of term.now) tree) }
 {
     let mut edges = Vec::with_capacity(tree.allocator(), tree.count())?;
     for (name, child) in children(term, tree)? {

@@ -19,11 +19,11 @@ pub put_by-returns-in_ok-under-in-Hoist : goal.put_by-returns-in_ok-under-in-Hoi
 put_by-returns-in_ok-under-in-Hoist t c =
     hoist_puts _ _ _ _ _ _ _ (ap lens_of c.in-Hoist.is) c.in_ok-copy-in-Hoist.ensures.value c.in_ok-under-in-Hoist.ensures
 
-pub put_by-merge_into-requires-clause-before : goal.put_by-merge_into-requires-clause-before
-put_by-merge_into-requires-clause-before t c = had_both _ _ _ _ _ _ (ap lens_of c.in-Merge.is) c.requires.put
-
 pub put_by-returns-in_ok-merge_into-in-Merge : goal.put_by-returns-in_ok-merge_into-in-Merge
 put_by-returns-in_ok-merge_into-in-Merge t c = merge_puts _ _ _ _ _ _ (ap lens_of c.in-Merge.is) c.requires.put _ c.in_ok-merge_into-in-Merge.ensures
+
+pub put_by-merge_into-requires-clause-before : goal.put_by-merge_into-requires-clause-before
+put_by-merge_into-requires-clause-before t c = had_both _ _ _ _ _ _ (ap lens_of c.in-Merge.is) c.requires.put
 
 pub put_by-put_sequence-requires : goal.put_by-put_sequence-requires
 put_by-put_sequence-requires t c = (row_falls c.args.levels t c.decreases c.if-levels-eq0.false, (c.requires.index, c.requires.put))
