@@ -32,6 +32,5 @@ pub record AreChildrenBy (lens : Name → Option Lens) (t : Tree) (es : List (Na
   pub lenses : All (λ (e : Name × Child). option_lens e.1.lens ≡ lens e.0) es
 
 -- the same, by a lens on children
-pub record AreChildren (z : Lens) (t : Tree) (es : List (Name × Child)) : Type 0 where
-  pub edges : map edge_of es ≡ edges t
-  pub lenses : All (λ (e : Name × Child). option_lens e.1.lens ≡ lens_for z e.0) es
+abbrev pub AreChildren : Lens → Tree → List (Name × Child) → Type 0
+AreChildren z = AreChildrenBy (lens_for z)
