@@ -15,12 +15,17 @@ use Rattle.hm_schema.specs.declared.options.Options.{Options}
 abbrev pub Names : Type 0
 Names = FinSet name_cmp
 
--- a node: its shapes, its listed names with the node of each, the class and the node of all other names, its twins
-pub record NodeValue : Type 0 where
+-- a node, over what its edges lead to: its shapes, its listed names with what each leads to, the class of all other names
+-- with what these lead to, its twins
+pub record NodeOver (I : Type 0) : Type 0 where
   pub shapes : List Shape
-  pub children : List (Name × NodeId)
-  pub other : Option (Class × NodeId)
+  pub children : List (Name × I)
+  pub other : Option (Class × I)
   pub twins : List (Name × Name)
+
+-- in a schema edges lead to places among its nodes
+abbrev pub NodeValue : Type 0
+NodeValue = NodeOver NodeId
 
 pub record SchemaValue : Type 0 where
   pub nodes : List NodeValue
@@ -32,12 +37,12 @@ node_value n = record { shapes = n.shapes.items; children = n.children.items; ot
 abbrev pub schema_value : List Node → NodeId → SchemaValue
 schema_value nodes root = record { nodes = map node_value nodes; root = root }
 
-abbrev pub is_listed : NodeValue → Name → Bool
+abbrev pub is_listed : {I : Type 0} → NodeOver I → Name → Bool
 is_listed n k = is_some (find name_cmp k n.children)
 
 -- the node of a name right below a node: that of the name where it is listed, else that of all other names
-abbrev pub child_of : NodeValue → Name → Option NodeId
-child_of n k = option_or (find name_cmp k n.children) (option_map (λ (o : Class × NodeId). o.1) n.other)
+abbrev pub child_of : {I : Type 0} → NodeOver I → Name → Option I
+child_of n k = option_or (find name_cmp k n.children) (option_map (λ o. o.1) n.other)
 
 abbrev pub node_at : SchemaValue → NodeId → Option NodeValue
 node_at s i = slice_get s.nodes i.place

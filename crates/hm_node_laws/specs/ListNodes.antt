@@ -1,0 +1,25 @@
+-- The nodes of lists: an empty tree, or an item under *h and the rest of the list under *t.
+use Rattle.std.specs.Prelude.{◌≡◌, ◌⊎◌, [], ◌∷◌, Some, All, Any}
+use Rattle.std.specs.FinSet.{from_list}
+use Rattle.hm_schema.specs.declared.node.Shape.{Shape}
+use Rattle.hm_schema.specs.Values.{NodeOver, child_of}
+use Rattle.hm_terms.specs.Parts.{head, tail}
+
+abbrev pub empty_shape : Shape
+empty_shape = record { required = from_list []; optional = from_list []; least = 0; most = Some 0 }
+
+abbrev pub item_shape : Shape
+item_shape = record { required = from_list (head ∷ tail ∷ []); optional = from_list []; least = 0; most = Some 0 }
+
+-- a node, tidied, has the empty shape and that of an item, and no others; what is under *t is the same as the node itself,
+-- which is s
+pub record IsListNode {I : Type 0} (R : I → I → Type 0) (s : I) (n : NodeOver I) : Type 0 where
+  pub plain : n.twins ≡ []
+  pub shapes : All (λ a. (a ≡ empty_shape) ⊎ (a ≡ item_shape)) n.shapes
+  pub empty : Any (λ a. a ≡ empty_shape) n.shapes
+  pub item : Any (λ a. a ≡ item_shape) n.shapes
+  pub first : I
+  pub first_is : child_of n head ≡ Some first
+  pub rest : I
+  pub rest_is : child_of n tail ≡ Some rest
+  pub itself : R rest s
