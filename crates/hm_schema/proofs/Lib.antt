@@ -2,7 +2,7 @@ pub mod NamesOf
 mod Fitting
 pub mod Lists
 pub mod Members
-mod References
+pub mod References
 pub mod Outside
 mod Small
 pub mod Decided

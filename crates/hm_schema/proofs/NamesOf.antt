@@ -37,7 +37,7 @@ pub same_names : (a b : Names) → ((k : Name) → contains a k ≡ contains b k
 same_names a b e = same_set name_total name_one a b e
 
 module _ (p : Name → Bool) where
-  kept : (s : Names) (q : Name) → contains (retain s p) q ≡ (contains s q && p q)
+  pub kept : (s : Names) (q : Name) → contains (retain s p) q ≡ (contains s q && p q)
   kept s q = contains-retain s p q (λ x t. ap p (sym (name_one q x t)))
 
   by_name : (s : Names) (k q : Name) (b : Bool) → eq_by_cmp name_cmp q k ≡ b → p k ≡ true
