@@ -1,0 +1,4 @@
+pub mod Elements
+pub mod NameSets
+pub mod Shapes
+pub mod Standing
