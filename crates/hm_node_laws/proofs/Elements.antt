@@ -1,6 +1,8 @@
 -- That something holds of an element of a list, by recursion on the list, and what follows where something holds of all.
-use Rattle.std.proofs.Common.{◌⊎◌, zero, suc, List, [], ◌∷◌, ◌++◌, All, Any, Contains, refl, sym, subst, arith, inl, inr}
+use Rattle.std.proofs.Common.{◌≡◌, ◌⊎◌, zero, suc, Bool, true, false, cond, IsTrue, List, [], ◌∷◌, ◌++◌, All, Any, Contains, refl, sym, subst, ◌∙◌, arith, inl, inr}
+use Rattle.std.proofs.lemmas.Bool.{true≢false}
 use Rattle.std.proofs.lemmas.List.Elements.{All-nil, All-cons, All-head, All-tail}
+use Rattle.std.specs.List.{filter}
 
 pub data Holds {X : Type 0} (P : X → Type 0) : List X → Type 0 where
   at_head : {x : X} {xs : List X} → P x → Holds P (x ∷ xs)
@@ -37,6 +39,9 @@ module _ {X : Type 0} (P : X → Type 0) where
   one_any x (zero, y, lt, e, h) = subst P (sym e) h
   one_any x (suc k, y, lt, e, h) = absurd (omega arith)
 
+  pub all_one : (x : X) → P x → All P (x ∷ [])
+  all_one x h = All-cons P x [] h (All-nil P)
+
   pub any_of : (xs : List X) (x : X) → Contains xs x → P x → Any P xs
   any_of xs x c h = (c.0, x, c.1, c.2, h)
 
@@ -47,6 +52,16 @@ module _ {X : Type 0} (P : X → Type 0) where
   pub all_right : (xs ys : List X) → All P (xs ++ ys) → All P ys
   all_right [] ys h = h
   all_right (x ∷ xs) ys h = all_right xs ys (All-tail P x (xs ++ ys) h)
+
+  -- what holds of all that a filter keeps holds of each element that passes
+  pub filter_all : (q : X → Bool) (xs : List X) → All P (filter q xs) → All (λ x. IsTrue (q x) → P x) xs
+  filter_all q [] h = All-nil (λ x. IsTrue (q x) → P x)
+  filter_all q (x ∷ xs) h = go (q x) refl h (filter_all q xs)
+    where
+      go : (b : Bool) → q x ≡ b → All P (cond b (x ∷ filter q xs) (filter q xs)) → (All P (filter q xs) → All (λ x. IsTrue (q x) → P x) xs)
+          → All (λ x. IsTrue (q x) → P x) (x ∷ xs)
+      go true e h rest = All-cons (λ x. IsTrue (q x) → P x) x xs (λ p. All-head P x (filter q xs) h) (rest (All-tail P x (filter q xs) h))
+      go false e h rest = All-cons (λ x. IsTrue (q x) → P x) x xs (λ p. absurd (true≢false (sym p ∙ e))) (rest h)
 
 module _ {X : Type 0} (P Q : X → Type 0) where
   pub any_weaker : ((x : X) → P x → Q x) → (xs : List X) → Any P xs → Any Q xs

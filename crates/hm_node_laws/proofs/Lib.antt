@@ -2,3 +2,5 @@ pub mod Elements
 pub mod NameSets
 pub mod Shapes
 pub mod Standing
+pub mod PartedShapes
+pub mod Parting
