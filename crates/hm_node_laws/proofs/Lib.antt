@@ -4,3 +4,5 @@ pub mod Shapes
 pub mod Standing
 pub mod PartedShapes
 pub mod Parting
+pub mod JoinedShapes
+pub mod Joining

@@ -12,7 +12,7 @@ use Rattle.hm_tree.proofs.Parted.{below-part}
 use Rattle.hm_tree.proofs.Sorted.{below_edge}
 use Rattle.hm_schema.specs.declared.node.NodeId.{NodeId}
 use Rattle.hm_schema.specs.declared.node.Shape.{Shape}
-use Rattle.hm_schema.specs.Values.{NodeOver, NodeValue, SchemaValue, node_at}
+use Rattle.hm_schema.specs.Values.{NodeOver, NodeValue, SchemaValue, node_at, child_of}
 use Rattle.hm_schema.specs.Permitted.{names_of}
 use Rattle.hm_schema.specs.Membership.{IsMember, IsTwin}
 use Rattle.hm_schema.proofs.NamesOf.{names_of-below, same_names, kept, found_value}
@@ -71,6 +71,13 @@ module _ (p : Name → Bool) (t : Tree) where
 
   pub part_twin : (a b : Name) → HasTwin (part p t) (a, b) → HasTwin t (a, b)
   part_twin a b w = record { tree = w.tree; one = (in_part a w.tree w.one).1; two = (in_part b w.tree w.two).1 }
+
+-- ---- what stands below a name
+
+-- the same trees may, where the name leads to the same
+pub below_as : {I : Type 0} (In : I → Tree → Type 0) (n m : NodeOver I) (k : Name) (x : Tree) → child_of n k ≡ child_of m k → IsBelow In n k x
+    → IsBelow In m k x
+below_as In n m k x e b = record { child = b.child; is = sym e ∙ b.is; inside = b.inside }
 
 -- ---- a node with other shapes and other twins
 
