@@ -1,7 +1,7 @@
 -- Which trees stand at the view of a fork: those whose parts stand at the views of its two lenses.
-use Rattle.std.proofs.Common.{◌≡◌, Bool, true, false, cond, not, IsTrue, is_some, ◌++◌, get_or, Option, Some, None, All, Any, Contains, refl, sym, ap, subst, ◌∙◌}
+use Rattle.std.proofs.Common.{◌≡◌, Bool, true, false, cond, not, IsTrue, is_some, Option, Some, None, All, Any, Contains, refl, sym, ap, subst, ◌∙◌}
 use Rattle.std.proofs.lemmas.Bool.{true≢false, not-true, not-false}
-use Rattle.std.proofs.lemmas.List.Elements.{All-weaker, All-append, All-contains}
+use Rattle.std.proofs.lemmas.List.Elements.{All-append, All-contains}
 use Rattle.std.specs.Option.{option_or, option_map}
 use Rattle.std.specs.FinMap.{find}
 use Rattle.std.specs.FinSet.{contains, retain}
@@ -21,7 +21,7 @@ use Rattle.hm_node_laws.specs.Joining.{joined_shape, CanJoin, IsJoined}
 use Rattle.hm_node_laws.proofs.Elements.{any_of, all_left, all_right, any_all, any_some}
 use Rattle.hm_node_laws.proofs.Shapes.{all_listed}
 use Rattle.hm_node_laws.proofs.Standing.{has_below, none_below, in_part, to_part, names-part, twin_part, part_twin, below_as}
-use Rattle.hm_node_laws.proofs.JoinedShapes.{joined_from, joined_to, joined_all, first_requires, second_requires, required_has, IsFirst, IsSecond, joined_parts, parts_joined}
+use Rattle.hm_node_laws.proofs.JoinedShapes.{joined_from, joined_to, required_has, IsFirst, IsSecond, joined_parts, parts_joined}
 
 module _ {I : Type 0} (q : Name → Bool) (one two n : NodeOver I) (c : CanJoin q one two) (j : IsJoined q one two n)
     (well : All (IsWellFormedShape one) one.shapes) (own_one : RequiresTwins one) (own_two : RequiresTwins two) where
@@ -151,17 +151,3 @@ module _ {I : Type 0} (q : Name → Bool) (one two n : NodeOver I) (c : CanJoin 
       in_one = λ t h k e. none_below t k (λ there. true≢false (sym (first_only (names_of t) h.permitted k there).1 ∙ e));
       in_two = λ t h k e. none_below t k (λ there. second_none (names_of t) h.permitted k there (not-false (q k) e));
     }
-
-  -- ---- the view
-
-  pub join_requires : RequiresTwins n
-  join_requires = subst (λ ws. All (λ s. All (RequiresTwin s) ws) n.shapes) (sym j.twins)
-      (subst (All (λ s. All (RequiresTwin s) (one.twins ++ two.twins))) (sym j.shapes)
-      (joined_all (λ s. All (RequiresTwin s) (one.twins ++ two.twins)) one.shapes two.shapes (λ i d lt i2 d2 lt2.
-      let a : Shape = get_or one.shapes i d in
-      let b : Shape = get_or two.shapes i2 d2 in
-      All-append (RequiresTwin (joined_shape a b)) one.twins two.twins
-      (All-weaker (RequiresTwin a) (RequiresTwin (joined_shape a b))
-      (λ w r. record { one = first_requires a b w.0 r.one; two = first_requires a b w.1 r.two }) one.twins (own_one i d lt))
-      (All-weaker (RequiresTwin b) (RequiresTwin (joined_shape a b))
-      (λ w r. record { one = second_requires a b w.0 r.one; two = second_requires a b w.1 r.two }) two.twins (own_two i2 d2 lt2)))))

@@ -6,3 +6,7 @@ pub mod PartedShapes
 pub mod Parting
 pub mod JoinedShapes
 pub mod Joining
+pub mod JoinedNodes
+pub mod Across
+pub mod Tidied
+pub mod Same

@@ -65,6 +65,10 @@ pub data IsAtBoth {I J : Type 0} (n : NodeOver I) (m : NodeOver J) (k : Name) : 
   listed_both : IsTrue (is_listed n k) → IsTrue (is_listed m k) → IsAtBoth n m k
   other_both : is_listed n k ≡ false → is_listed m k ≡ false → Takes n k → Takes m k → IsAtBoth n m k
 
+pub at_both_back : {I J : Type 0} {n : NodeOver I} {m : NodeOver J} {k : Name} → IsAtBoth n m k → IsAtBoth m n k
+at_both_back (listed_both l p) = listed_both p l
+at_both_back (other_both l p h g) = other_both p l g h
+
 module _ {I J : Type 0} (n : NodeOver I) (m : NodeOver J) (a : Shape) where
   pub sits_back : Sits n m a → Sits m n a
   sits_back (sits_shut s both) = sits_shut s (λ k h. let x = both k h in (x.1, x.0))
