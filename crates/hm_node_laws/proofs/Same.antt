@@ -14,7 +14,7 @@ use Rattle.hm_schema.specs.WellFormed.{IsWellFormedShape}
 use Rattle.hm_schema.specs.Tidied.{tidied}
 use Rattle.hm_schema.specs.Sameness.{AreOthers, Match, no_others, others}
 use Rattle.hm_node_laws.specs.Standing.{Stands, Alike}
-use Rattle.hm_node_laws.proofs.Shapes.{Sits, sits_alike, sits_back}
+use Rattle.hm_node_laws.proofs.Shapes.{Sits, sits_back, alike}
 use Rattle.hm_node_laws.proofs.Across.{AreRelated, none_related, some_related, related_back, related_some, related_or, CarriesBelow, stands_across}
 use Rattle.hm_node_laws.proofs.Tidied.{tidied_alike}
 
@@ -56,7 +56,7 @@ module _ {I J : Type 0} (R : I → J → Type 0) where
     match_child k = related_or (found_related k) (others_related match.other)
 
     match_sits : (a : Shape) → Sits n m a
-    match_sits a = sits_alike match_listed (λ k. others_take match.other k)
+    match_sits a = alike match_listed (λ k. others_take match.other k)
 
     module _ (In : I → Tree → Type 0) (Jn : J → Tree → Type 0) (t : Tree) where
       match_into : CarriesBelow R In Jn n m t → Stands In n t → Stands Jn m t
@@ -82,7 +82,7 @@ module _ {I J : Type 0} (R : I → J → Type 0) (In : I → Tree → Type 0) (J
       )
 
   pub same_alike : ((i : I) (j : J) → R i j → Alike (In i) (Jn j)) → Alike (Stands In n) (Stands Jn m)
-  same_alike alike = record {
-    into = λ t h. (same_stands t (λ k x at i j r. let a = alike i j r in (a.into x, a.from x))).0 h;
-    from = λ t h. (same_stands t (λ k x at i j r. let a = alike i j r in (a.into x, a.from x))).1 h;
+  same_alike same = record {
+    into = λ t h. (same_stands t (λ k x at i j r. let a = same i j r in (a.into x, a.from x))).0 h;
+    from = λ t h. (same_stands t (λ k x at i j r. let a = same i j r in (a.into x, a.from x))).1 h;
   }

@@ -57,8 +57,8 @@ same_count n m names others to from = ap len (same_names _ _ (λ k. same_bool _ 
 -- the same names fit a shape at two nodes: it lets no unlisted name in and its names are listed at both, or both list the same
 -- names and take the same other ones
 pub data Sits {I J : Type 0} (n : NodeOver I) (m : NodeOver J) (a : Shape) : Type 0 where
-  sits_shut : IsShut a → ((k : Name) → IsTrue (has_name a k) → IsTrue (is_listed n k) × IsTrue (is_listed m k)) → Sits n m a
-  sits_alike : ((k : Name) → is_listed n k ≡ is_listed m k) → ((k : Name) → Takes n k ↔ Takes m k) → Sits n m a
+  shut : IsShut a → ((k : Name) → IsTrue (has_name a k) → IsTrue (is_listed n k) × IsTrue (is_listed m k)) → Sits n m a
+  alike : ((k : Name) → is_listed n k ≡ is_listed m k) → ((k : Name) → Takes n k ↔ Takes m k) → Sits n m a
 
 -- a name is listed at both of two nodes, or at neither, and may stand there among all other names
 pub data IsAtBoth {I J : Type 0} (n : NodeOver I) (m : NodeOver J) (k : Name) : Type 0 where
@@ -71,11 +71,11 @@ at_both_back (other_both l p h g) = other_both p l g h
 
 module _ {I J : Type 0} (n : NodeOver I) (m : NodeOver J) (a : Shape) where
   pub sits_back : Sits n m a → Sits m n a
-  sits_back (sits_shut s both) = sits_shut s (λ k h. let x = both k h in (x.1, x.0))
-  sits_back (sits_alike same takes) = sits_alike (λ k. sym (same k)) (λ k. let t = takes k in (t.1, t.0))
+  sits_back (shut s both) = shut s (λ k h. let x = both k h in (x.1, x.0))
+  sits_back (alike same takes) = alike (λ k. sym (same k)) (λ k. let t = takes k in (t.1, t.0))
 
   pub fits_across : (names : Names) → Sits n m a → Fits n a names → Fits m a names
-  fits_across names (sits_shut s both) f =
+  fits_across names (shut s both) f =
       let in_shape = λ (k : Name) (h : IsTrue (contains names k)). f.listed.allowed k h (all_listed n names a s f k h) in
       let here = λ (k : Name) (h : IsTrue (contains names k)). (both k (in_shape k h)).1 in
       record {
@@ -83,7 +83,7 @@ module _ {I J : Type 0} (n : NodeOver I) (m : NodeOver J) (a : Shape) where
         others = λ k h off. absurd (true≢false (sym (here k h) ∙ off));
         number = subst (IsWithin a) (zero_count n names (all_listed n names a s f) ∙ sym (zero_count m names here)) f.number;
       }
-  fits_across names (sits_alike same takes) f = record {
+  fits_across names (alike same takes) f = record {
     listed = record { required = f.listed.required; allowed = λ k h l. f.listed.allowed k h (same k ∙ l) };
     others = λ k h off. (takes k).0 (f.others k h (same k ∙ off));
     number = subst (IsWithin a) (same_count n m names names (λ k h off. (h, sym (same k) ∙ off)) (λ k h off. (h, same k ∙ off))) f.number;
@@ -91,10 +91,10 @@ module _ {I J : Type 0} (n : NodeOver I) (m : NodeOver J) (a : Shape) where
 
   -- where a name of a set that fits the shape stands at both
   pub at_both : (names : Names) → Sits n m a → Fits n a names → (k : Name) → IsTrue (contains names k) → IsAtBoth n m k
-  at_both names (sits_shut s both) f k h =
+  at_both names (shut s both) f k h =
       let x = both k (f.listed.allowed k h (all_listed n names a s f k h)) in
       listed_both x.0 x.1
-  at_both names (sits_alike same takes) f k h = go (is_listed n k) refl
+  at_both names (alike same takes) f k h = go (is_listed n k) refl
     where
       go : (b : Bool) → is_listed n k ≡ b → IsAtBoth n m k
       go true l = listed_both l (sym (same k) ∙ l)
@@ -103,7 +103,7 @@ module _ {I J : Type 0} (n : NodeOver I) (m : NodeOver J) (a : Shape) where
 -- a node with other shapes and other twins fits the same names
 module _ {I : Type 0} (n : NodeOver I) (shapes : List Shape) (twins : List (Name × Name)) (a : Shape) (names : Names) where
   pub shaped_fits : Fits n a names → Fits (shaped n shapes twins) a names
-  shaped_fits = fits_across n (shaped n shapes twins) a names (sits_alike (λ k. refl) (λ k. (λ h. h, λ h. h)))
+  shaped_fits = fits_across n (shaped n shapes twins) a names (alike (λ k. refl) (λ k. (λ h. h, λ h. h)))
 
   pub fits_shaped : Fits (shaped n shapes twins) a names → Fits n a names
-  fits_shaped = fits_across (shaped n shapes twins) n a names (sits_alike (λ k. refl) (λ k. (λ h. h, λ h. h)))
+  fits_shaped = fits_across (shaped n shapes twins) n a names (alike (λ k. refl) (λ k. (λ h. h, λ h. h)))

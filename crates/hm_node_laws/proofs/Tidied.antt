@@ -16,13 +16,14 @@ use Rattle.hm_schema.specs.WellFormed.{IsWellFormedShape}
 use Rattle.hm_schema.specs.Tidied.{has_name, is_positive, lets_in, lets_some_in, tidied, stands}
 use Rattle.hm_node_laws.specs.Standing.{Stands, Alike}
 use Rattle.hm_node_laws.proofs.Elements.{any_of}
-use Rattle.hm_node_laws.proofs.Shapes.{Sits, sits_shut, IsAtBoth, listed_both, other_both, sits_back, at_both_back}
+use Rattle.hm_node_laws.proofs.Shapes.{Sits, IsAtBoth, listed_both, other_both, sits_back, at_both_back, shut}
 use Rattle.std.proofs.lemmas.List.Folds.{list_any-from_Any}
 use Rattle.hm_node_laws.proofs.Across.{related_same, stands_across}
 
 -- a test that no element of a list passes
 none_passes : {X : Type 0} (p : X → Bool) (xs : List X) → list_any p xs ≡ false → All (λ x. p x ≡ false) xs
-none_passes {X = X} p xs e i d lt = false_from_ne_true (p (get_or xs i d)) (λ h. true≢false (sym (some_passes (get_or xs i d) (Contains-get_or xs i d lt) h) ∙ e))
+none_passes {X = X} p xs e i d lt =
+    false_from_ne_true (p (get_or xs i d)) (λ h. true≢false (sym (some_passes (get_or xs i d) (Contains-get_or xs i d lt) h) ∙ e))
   where
     some_passes : (x : X) → Contains xs x → p x ≡ true → list_any p xs ≡ true
     some_passes x at h = list_any-from_Any p xs (any_of (λ x. p x ≡ true) xs x at h)
@@ -51,7 +52,7 @@ module _ {I : Type 0} (n : NodeOver I) (well : All (IsWellFormedShape n) n.shape
       go false e h = absurd (true≢false (sym h))
 
   sits : (a : Shape) → Contains n.shapes a → Sits n pruned a
-  sits a at = sits_shut (not_positive a.most (All-contains (λ a. lets_in a ≡ false) n.shapes a (none_passes lets_in n.shapes shuts) at))
+  sits a at = shut (not_positive a.most (All-contains (λ a. lets_in a ≡ false) n.shapes a (none_passes lets_in n.shapes shuts) at))
       (λ k h.
       let l = (All-contains (IsWellFormedShape n) n.shapes a well at).listed k h in
       let s : stands n k ≡ true = list_any-from_Any (λ a. has_name a k) n.shapes (any_of (λ a. has_name a k ≡ true) n.shapes a at h) in
