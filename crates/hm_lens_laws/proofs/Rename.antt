@@ -21,7 +21,7 @@ use Rattle.hm_lens_laws.proofs.Fork.{fits_fork}
 use Rattle.hm_lens_laws.proofs.Branches.{fits_view}
 use Rattle.hm_lens_laws.specs.Sets.{Any, IsWithin, IsSplitSet, Side, with_it, without_it, IsBranched, alone, rename, is, Edge, HasAlso}
 
-in_alone : (m k : Name) → contains (alone m) k ≡ is m k
+pub in_alone : (m k : Name) → contains (alone m) k ≡ is m k
 in_alone m k = contains-from_list name_total (m ∷ []) k ∙ go (is m k)
   where
     go : (b : Bool) → (b || false) ≡ b
