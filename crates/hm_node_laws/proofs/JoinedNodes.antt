@@ -14,7 +14,8 @@ use Rattle.hm_schema.specs.Tidied.{has_name}
 use Rattle.hm_node_laws.specs.Shapes.{RequiresTwin, RequiresTwins}
 use Rattle.hm_node_laws.specs.Joining.{joined_shape, CanJoin, IsJoined}
 use Rattle.hm_node_laws.proofs.Elements.{any_weaker}
-use Rattle.hm_node_laws.proofs.JoinedShapes.{joined_to, joined_all, joined_has, joined_requires, first_requires, second_requires, required_has, IsFirst, IsSecond, no_least, same_most, listed_in, listed_out, first_listed}
+use Rattle.hm_node_laws.proofs.Shapes.{required_has}
+use Rattle.hm_node_laws.proofs.JoinedShapes.{joined_to, joined_all, joined_has, joined_requires, first_requires, second_requires, IsFirst, IsSecond, no_least, same_most, listed_in, listed_out, first_listed}
 
 module _ {I : Type 0} (q : Name → Bool) (one two n : NodeOver I) (c : CanJoin q one two) (j : IsJoined q one two n) where
   -- which names it lists: of the first view those that pass, and those of the second

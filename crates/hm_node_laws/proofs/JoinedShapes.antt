@@ -18,7 +18,7 @@ use Rattle.hm_node_laws.specs.Parting.{Parts, listed, shut}
 use Rattle.hm_node_laws.specs.Joining.{added, joined_shape, joined_shapes, IsJoined}
 use Rattle.hm_node_laws.proofs.Elements.{Holds, at_head, in_tail, holds_from, holds_to, holds_left, holds_right, holds_split}
 use Rattle.hm_node_laws.proofs.NameSets.{kept_parts, kept_from}
-use Rattle.hm_node_laws.proofs.Shapes.{zero_count, all_listed, same_count}
+use Rattle.hm_node_laws.proofs.Shapes.{required_has, zero_count, all_listed, same_count}
 
 -- ---- a shape for each pair of two lists
 
@@ -87,9 +87,6 @@ module _ (a b : Shape) (k : Name) where
 
   pub second_requires : Requires k b → Requires k (joined_shape a b)
   second_requires h = contains-union name_total a.required b.required k ∙ or_right (contains a.required k) (contains b.required k) h
-
-pub required_has : (a : Shape) (k : Name) → Requires k a → IsTrue (has_name a k)
-required_has a k h = or_left (contains a.required k) (contains a.optional k) h
 
 -- ---- its count, where the first is shut
 

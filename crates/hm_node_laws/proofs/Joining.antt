@@ -19,9 +19,9 @@ use Rattle.hm_node_laws.specs.Standing.{IsBelow, HasTwin, Stands}
 use Rattle.hm_node_laws.specs.Parting.{Parts, listed, shut}
 use Rattle.hm_node_laws.specs.Joining.{joined_shape, CanJoin, IsJoined}
 use Rattle.hm_node_laws.proofs.Elements.{any_of, all_left, all_right, any_all, any_some}
-use Rattle.hm_node_laws.proofs.Shapes.{all_listed}
+use Rattle.hm_node_laws.proofs.Shapes.{required_has, all_listed}
 use Rattle.hm_node_laws.proofs.Standing.{has_below, none_below, in_part, to_part, names-part, twin_part, part_twin, below_as}
-use Rattle.hm_node_laws.proofs.JoinedShapes.{joined_from, joined_to, required_has, IsFirst, IsSecond, joined_parts, parts_joined}
+use Rattle.hm_node_laws.proofs.JoinedShapes.{joined_from, joined_to, IsFirst, IsSecond, joined_parts, parts_joined}
 
 module _ {I : Type 0} (q : Name → Bool) (one two n : NodeOver I) (c : CanJoin q one two) (j : IsJoined q one two n)
     (well : All (IsWellFormedShape one) one.shapes) (own_one : RequiresTwins one) (own_two : RequiresTwins two) where

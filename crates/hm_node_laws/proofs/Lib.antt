@@ -10,3 +10,4 @@ pub mod JoinedNodes
 pub mod Across
 pub mod Tidied
 pub mod Same
+pub mod Plain

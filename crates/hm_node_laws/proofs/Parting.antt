@@ -1,6 +1,6 @@
 -- Which trees stand at the two nodes that the lenses of a fork are checked at: the parts of the trees that stand at the node.
 use Rattle.std.proofs.Common.{◌≡◌, ◌≤◌, ℕ, Bool, true, false, not, IsTrue, IfSome, [], ◌∷◌, get_or, Option, Some, None, All, Any, refl, sym, ap, subst, ◌∙◌, arith}
-use Rattle.std.proofs.lemmas.Bool.{true≢false, and_parts, and_from, and_left, or_left, not-false}
+use Rattle.std.proofs.lemmas.Bool.{true≢false, and_parts, and_from, and_left, not-false}
 use Rattle.std.proofs.lemmas.List.Elements.{All-head, All-filter, filter_passes}
 use Rattle.std.specs.List.{filter}
 use Rattle.std.specs.FinSet.{contains, retain}
@@ -19,7 +19,7 @@ use Rattle.hm_node_laws.specs.Standing.{IsBelow, HasTwin, Stands}
 use Rattle.hm_node_laws.specs.Parting.{shape_in, shape_out, has_twin, part_node, Parts, IsParted, listed, shut}
 use Rattle.hm_node_laws.proofs.Elements.{all_one, any_one, one_any, filter_all}
 use Rattle.hm_node_laws.proofs.NameSets.{kept_parts, kept_from}
-use Rattle.hm_node_laws.proofs.Shapes.{all_listed, shaped_fits, fits_shaped}
+use Rattle.hm_node_laws.proofs.Shapes.{required_has, all_listed, shaped_fits, fits_shaped}
 use Rattle.hm_node_laws.proofs.Standing.{none_below, in_part, to_part, names-part, twin_part, part_twin, below_shaped, shaped_below}
 use Rattle.hm_node_laws.proofs.PartedShapes.{part_shape, part_has, has_from, fits_parts, parts_fit}
 
@@ -37,8 +37,8 @@ module _ {I : Type 0} (n : NodeOver I) (a : Shape) (q : Name → Bool) (least : 
 
   has_both : (twin : Name × Name) → RequiresTwin a twin → IsTrue (q twin.0) → IsTrue (q twin.1) → IsTrue (has_twin s twin)
   has_both twin r g h = and_from (has_name s twin.0) (has_name s twin.1)
-      (has_from q a twin.0 (or_left (contains a.required twin.0) (contains a.optional twin.0) r.one) g)
-      (has_from q a twin.1 (or_left (contains a.required twin.1) (contains a.optional twin.1) r.two) h)
+      (has_from q a twin.0 (required_has a twin.0 r.one) g)
+      (has_from q a twin.1 (required_has a twin.1 r.two) h)
 
   part_twins : (t : Tree) → All (HasTwin t) n.twins → All (HasTwin (part q t)) (filter (has_twin s) n.twins)
   part_twins t all i d lt =

@@ -1,6 +1,6 @@
 -- Which names fit a shape: how many of them are unlisted, and that they fit it at another node.
 use Rattle.std.proofs.Common.{◌≡◌, ◌↔◌, ◌≤◌, ℕ, Bool, true, false, not, IsTrue, IfSome, List, refl, sym, ap, subst, ◌∙◌, arith}
-use Rattle.std.proofs.lemmas.Bool.{true≢false, not-true}
+use Rattle.std.proofs.lemmas.Bool.{true≢false, or_left, not-true}
 use Rattle.std.specs.FinSet.{contains, retain, len}
 use Rattle.hm_tree.specs.Names.{Name}
 use Rattle.hm_tree.proofs.NameSets.{same_bool}
@@ -9,8 +9,13 @@ use Rattle.hm_schema.specs.Values.{Names, NodeOver, is_listed}
 use Rattle.hm_schema.specs.Permitted.{Fits, Takes, unlisted, IsWithin}
 use Rattle.hm_schema.specs.Tidied.{has_name}
 use Rattle.hm_schema.proofs.NamesOf.{same_names}
-use Rattle.hm_node_laws.specs.Shapes.{IsShut, shaped}
+use Rattle.hm_node_laws.specs.Shapes.{IsShut, Requires, shaped}
 use Rattle.hm_node_laws.proofs.NameSets.{kept_parts, kept_from, none_len, len_none}
+
+-- ---- the names of a shape
+
+pub required_has : (a : Shape) (k : Name) → Requires k a → IsTrue (has_name a k)
+required_has a k h = or_left (contains a.required k) (contains a.optional k) h
 
 -- ---- how many names are unlisted
 

@@ -6,3 +6,4 @@ pub mod Branching
 pub mod Merging
 pub mod Copying
 pub mod ListNodes
+pub mod Plain
