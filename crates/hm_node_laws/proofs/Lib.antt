@@ -1,6 +1,10 @@
 pub mod Elements
+pub mod Drawn
 pub mod NameSets
 pub mod Shapes
+pub mod Refitted
+pub mod Reshaped
+pub mod Branching
 pub mod Standing
 pub mod PartedShapes
 pub mod Parting

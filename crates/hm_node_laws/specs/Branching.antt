@@ -1,5 +1,5 @@
 -- The two nodes that the lenses of a conditional are checked at: a node with a name, and without it.
-use Rattle.std.specs.Prelude.{cond, List, [], ◌∷◌}
+use Rattle.std.specs.Prelude.{List, [], map, filter, not}
 use Rattle.std.specs.FinSet.{contains, insert, remove}
 use Rattle.hm_tree.specs.Names.{Name}
 use Rattle.hm_schema.specs.declared.node.Shape.{Shape}
@@ -16,12 +16,10 @@ lacking m a = record { required = a.required; optional = remove a.optional m; le
 
 -- the shapes that have a name, and those that don't require it
 abbrev pub shapes_with : Name → List Shape → List Shape
-shapes_with m [] = []
-shapes_with m (a ∷ more) = cond (has_name a m) (requiring m a ∷ shapes_with m more) (shapes_with m more)
+shapes_with m shapes = map (requiring m) (filter (λ a. has_name a m) shapes)
 
 abbrev pub shapes_without : Name → List Shape → List Shape
-shapes_without m [] = []
-shapes_without m (a ∷ more) = cond (contains a.required m) (shapes_without m more) (lacking m a ∷ shapes_without m more)
+shapes_without m shapes = map (lacking m) (filter (λ a. not (contains a.required m)) shapes)
 
 abbrev pub node_with : {I : Type 0} → Name → NodeOver I → NodeOver I
 node_with m n = shaped n (shapes_with m n.shapes) []
