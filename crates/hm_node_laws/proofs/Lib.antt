@@ -5,6 +5,8 @@ pub mod Shapes
 pub mod Refitted
 pub mod Reshaped
 pub mod Branching
+pub mod MergedShapes
+pub mod MergedNodes
 pub mod Standing
 pub mod PartedShapes
 pub mod Parting

@@ -33,6 +33,14 @@ same_but_back m a b s = record {
   most = sym s.most;
 }
 
+pub same_but_then : (m : Name) (a b c : Shape) → SameBut m a b → SameBut m b c → SameBut m a c
+same_but_then m a b c s r = record {
+  required = λ k f. s.required k f ∙ r.required k f;
+  optional = λ k f. s.optional k f ∙ r.optional k f;
+  least = s.least ∙ r.least;
+  most = s.most ∙ r.most;
+}
+
 module _ (m : Name) where
   insert_other : (s : Names) (k : Name) → (k ≡ m → ⊥) → contains s k ≡ contains (insert s m) k
   insert_other s k f = same_bool _ _ (insert_old m s k) (λ h. elim (in_insert m s k h) [ inl e ↦ absurd (f e) | inr g ↦ g ])
