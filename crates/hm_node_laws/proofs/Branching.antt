@@ -1,5 +1,5 @@
 -- The trees of a node are those of the node with a name, which have it, and those of the node without it, which don't.
-use Rattle.std.proofs.Common.{◌≡◌, false, not, is_some, IsTrue, List, [], get_or, Option, Some, None, All, Any, refl, sym, ap, ◌∙◌, inr}
+use Rattle.std.proofs.Common.{◌≡◌, false, not, IsTrue, List, [], get_or, Option, Some, None, All, Any, refl, sym, ap, ◌∙◌, inr}
 use Rattle.std.proofs.lemmas.Bool.{true≢false, or_left, or_from, not-true, false_from_ne_true}
 use Rattle.std.proofs.lemmas.List.Elements.{All-nil, All-map, All-weaker, All-filter, filter_passes}
 use Rattle.std.specs.List.{filter}
@@ -11,7 +11,6 @@ use Rattle.hm_schema.specs.Values.{Names, NodeOver, is_listed}
 use Rattle.hm_schema.specs.Permitted.{Fits, names_of}
 use Rattle.hm_schema.specs.Tidied.{has_name}
 use Rattle.hm_schema.specs.WellFormed.{IsWellFormedShape}
-use Rattle.hm_schema.proofs.NamesOf.{names_of-below}
 use Rattle.hm_lens_laws.specs.Sets.{IsBranched, Side, with_it, without_it}
 use Rattle.hm_node_laws.specs.Standing.{HasTwin, Stands}
 use Rattle.hm_node_laws.specs.Shapes.{Requires}
@@ -19,8 +18,9 @@ use Rattle.hm_node_laws.specs.Branching.{requiring, lacking, shapes_with, shapes
 use Rattle.hm_node_laws.proofs.Elements.{any_weaker}
 use Rattle.hm_node_laws.proofs.Drawn.{any_mapped, mapped_any, any_filtered, filtered_any}
 use Rattle.hm_node_laws.proofs.NameSets.{insert_new}
+use Rattle.hm_node_laws.proofs.Standing.{has_below}
 use Rattle.hm_node_laws.proofs.Refitted.{same_but_back, remove_gone, but_requiring, but_lacking, same_names_here, refit, well_but}
-use Rattle.hm_node_laws.proofs.Reshaped.{no_twins, stands_shaped, shaped_stands, shaped_permitted, required_there, absent_there}
+use Rattle.hm_node_laws.proofs.Reshaped.{no_twins, below_none, stands_shaped, shaped_stands, shaped_fits, required_there, absent_there}
 
 -- what is required or optional with a name, and without it
 with_has : (m : Name) (a : Shape) → Requires m (requiring m a)
@@ -87,20 +87,20 @@ module _ {I : Type 0} (In : I → Tree → Type 0) (n : NodeOver I) (m : Name) (
   pub branch_set : IsBranched m (Stands In n) (Stands In (node_with m n)) (Stands In (node_without m n))
   branch_set = record {
     side = λ t h. side t h (below m t) refl;
-    one = λ t h. shaped_stands n (shapes_with m n.shapes) [] In t h (from_with n m l (names_of t) (shaped_permitted n (shapes_with m n.shapes) [] In t h))
-        (no_twins n t plain);
-    two = λ t h. shaped_stands n (shapes_without m n.shapes) [] In t h
-        (from_without n m l (names_of t) (shaped_permitted n (shapes_without m n.shapes) [] In t h)) (no_twins n t plain);
+    one = λ t h. shaped_stands In n (shapes_with m n.shapes) [] t h
+        (from_with n m l (names_of t) (shaped_fits In n (shapes_with m n.shapes) [] t h)) (no_twins n t plain);
+    two = λ t h. shaped_stands In n (shapes_without m n.shapes) [] t h
+        (from_without n m l (names_of t) (shaped_fits In n (shapes_without m n.shapes) [] t h)) (no_twins n t plain);
     one_has = λ t h. required_there In (node_with m n) m t h (all_with m n.shapes);
     two_lacks = λ t h. absent_there In (node_without m n) m t h (none_without m n.shapes) (λ i d lt. inr l);
   }
     where
       side : (t : Tree) → Stands In n t → (x : Option Tree) → below m t ≡ x
           → Side m (Stands In n) (Stands In (node_with m n)) (Stands In (node_without m n)) t
-      side t h (Some x) e = with_it e (stands_shaped n (shapes_with m n.shapes) [] In t h
-          (into_with n m l (names_of t) (names_of-below t m ∙ ap is_some e) h.permitted) (All-nil (HasTwin t)))
-      side t h None e = without_it e (stands_shaped n (shapes_without m n.shapes) [] In t h
-          (into_without n m l (names_of t) (λ at. true≢false (sym at ∙ names_of-below t m ∙ ap is_some e)) h.permitted) (All-nil (HasTwin t)))
+      side t h (Some x) e = with_it e (stands_shaped In n (shapes_with m n.shapes) [] t h
+          (into_with n m l (names_of t) (has_below t m x e) h.permitted) (All-nil (HasTwin t)))
+      side t h None e = without_it e (stands_shaped In n (shapes_without m n.shapes) [] t h
+          (into_without n m l (names_of t) (below_none t m e) h.permitted) (All-nil (HasTwin t)))
 
 -- ---- their shapes are well formed
 

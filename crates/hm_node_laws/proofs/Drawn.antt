@@ -1,6 +1,6 @@
 -- That something holds of an element of a list that comes of others: of their ends, of a mapped and of a filtered list.
-use Rattle.std.proofs.Common.{◌≡◌, ◌⊎◌, Bool, true, false, cond, IsTrue, List, [], ◌∷◌, ◌++◌, map, All, Any, Contains, refl, inl, inr}
-use Rattle.std.proofs.lemmas.List.Elements.{All-map, All-contains_itself}
+use Rattle.std.proofs.Common.{◌<◌, length, arith, ◌≡◌, ◌⊎◌, Bool, true, false, cond, IsTrue, List, [], ◌∷◌, ◌++◌, map, All, Any, Contains, refl, inl, inr}
+use Rattle.std.proofs.lemmas.List.Elements.{All-head, All-map, All-contains_itself}
 use Rattle.std.specs.List.{filter}
 use Rattle.hm_node_laws.proofs.Elements.{Holds, at_head, in_tail, holds_from, holds_to, holds_left, holds_right, holds_split, any_of}
 
@@ -72,3 +72,9 @@ module _ {X : Type 0} (P : X → Type 0) (p : X → Bool) where
 
   pub filtered_any : (xs : List X) → Any P (filter p xs) → Any Passes xs
   filtered_any xs h = holds_to Passes (filtered_holds xs (holds_from P (filter p xs) h))
+
+-- ---- a list with an element
+
+pub all_some : {X : Type 0} (P : X → Type 0) (xs : List X) → 0 < length xs → All P xs → (x : X) × P x
+all_some P [] lt all = absurd (omega arith)
+all_some P (x ∷ xs) lt all = (x, All-head P x xs all)

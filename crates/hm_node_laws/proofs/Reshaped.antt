@@ -1,63 +1,103 @@
--- A node with other shapes: which trees stand there, and which names all of them have, or none.
-use Rattle.std.proofs.Common.{◌≡◌, ◌⊎◌, false, IsTrue, List, [], Some, None, All, Any, refl, sym, subst, ◌∙◌, inl, inr}
+-- Nodes of which the shapes sit at another node, as those with other shapes: which trees stand there, and which names all of them
+-- have, or none.
+use Rattle.std.proofs.Common.{◌≡◌, ◌⊎◌, false, is_some, IsTrue, List, [], Option, Some, None, All, Any, refl, sym, ap, subst, ◌∙◌, inl, inr}
 use Rattle.std.proofs.lemmas.Bool.{true≢false}
+use Rattle.std.proofs.lemmas.Option.{same_Some}
 use Rattle.std.proofs.lemmas.List.Elements.{All-nil}
 use Rattle.std.specs.FinSet.{contains}
 use Rattle.hm_tree.specs.Names.{Name}
 use Rattle.hm_tree.specs.Nodes.{Tree, below}
 use Rattle.hm_schema.specs.declared.node.Shape.{Shape}
-use Rattle.hm_schema.specs.Values.{Names, NodeOver, is_listed, child_of}
-use Rattle.hm_schema.specs.Permitted.{Fits, names_of}
+use Rattle.hm_schema.specs.Values.{NodeOver, is_listed, child_of}
+use Rattle.hm_schema.specs.Permitted.{Fits, Permits, names_of}
 use Rattle.hm_schema.specs.Tidied.{has_name}
 use Rattle.hm_schema.proofs.NamesOf.{names_of-below}
 use Rattle.hm_terms.proofs.Maps.{is_there}
-use Rattle.hm_node_laws.specs.Standing.{IsBelow, HasTwin, Stands}
+use Rattle.hm_node_laws.specs.Standing.{IsBelow, HasTwin, Stands, Alike}
 use Rattle.hm_node_laws.specs.Shapes.{IsShut, Requires, shaped}
-use Rattle.hm_node_laws.proofs.Elements.{any_weaker, any_some}
-use Rattle.hm_node_laws.proofs.Shapes.{Sits, alike, sits_back, fits_across, all_listed}
-use Rattle.hm_node_laws.proofs.Standing.{none_below}
+use Rattle.hm_node_laws.proofs.Elements.{any_all, any_some}
+use Rattle.hm_node_laws.proofs.Shapes.{Sits, alike, IsAtBoth, sits_back, fits_across, at_both, all_listed}
+use Rattle.hm_node_laws.proofs.Standing.{has_below, none_below, alike_back}
 
--- ---- where a child may stand
+-- ---- what names lead to
 
--- a name at a node leads to what another name leads to at another
-pub below_moved : {I : Type 0} (In : I → Tree → Type 0) (n m : NodeOver I) (k l : Name) (x : Tree) → child_of n k ≡ child_of m l → IsBelow In n k x
-    → IsBelow In m l x
-below_moved In n m k l x e b = record { child = b.child; is = sym e ∙ b.is; inside = b.inside }
+-- two names lead to the same, or to sets with the same trees
+pub data Linked {I : Type 0} (In : I → Tree → Type 0) : Option I → Option I → Type 0 where
+  same_link : {o : Option I} → Linked In o o
+  link : {i j : I} → Alike (In i) (In j) → Linked In (Some i) (Some j)
+
+pub link_back : {I : Type 0} (In : I → Tree → Type 0) {p q : Option I} → Linked In p q → Linked In q p
+link_back In same_link = same_link
+link_back In (link a) = link (alike_back a)
+
+-- so the same trees may stand below them
+pub below_linked : {I : Type 0} (In : I → Tree → Type 0) (n m : NodeOver I) (k l : Name) (x : Tree) → Linked In (child_of n k) (child_of m l)
+    → IsBelow In n k x → IsBelow In m l x
+below_linked {I = I} In n m k l x linked b = go (child_of n k) refl (child_of m l) refl linked
+  where
+    go : (p : Option I) → child_of n k ≡ p → (q : Option I) → child_of m l ≡ q → Linked In p q → IsBelow In m l x
+    go p e q f same_link = record { child = b.child; is = f ∙ sym e ∙ b.is; inside = b.inside }
+    go p e q f (link {i = i} {j = j} a) = record {
+      child = j;
+      is = f;
+      inside = a.into x (subst (λ i. In i x) (same_Some b.child i (sym b.is ∙ e)) b.inside);
+    }
+
+-- names of a tree that has nothing below a name don't have that
+pub below_none : (t : Tree) (k : Name) → below k t ≡ None → IsTrue (contains (names_of t) k) → ⊥
+below_none t k e at = true≢false (sym at ∙ names_of-below t k ∙ ap is_some e)
 
 -- a node without twins has no twin that isn't there
 pub no_twins : {I : Type 0} (n : NodeOver I) (t : Tree) → n.twins ≡ [] → All (HasTwin t) n.twins
 no_twins n t e = subst (λ twins. All (HasTwin t) twins) (sym e) (All-nil (HasTwin t))
 
+-- ---- a node of which the shapes sit at another, where names lead to the same
+
+module _ {I : Type 0} (In : I → Tree → Type 0) (v n : NodeOver I) (sits : All (Sits v n) v.shapes)
+    (leads : (k : Name) → IsAtBoth v n k → Linked In (child_of v k) (child_of n k)) (t : Tree) where
+  stand_linked : Any (λ a. Fits v a (names_of t)) v.shapes → (k : Name) (x : Tree) → below k t ≡ Some x → Linked In (child_of v k) (child_of n k)
+  stand_linked h k x at = leads k (any_some (λ a. Fits v a (names_of t)) (Sits v n)
+      (λ a s f. at_both v n a (names_of t) s f k (has_below t k x at)) v.shapes sits h)
+
+  -- names that are permitted at the one fit one of its shapes at the other
+  pub sitting_fits : Stands In v t → Any (λ a. Fits n a (names_of t)) v.shapes
+  sitting_fits h = any_all (λ a. Fits v a (names_of t)) (Sits v n) (λ a. Fits n a (names_of t)) (λ a s f. fits_across v n a (names_of t) s f) v.shapes
+      sits h.permitted
+
+  pub sitting_stands : Stands In v t → Permits n (names_of t) → All (HasTwin t) n.twins → Stands In n t
+  sitting_stands h f w = record {
+    permitted = f;
+    twins = w;
+    children = λ k x at. below_linked In v n k k x (stand_linked h.permitted k x at) (h.children k x at);
+  }
+
+  pub stands_sitting : Stands In n t → Any (λ a. Fits n a (names_of t)) v.shapes → All (HasTwin t) v.twins → Stands In v t
+  stands_sitting h f w =
+      let g = any_all (λ a. Fits n a (names_of t)) (Sits v n) (λ a. Fits v a (names_of t))
+      (λ a s f. fits_across n v a (names_of t) (sits_back v n a s) f) v.shapes sits f in
+      record {
+        permitted = g;
+        twins = w;
+        children = λ k x at. below_linked In n v k k x (link_back In (stand_linked g k x at)) (h.children k x at);
+      }
+
 -- ---- a node with other shapes
 
-module _ {I : Type 0} (n : NodeOver I) (shapes : List Shape) (twins : List (Name × Name)) where
-  sits_shaped : (a : Shape) → Sits n (shaped n shapes twins) a
-  sits_shaped a = alike (λ k. refl) (λ k. (λ h. h, λ h. h))
+module _ {I : Type 0} (In : I → Tree → Type 0) (n : NodeOver I) (shapes : List Shape) (twins : List (Name × Name)) (t : Tree) where
+  abbrev v : NodeOver I
+  v = shaped n shapes twins
 
-  pub fits_shaped : (names : Names) (a : Shape) → Fits n a names → Fits (shaped n shapes twins) a names
-  fits_shaped names a f = fits_across n (shaped n shapes twins) a names (sits_shaped a) f
+  sits_shaped : All (Sits v n) shapes
+  sits_shaped i d lt = alike (λ k. refl) (λ k. (λ h. h, λ h. h))
 
-  pub shaped_fits : (names : Names) (a : Shape) → Fits (shaped n shapes twins) a names → Fits n a names
-  shaped_fits names a f = fits_across (shaped n shapes twins) n a names (sits_back n (shaped n shapes twins) a (sits_shaped a)) f
+  pub shaped_fits : Stands In v t → Any (λ a. Fits n a (names_of t)) shapes
+  shaped_fits h = sitting_fits In v n sits_shaped (λ k b. same_link) t h
 
-  module _ (In : I → Tree → Type 0) (t : Tree) where
-    pub stands_shaped : Stands In n t → Any (λ a. Fits n a (names_of t)) shapes → All (HasTwin t) twins → Stands In (shaped n shapes twins) t
-    stands_shaped h f w = record {
-      permitted = any_weaker (λ a. Fits n a (names_of t)) (λ a. Fits (shaped n shapes twins) a (names_of t)) (fits_shaped (names_of t)) shapes f;
-      twins = w;
-      children = λ k x at. below_moved In n (shaped n shapes twins) k k x refl (h.children k x at);
-    }
+  pub shaped_stands : Stands In v t → Permits n (names_of t) → All (HasTwin t) n.twins → Stands In n t
+  shaped_stands h f w = sitting_stands In v n sits_shaped (λ k b. same_link) t h f w
 
-    pub shaped_stands : Stands In (shaped n shapes twins) t → Any (λ a. Fits n a (names_of t)) n.shapes → All (HasTwin t) n.twins → Stands In n t
-    shaped_stands h f w = record {
-      permitted = f;
-      twins = w;
-      children = λ k x at. below_moved In (shaped n shapes twins) n k k x refl (h.children k x at);
-    }
-
-    pub shaped_permitted : Stands In (shaped n shapes twins) t → Any (λ a. Fits n a (names_of t)) shapes
-    shaped_permitted h = any_weaker (λ a. Fits (shaped n shapes twins) a (names_of t)) (λ a. Fits n a (names_of t)) (shaped_fits (names_of t)) shapes
-        h.permitted
+  pub stands_shaped : Stands In n t → Any (λ a. Fits n a (names_of t)) shapes → All (HasTwin t) twins → Stands In v t
+  stands_shaped h f w = stands_sitting In v n sits_shaped (λ k b. same_link) t h f w
 
 -- ---- names that each tree of a node has, or none
 
