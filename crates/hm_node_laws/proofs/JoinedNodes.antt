@@ -1,7 +1,7 @@
 -- The view of a fork is well formed where the views of its two lenses are, and requires its twins.
-use Rattle.std.proofs.Common.{◌≡◌, ◌⊎◌, ◌+◌, ◌<◌, ◌≤◌, ℕ, Bool, true, false, cond, not, ◌&&◌, ◌||◌, IsTrue, IfSome, List, [], ◌∷◌, ◌++◌, length, get_or, Option, Some, None, All, Any, refl, sym, ap, subst, ◌∙◌, arith, inl, inr}
+use Rattle.std.proofs.Common.{◌≡◌, ◌⊎◌, ◌+◌, ◌<◌, ◌≤◌, ℕ, Bool, true, false, cond, not, ◌&&◌, ◌||◌, IsTrue, IfSome, ◌++◌, length, get_or, Option, Some, None, All, Any, Contains, refl, sym, ap, subst, ◌∙◌, arith, inl, inr}
 use Rattle.std.proofs.lemmas.Bool.{true≢false, or_right, or_from, not-true, false_from_ne_true}
-use Rattle.std.proofs.lemmas.List.Elements.{All-weaker, All-append}
+use Rattle.std.proofs.lemmas.List.Elements.{All-weaker, All-append, All-contains_itself}
 use Rattle.std.specs.Option.{option_or}
 use Rattle.std.specs.FinMap.{find}
 use Rattle.std.specs.FinSet.{contains, union, contains-union}
@@ -13,9 +13,10 @@ use Rattle.hm_schema.specs.WellFormed.{IsWellFormedShape}
 use Rattle.hm_schema.specs.Tidied.{has_name}
 use Rattle.hm_node_laws.specs.Shapes.{RequiresTwin, RequiresTwins}
 use Rattle.hm_node_laws.specs.Joining.{joined_shape, CanJoin, IsJoined}
-use Rattle.hm_node_laws.proofs.Elements.{any_weaker}
+use Rattle.hm_node_laws.proofs.Elements.{any_of}
 use Rattle.hm_node_laws.proofs.Shapes.{required_has}
 use Rattle.hm_node_laws.proofs.JoinedShapes.{joined_to, joined_all, joined_has, joined_requires, first_requires, second_requires, IsFirst, IsSecond, no_least, same_most, listed_in, listed_out, first_listed}
+use Rattle.hm_node_laws.proofs.Drawn.{all_some}
 
 module _ {I : Type 0} (q : Name → Bool) (one two n : NodeOver I) (c : CanJoin q one two) (j : IsJoined q one two n) where
   -- which names it lists: of the first view those that pass, and those of the second
@@ -39,14 +40,12 @@ module _ {I : Type 0} (q : Name → Bool) (one two n : NodeOver I) (c : CanJoin 
 
   pub join_some : 0 < length one.shapes → 0 < length two.shapes → 0 < length n.shapes
   join_some a b =
-      let x = joined_to (λ s. Unit {0}) one.shapes two.shapes
-      (any_weaker (λ s. Unit {0}) (λ s. Any (λ s. Unit {0}) two.shapes) (λ s u. some_any two.shapes b) one.shapes (some_any one.shapes a)) in
-      let lt = x.2 in
+      let x = all_some (Contains one.shapes) one.shapes a (All-contains_itself one.shapes) in
+      let y = all_some (Contains two.shapes) two.shapes b (All-contains_itself two.shapes) in
+      let z = joined_to (λ s. Unit {0}) one.shapes two.shapes (any_of (λ s. Any (λ s. Unit {0}) two.shapes) one.shapes x.0 x.1
+      (any_of (λ s. Unit {0}) two.shapes y.0 y.1 tt)) in
+      let lt = z.2 in
       subst (λ l. 0 < length l) (sym j.shapes) (omega arith)
-    where
-      some_any : (xs : List Shape) → 0 < length xs → Any (λ s. Unit {0}) xs
-      some_any [] lt = absurd (omega arith)
-      some_any (a ∷ xs) lt = (0, a, omega arith, refl, tt)
 
   pub join_requires : RequiresTwins one → RequiresTwins two → RequiresTwins n
   join_requires own_one own_two = subst (λ ws. All (λ s. All (RequiresTwin s) ws) n.shapes) (sym j.twins)

@@ -19,28 +19,21 @@ use Rattle.hm_node_laws.specs.Joining.{added, joined_shape, joined_shapes, IsJoi
 use Rattle.hm_node_laws.proofs.Elements.{Holds, at_head, in_tail, holds_from, holds_to, holds_left, holds_right, holds_split}
 use Rattle.hm_node_laws.proofs.NameSets.{kept_parts, kept_from}
 use Rattle.hm_node_laws.proofs.Shapes.{required_has, zero_count, all_listed, same_count}
+use Rattle.hm_node_laws.proofs.Drawn.{any_mapped, mapped_any}
 
 -- ---- a shape for each pair of two lists
 
 module _ (P : Shape → Type 0) where
-  row_from : (a : Shape) (bs : List Shape) → Holds P (map (joined_shape a) bs) → Holds (λ b. P (joined_shape a b)) bs
-  row_from a [] h = elim h [ ]
-  row_from a (b ∷ bs) (at_head h) = at_head h
-  row_from a (b ∷ bs) (in_tail h) = in_tail (row_from a bs h)
-
-  row_to : (a : Shape) {bs : List Shape} → Holds (λ b. P (joined_shape a b)) bs → Holds P (map (joined_shape a) bs)
-  row_to a (at_head h) = at_head h
-  row_to a (in_tail h) = in_tail (row_to a h)
-
   pairs_from : (xs bs : List Shape) → Holds P (joined_shapes xs bs) → Holds (λ a. Any (λ b. P (joined_shape a b)) bs) xs
   pairs_from [] bs h = elim h [ ]
   pairs_from (a ∷ xs) bs h = elim (holds_split P (map (joined_shape a) bs) (joined_shapes xs bs) h) [
-    | inl x ↦ at_head (holds_to (λ b. P (joined_shape a b)) (row_from a bs x))
+    | inl x ↦ at_head (mapped_any P (joined_shape a) bs (holds_to P x))
     | inr x ↦ in_tail (pairs_from xs bs x)
   ]
 
   pairs_to : (bs : List Shape) {xs : List Shape} → Holds (λ a. Any (λ b. P (joined_shape a b)) bs) xs → Holds P (joined_shapes xs bs)
-  pairs_to bs (at_head {x = a} {xs = xs} h) = holds_left P (joined_shapes xs bs) (row_to a (holds_from (λ b. P (joined_shape a b)) bs h))
+  pairs_to bs (at_head {x = a} {xs = xs} h) = holds_left P (joined_shapes xs bs)
+      (holds_from P (map (joined_shape a) bs) (any_mapped P (joined_shape a) bs h))
   pairs_to bs (in_tail {x = a} h) = holds_right P (map (joined_shape a) bs) (pairs_to bs h)
 
   pub joined_from : (xs bs : List Shape) → Any P (joined_shapes xs bs) → Any (λ a. Any (λ b. P (joined_shape a b)) bs) xs

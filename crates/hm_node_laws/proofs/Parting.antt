@@ -19,8 +19,8 @@ use Rattle.hm_node_laws.specs.Standing.{IsBelow, HasTwin, Stands}
 use Rattle.hm_node_laws.specs.Parting.{shape_in, shape_out, has_twin, part_node, Parts, IsParted, listed, shut}
 use Rattle.hm_node_laws.proofs.Elements.{all_one, any_one, one_any, filter_all}
 use Rattle.hm_node_laws.proofs.NameSets.{kept_parts, kept_from}
-use Rattle.hm_node_laws.proofs.Shapes.{required_has, all_listed, shaped_fits, fits_shaped}
-use Rattle.hm_node_laws.proofs.Standing.{none_below, in_part, to_part, names-part, twin_part, part_twin, below_shaped, shaped_below}
+use Rattle.hm_node_laws.proofs.Shapes.{required_has, all_listed, Sits, sits_back, fits_across, sits_shaped}
+use Rattle.hm_node_laws.proofs.Standing.{none_below, in_part, to_part, names-part, twin_part, part_twin, below_as}
 use Rattle.hm_node_laws.proofs.PartedShapes.{part_shape, part_has, has_from, fits_parts, parts_fit}
 
 -- ---- the twins of a part
@@ -84,16 +84,20 @@ module _ {I : Type 0} (In : I → Tree → Type 0) (p : Name → Bool) (n : Node
   permits : (t : Tree) → Fits n a (names_of t) → Permits n (names_of t)
   permits t f = subst (Any (λ a. Fits n a (names_of t))) (sym parted.one) (any_one (λ a. Fits n a (names_of t)) a f)
 
+  part_sits : (b : Shape) → Sits n (part_node n b) b
+  part_sits b = sits_shaped n (b ∷ []) (filter (has_twin b) n.twins) b
+
   fits_part : (b : Shape) (t : Tree) → Permits (part_node n b) (names_of t) → Fits n b (names_of t)
-  fits_part b t h = fits_shaped n (b ∷ []) (filter (has_twin b) n.twins) b (names_of t) (one_any (λ b'. Fits (part_node n b) b' (names_of t)) b h)
+  fits_part b t h = fits_across (part_node n b) n b (names_of t) (sits_back n (part_node n b) b (part_sits b))
+      (one_any (λ c. Fits (part_node n b) c (names_of t)) b h)
 
   permits_part : (q : Name → Bool) (b : Shape) (t : Tree) → Fits n b (retain (names_of t) q) → Permits (part_node n b) (names_of (part q t))
-  permits_part q b t f = any_one (λ b'. Fits (part_node n b) b' (names_of (part q t))) b
-      (shaped_fits n (b ∷ []) (filter (has_twin b) n.twins) b (names_of (part q t)) (subst (Fits n b) (sym (names-part q t)) f))
+  permits_part q b t f = any_one (λ c. Fits (part_node n b) c (names_of (part q t))) b
+      (fits_across n (part_node n b) b (names_of (part q t)) (part_sits b) (subst (Fits n b) (sym (names-part q t)) f))
 
   part_below : (q : Name → Bool) (b : Shape) (t : Tree) → ((k : Name) (x : Tree) → below k t ≡ Some x → IsBelow In n k x) → (k : Name) (x : Tree)
       → below k (part q t) ≡ Some x → IsBelow In (part_node n b) k x
-  part_below q b t all k x at = shaped_below In n (b ∷ []) (filter (has_twin b) n.twins) k x (all k x (in_part q t k x at).1)
+  part_below q b t all k x at = below_as In n (part_node n b) k x refl (all k x (in_part q t k x at).1)
 
   inside : (t : Tree) → Stands In n t → Stands In one (part p t)
   inside t h = record {
@@ -130,9 +134,8 @@ module _ {I : Type 0} (In : I → Tree → Type 0) (p : Name → Bool) (n : Node
           go false h = part_twin rest t w.0 w.1 (g (has_both n a rest a.least a.most w r (ap not h) (ap not (sym e ∙ h))))
 
       child : (k : Name) (x : Tree) → below k t ≡ Some x → (b : Bool) → p k ≡ b → IsBelow In n k x
-      child k x at true e = below_shaped In n (shape_in p a ∷ []) (filter (has_twin (shape_in p a)) n.twins) k x (f.children k x (to_part p t k x e at))
-      child k x at false e = below_shaped In n (shape_out p a ∷ []) (filter (has_twin (shape_out p a)) n.twins) k x
-          (g.children k x (to_part rest t k x (ap not e) at))
+      child k x at true e = below_as In one n k x refl (f.children k x (to_part p t k x e at))
+      child k x at false e = below_as In two n k x refl (g.children k x (to_part rest t k x (ap not e) at))
 
   in_one : (t : Tree) → Stands In one t → IsWithin p t
   in_one t h k e = none_below t k (λ there.

@@ -2,7 +2,7 @@
 use Rattle.std.proofs.Common.{◌≡◌, ◌↔◌, ◌<◌, ◌≤◌, Bool, true, false, cond, ◌||◌, IsTrue, IfSome, is_some, [], ◌∷◌, map, length, get_or, Some, None, All, Contains, refl, sym, ap, subst, ◌∙◌, arith, inl, inr}
 use Rattle.std.proofs.lemmas.Bool.{true≢false, or_cases}
 use Rattle.std.proofs.lemmas.Option.{none-some, same_Some}
-use Rattle.std.proofs.lemmas.List.Elements.{All-nil, All-contains, Contains-get_or}
+use Rattle.std.proofs.lemmas.List.Elements.{All-contains, Contains-get_or}
 use Rattle.std.specs.FinMap.{find}
 use Rattle.std.specs.FinMap.Entries.{same_entries}
 use Rattle.std.specs.FinSet.{contains, from_list, contains-from_list}
@@ -20,12 +20,13 @@ use Rattle.hm_terms.specs.Parts.{IsEdge, names}
 use Rattle.hm_terms.proofs.Maps.{below-edge, is_there, same_each}
 use Rattle.hm_lens_laws.specs.Sets.{Built, alone, is}
 use Rattle.hm_node_laws.specs.Shapes.{Requires}
-use Rattle.hm_node_laws.specs.Standing.{IsBelow, HasTwin, Stands, Alike}
+use Rattle.hm_node_laws.specs.Standing.{IsBelow, Stands, Alike}
 use Rattle.hm_node_laws.proofs.Elements.{all_one, any_of, any_some}
 use Rattle.hm_node_laws.proofs.Shapes.{required_has, zero_count, all_listed}
 use Rattle.hm_node_laws.proofs.Standing.{none_below}
 use Rattle.hm_node_laws.specs.Plain.{HasExactly, IsOf, exact_shape, edge_node, IsOnly}
 use Rattle.hm_lens_laws.proofs.Rename.{in_alone}
+use Rattle.hm_node_laws.proofs.Reshaped.{no_twins}
 use Rattle.hm_tree.specs.Sets.{ascending}
 
 -- ---- without twins
@@ -35,7 +36,7 @@ module _ {I : Type 0} (In : I → Tree → Type 0) (n : NodeOver I) (plain : n.t
   pub plain_alike : Alike (Stands In n) (Built (λ ks. Permits n (from_list ks)) (IsBelow In n))
   plain_alike = record {
     into = λ t h. record { names_in = h.permitted; children = h.children };
-    from = λ t b. record { permitted = b.names_in; twins = subst (All (HasTwin t)) (sym plain) (All-nil (HasTwin t)); children = b.children };
+    from = λ t b. record { permitted = b.names_in; twins = no_twins n t plain; children = b.children };
   }
 
 -- ---- of given names
@@ -86,7 +87,7 @@ module _ {I : Type 0} (In : I → Tree → Type 0) (n : NodeOver I) (names : Nam
   pub exact_stands : (t : Tree) → names_of t ≡ names → ((k : Name) (x : Tree) → below k t ≡ Some x → IsBelow In n k x) → Stands In n t
   exact_stands t e all = record {
     permitted = (permits_exact n names (names_of t) h).1 e;
-    twins = subst (All (HasTwin t)) (sym h.plain) (All-nil (HasTwin t));
+    twins = no_twins n t h.plain;
     children = all;
   }
 

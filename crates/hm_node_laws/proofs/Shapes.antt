@@ -105,10 +105,6 @@ module _ {I J : Type 0} (n : NodeOver I) (m : NodeOver J) (a : Shape) where
       go true l = listed_both l (sym (same k) ∙ l)
       go false off = let t = f.others k h off in other_both off (sym (same k) ∙ off) t ((takes k).0 t)
 
--- a node with other shapes and other twins fits the same names
-module _ {I : Type 0} (n : NodeOver I) (shapes : List Shape) (twins : List (Name × Name)) (a : Shape) (names : Names) where
-  pub shaped_fits : Fits n a names → Fits (shaped n shapes twins) a names
-  shaped_fits = fits_across n (shaped n shapes twins) a names (alike (λ k. refl) (λ k. (λ h. h, λ h. h)))
-
-  pub fits_shaped : Fits (shaped n shapes twins) a names → Fits n a names
-  fits_shaped = fits_across (shaped n shapes twins) n a names (alike (λ k. refl) (λ k. (λ h. h, λ h. h)))
+-- a shape sits at a node and at the same node with other shapes and other twins
+pub sits_shaped : {I : Type 0} (n : NodeOver I) (shapes : List Shape) (twins : List (Name × Name)) (a : Shape) → Sits n (shaped n shapes twins) a
+sits_shaped n shapes twins a = alike (λ k. refl) (λ k. (λ h. h, λ h. h))

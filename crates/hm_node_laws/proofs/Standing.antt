@@ -1,6 +1,6 @@
 -- Which trees stand at a node: those of which the names are permitted, the twins alike and the children inside; at a node of a
 -- schema these are its members.
-use Rattle.std.proofs.Common.{◌≡◌, Bool, true, false, cond, ◌&&◌, IsTrue, is_some, List, [], get_or, Option, Some, None, refl, sym, ap, ◌∙◌}
+use Rattle.std.proofs.Common.{◌≡◌, Bool, true, false, cond, ◌&&◌, IsTrue, is_some, [], get_or, Option, Some, None, refl, sym, ap, ◌∙◌}
 use Rattle.std.proofs.lemmas.Option.{none-some, slice_get-get_or}
 use Rattle.std.proofs.lemmas.List.Elements.{All-weaker}
 use Rattle.std.specs.FinSet.{contains, retain}
@@ -11,7 +11,6 @@ use Rattle.hm_tree.specs.States.{state}
 use Rattle.hm_tree.proofs.Parted.{below-part}
 use Rattle.hm_tree.proofs.Sorted.{below_edge}
 use Rattle.hm_schema.specs.declared.node.NodeId.{NodeId}
-use Rattle.hm_schema.specs.declared.node.Shape.{Shape}
 use Rattle.hm_schema.specs.Values.{NodeOver, NodeValue, SchemaValue, node_at, child_of}
 use Rattle.hm_schema.specs.Permitted.{names_of}
 use Rattle.hm_schema.specs.Membership.{IsMember, IsTwin}
@@ -19,7 +18,6 @@ use Rattle.hm_schema.proofs.NamesOf.{names_of-below, same_names, kept, found_val
 use Rattle.hm_schema.proofs.Members.{IsMemberBelow, allowed_root, root_permits, root_twins, member_root, member_below, member_whole, twin_same, same_twin, below_has}
 use Rattle.hm_schema.proofs.References.{child_here}
 use Rattle.hm_terms.proofs.Maps.{is_there}
-use Rattle.hm_node_laws.specs.Shapes.{shaped}
 use Rattle.hm_node_laws.specs.Standing.{IsBelow, HasTwin, Stands, Alike}
 
 -- ---- sets with the same trees
@@ -78,15 +76,6 @@ module _ (p : Name → Bool) (t : Tree) where
 pub below_as : {I : Type 0} (In : I → Tree → Type 0) (n m : NodeOver I) (k : Name) (x : Tree) → child_of n k ≡ child_of m k → IsBelow In n k x
     → IsBelow In m k x
 below_as In n m k x e b = record { child = b.child; is = sym e ∙ b.is; inside = b.inside }
-
--- ---- a node with other shapes and other twins
-
-module _ {I : Type 0} (In : I → Tree → Type 0) (n : NodeOver I) (shapes : List Shape) (twins : List (Name × Name)) (k : Name) (x : Tree) where
-  pub below_shaped : IsBelow In (shaped n shapes twins) k x → IsBelow In n k x
-  below_shaped b = record { child = b.child; is = b.is; inside = b.inside }
-
-  pub shaped_below : IsBelow In n k x → IsBelow In (shaped n shapes twins) k x
-  shaped_below b = record { child = b.child; is = b.is; inside = b.inside }
 
 -- ---- the nodes of a schema
 
