@@ -17,3 +17,4 @@ pub mod Across
 pub mod Tidied
 pub mod Same
 pub mod Plain
+pub mod SameSchemas

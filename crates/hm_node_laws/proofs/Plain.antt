@@ -167,6 +167,14 @@ module _ {I : Type 0} (m : Name) (i : I) where
 
 -- ---- of one tree
 
+-- where a name leads to what holds just one tree, that tree alone may stand below it
+pub only_below : {I : Type 0} (In : I → Tree → Type 0) (n : NodeOver I) (k : Name) (i : I) (x : Tree) → child_of n k ≡ Some i
+    → Alike (In i) (λ y. y ≡ x) → (y : Tree) → IsBelow In n k y ↔ y ≡ x
+only_below In n k i x leads only y = (
+  λ b. only.into y (subst (λ i. In i y) (same_Some b.child i (sym b.is ∙ leads)) b.inside),
+  λ e. record { child = i; is = leads; inside = only.from y e },
+)
+
 module _ {I : Type 0} (In : I → Tree → Type 0) (n : NodeOver I) (t : Tree) (only : IsOnly In n t) where
   pub only_alike : Alike (Stands In n) (λ u. u ≡ t)
   only_alike = record {

@@ -1,5 +1,5 @@
 -- The same trees stand at two nodes that match, as far as they do at what the nodes lead to.
-use Rattle.std.proofs.Common.{◌≡◌, ◌↔◌, Bool, true, false, cond, IsSomeAnd, List, [], ◌∷◌, Option, Some, All, subst}
+use Rattle.std.proofs.Common.{◌≡◌, ◌↔◌, ◌+◌, ◌<◌, ℕ, zero, suc, Bool, true, false, cond, IsSomeAnd, List, [], ◌∷◌, Option, Some, All, subst, arith}
 use Rattle.std.specs.Option.{option_map}
 use Rattle.std.specs.List.{AllZip}
 use Rattle.std.specs.Ordering.{eq_by_cmp}
@@ -7,7 +7,7 @@ use Rattle.std.specs.FinMap.{find}
 use Rattle.hm_tree.specs.declared.class.Class.{Class}
 use Rattle.hm_tree.specs.Classes.{IsInClass}
 use Rattle.hm_tree.specs.Names.{Name, name_cmp}
-use Rattle.hm_tree.specs.Nodes.{Tree, below}
+use Rattle.hm_tree.specs.Nodes.{Tree, below, depth}
 use Rattle.hm_schema.specs.declared.node.Shape.{Shape}
 use Rattle.hm_schema.specs.Values.{NodeOver, is_listed, child_of}
 use Rattle.hm_schema.specs.WellFormed.{IsWellFormedShape}
@@ -17,6 +17,7 @@ use Rattle.hm_node_laws.specs.Standing.{Stands, Alike}
 use Rattle.hm_node_laws.proofs.Shapes.{Sits, sits_back, alike}
 use Rattle.hm_node_laws.proofs.Across.{AreRelated, none_related, some_related, related_back, related_some, related_or, CarriesBelow, stands_across}
 use Rattle.hm_node_laws.proofs.Tidied.{tidied_alike}
+use Rattle.hm_tree.proofs.Depths.{depth_below}
 
 -- ---- what two matching nodes list and take
 
@@ -86,3 +87,32 @@ module _ {I J : Type 0} (R : I → J → Type 0) (In : I → Tree → Type 0) (J
     into = λ t h. (same_stands t (λ k x at i j r. let a = same i j r in (a.into x, a.from x))).0 h;
     from = λ t h. (same_stands t (λ k x at i j r. let a = same i j r in (a.into x, a.from x))).1 h;
   }
+
+-- ---- nodes that match all the way down
+
+module _ {I J : Type 0} (R : I → J → Type 0) (In : I → Tree → Type 0) (Jn : J → Tree → Type 0) where
+  -- what stands at two things is what stands at two nodes that match
+  pub record IsMatched (i : I) (j : J) : Type 0 where
+    pub first : NodeOver I
+    pub second : NodeOver J
+    pub stands_first : Alike (In i) (Stands In first)
+    pub stands_second : Alike (Jn j) (Stands Jn second)
+    pub well_first : All (IsWellFormedShape first) first.shapes
+    pub well_second : All (IsWellFormedShape second) second.shapes
+    pub match : Match R (tidied first) (tidied second)
+
+  -- if all that is related matches so, the same trees stand at what is related
+  module _ (matched : (i : I) (j : J) → R i j → IsMatched i j) where
+    alike_to : (d : ℕ) (i : I) (j : J) → R i j → (t : Tree) → depth t < d → In i t ↔ Jn j t
+    alike_to zero i j r t lt = absurd (omega arith)
+    alike_to (suc d) i j r t lt =
+        let m = matched i j r in
+        let same = same_stands R In Jn m.first m.second m.well_first m.well_second m.match t
+        (λ k x at i j r. alike_to d i j r x (let less = depth_below k t x at in omega arith)) in
+        (λ h. m.stands_second.from t (same.0 (m.stands_first.into t h)), λ h. m.stands_first.from t (same.1 (m.stands_second.into t h)))
+
+    pub matched_alike : (i : I) (j : J) → R i j → Alike (In i) (Jn j)
+    matched_alike i j r = record {
+      into = λ t h. (alike_to (depth t + 1) i j r t (omega arith)).0 h;
+      from = λ t h. (alike_to (depth t + 1) i j r t (omega arith)).1 h;
+    }

@@ -113,3 +113,7 @@ module _ (s : SchemaValue) where
         let e : Name × Tree = get_or (edges t) j d in
         let b = h.children e.0 e.1 (below_edge t j e.0 e.1 (slice_get-get_or (edges t) j d lt)) in
         record { place = b.child; is = sym (child_here s i n here e.0) ∙ b.is; member = b.inside })
+
+  -- the members at a place are the trees that stand at its node
+  pub members_alike : (i : NodeId) (n : NodeValue) → node_at s i ≡ Some n → Alike (Inside i) (Stands Inside n)
+  members_alike i n here = record { into = member_stands i n here; from = stands_member i n here }
