@@ -17,7 +17,12 @@ added (Some x) (Some y) = Some (x + y)
 
 -- the required names, the optional names and the counts of two shapes added together
 abbrev pub joined_shape : Shape → Shape → Shape
-joined_shape a b = record { required = union a.required b.required; optional = union a.optional b.optional; least = a.least + b.least; most = added a.most b.most }
+joined_shape a b = record {
+  required = union a.required b.required;
+  optional = union a.optional b.optional;
+  least = a.least + b.least;
+  most = added a.most b.most;
+}
 
 -- a shape for each pair, in the order of the first shapes and for each of these in the order of the second
 abbrev pub joined_shapes : List Shape → List Shape → List Shape
