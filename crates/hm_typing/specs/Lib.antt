@@ -1,0 +1,5 @@
+pub mod Forms
+pub mod Members
+pub mod SameForms
+pub mod Typing
+pub mod Faults
