@@ -8,3 +8,8 @@ pub mod Branches
 pub mod Copy
 pub mod Merge
 pub mod Rename
+pub mod CallLists
+pub mod Closures
+mod Callees
+pub mod Ranks
+pub mod Recursion

@@ -1,2 +1,3 @@
 pub mod Bounded
 pub mod Sets
+pub mod Falling
