@@ -19,7 +19,7 @@ use Rattle.hm_node_laws.proofs.Elements.{any_weaker}
 use Rattle.hm_node_laws.proofs.Drawn.{any_mapped, mapped_any, any_filtered, filtered_any}
 use Rattle.hm_node_laws.proofs.NameSets.{insert_new}
 use Rattle.hm_node_laws.proofs.Standing.{has_below}
-use Rattle.hm_node_laws.proofs.Refitted.{same_but_back, remove_gone, but_requiring, but_lacking, same_names_here, refit, well_but}
+use Rattle.hm_node_laws.proofs.Refitted.{same_but_back, remove_gone, but_requiring, but_lacking, refit_here, well_but}
 use Rattle.hm_node_laws.proofs.Reshaped.{no_twins, below_none, stands_shaped, shaped_stands, shaped_fits, required_there, absent_there}
 
 -- what is required or optional with a name, and without it
@@ -35,19 +35,19 @@ module _ {I : Type 0} (n : NodeOver I) (m : Name) (l : IsTrue (is_listed n m)) (
 
   -- names that have it fit a shape where they fit the one with it; so do those that don't, and the one without it
   fits_with : (a : Shape) → IsTrue (contains names m) → F a → F (requiring m a)
-  fits_with a at = refit m n n names names (same_names_here m n n names (λ k. refl) (λ k h. h) l) a (requiring m a) (but_requiring m a)
+  fits_with a at = refit_here m n names l a (requiring m a) (but_requiring m a)
       (λ r. at) (λ h. or_left (contains (insert a.required m) m) (contains (remove a.optional m) m) (with_has m a))
 
   with_fits : (a : Shape) → IsTrue (has_name a m) → F (requiring m a) → F a
-  with_fits a has f = refit m n n names names (same_names_here m n n names (λ k. refl) (λ k h. h) l) (requiring m a) a
+  with_fits a has f = refit_here m n names l (requiring m a) a
       (same_but_back m a (requiring m a) (but_requiring m a)) (λ r. f.listed.required m (with_has m a)) (λ h. has) f
 
   fits_without : (a : Shape) → (IsTrue (contains names m) → ⊥) → F a → F (lacking m a)
-  fits_without a off f = refit m n n names names (same_names_here m n n names (λ k. refl) (λ k h. h) l) a (lacking m a) (but_lacking m a)
+  fits_without a off f = refit_here m n names l a (lacking m a) (but_lacking m a)
       (λ r. f.listed.required m r) (λ h. absurd (off h)) f
 
   without_fits : (a : Shape) → contains a.required m ≡ false → F (lacking m a) → F a
-  without_fits a off f = refit m n n names names (same_names_here m n n names (λ k. refl) (λ k h. h) l) (lacking m a) a
+  without_fits a off f = refit_here m n names l (lacking m a) a
       (same_but_back m a (lacking m a) (but_lacking m a)) (λ r. f.listed.required m r)
       (λ h. absurd (true≢false (sym (f.listed.allowed m h l) ∙ without_lacks m a off))) f
 

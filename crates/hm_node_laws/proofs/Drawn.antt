@@ -78,3 +78,7 @@ module _ {X : Type 0} (P : X → Type 0) (p : X → Bool) where
 pub all_some : {X : Type 0} (P : X → Type 0) (xs : List X) → 0 < length xs → All P xs → (x : X) × P x
 all_some P [] lt all = absurd (omega arith)
 all_some P (x ∷ xs) lt all = (x, All-head P x xs all)
+
+pub mapped_some : {X Y : Type 0} (f : X → Y) (xs : List X) → 0 < length xs → 0 < length (map f xs)
+mapped_some f [] lt = absurd (omega arith)
+mapped_some f (x ∷ xs) lt = omega arith

@@ -4,6 +4,8 @@ pub mod NameSets
 pub mod Shapes
 pub mod Refitted
 pub mod Reshaped
+pub mod OneMore
+pub mod Copying
 pub mod Branching
 pub mod MergedShapes
 pub mod MergedNodes

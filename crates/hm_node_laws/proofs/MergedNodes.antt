@@ -21,10 +21,11 @@ use Rattle.hm_node_laws.specs.Shapes.{IsShut, Requires}
 use Rattle.hm_node_laws.specs.Merging.{CanMerge, IsMerged, merged_shapes, merged_first, merged_rest, differs_in, loosened}
 use Rattle.hm_node_laws.proofs.Drawn.{all_some}
 use Rattle.hm_node_laws.proofs.Shapes.{Sits, shut, alike, IsAtBoth, listed_both, other_both}
+use Rattle.hm_node_laws.proofs.Across.{some_related}
 use Rattle.hm_node_laws.proofs.Standing.{has_below, alike_back}
 use Rattle.hm_node_laws.proofs.MergedShapes.{one_into, two_into, one_from, two_from}
 use Rattle.hm_node_laws.proofs.Refitted.{remove_gone, but_loosened, well_but, well_at}
-use Rattle.hm_node_laws.proofs.Reshaped.{Linked, same_link, link, no_twins, below_none, sitting_fits, sitting_stands, stands_sitting, required_there, absent_there}
+use Rattle.hm_node_laws.proofs.Reshaped.{LeadAlike, lead_itself, no_twins, below_none, sitting_fits, sitting_stands, stands_sitting, required_there, absent_there}
 
 -- ---- two options, and the first of them that is there
 
@@ -69,30 +70,30 @@ module _ {I : Type 0} (R : I → I → Type 0) where
   -- ---- what a name leads to
 
   module _ (In : I → Tree → Type 0) (same : (i j : I) → R i j → Alike (In i) (In j)) where
-    one_listed : (p q : Option I) (o u : Other) → IsTrue (is_some p) → Linked In (option_or p (leads o)) (option_or (option_or p q) (leads u))
+    one_listed : (p q : Option I) (o u : Other) → IsTrue (is_some p) → LeadAlike In (option_or p (leads o)) (option_or (option_or p q) (leads u))
     one_listed None q o u l = absurd (true≢false (sym l))
-    one_listed (Some i) q o u l = same_link
+    one_listed (Some i) q o u l = lead_itself In (Some i)
 
     one_other : (p q : Option I) (o u : Other) (k : Name) → is_some (option_or p q) ≡ false → takes o k
-        → Linked In (option_or p (leads o)) (option_or (option_or p q) (leads (option_or o u)))
+        → LeadAlike In (option_or p (leads o)) (option_or (option_or p q) (leads (option_or o u)))
     one_other (Some i) q o u k off h = absurd (true≢false off)
     one_other None (Some j) o u k off h = absurd (true≢false off)
     one_other None None None u k off h = absurd h
-    one_other None None (Some o) u k off h = same_link
+    one_other None None (Some o) u k off h = lead_itself In (Some o.1)
 
     two_listed : (p q : Option I) (o u : Other) → ((i j : I) → p ≡ Some i → q ≡ Some j → R i j) → IsTrue (is_some q)
-        → Linked In (option_or q (leads o)) (option_or (option_or p q) (leads u))
+        → LeadAlike In (option_or q (leads o)) (option_or (option_or p q) (leads u))
     two_listed p None o u agree l = absurd (true≢false (sym l))
-    two_listed None (Some j) o u agree l = same_link
-    two_listed (Some i) (Some j) o u agree l = link (alike_back (same i j (agree i j refl refl)))
+    two_listed None (Some j) o u agree l = lead_itself In (Some j)
+    two_listed (Some i) (Some j) o u agree l = some_related (alike_back (same i j (agree i j refl refl)))
 
     two_other : (p q : Option I) (o u : Other) (k : Name) → Agree o u → is_some (option_or p q) ≡ false → takes u k
-        → Linked In (option_or q (leads u)) (option_or (option_or p q) (leads (option_or o u)))
+        → LeadAlike In (option_or q (leads u)) (option_or (option_or p q) (leads (option_or o u)))
     two_other (Some i) q o u k agree off h = absurd (true≢false off)
     two_other None (Some j) o u k agree off h = absurd (true≢false off)
     two_other None None o None k agree off h = absurd h
-    two_other None None None (Some u) k agree off h = same_link
-    two_other None None (Some o) (Some u) k agree off h = link (alike_back (same o.1 u.1 (agree o u refl refl).1))
+    two_other None None None (Some u) k agree off h = lead_itself In (Some u.1)
+    two_other None None (Some o) (Some u) k agree off h = some_related (alike_back (same o.1 u.1 (agree o u refl refl).1))
 
 module _ {I : Type 0} (In : I → Tree → Type 0) (R : I → I → Type 0) (same : (i j : I) → R i j → Alike (In i) (In j)) (m : Name) (one two n : NodeOver I)
     (c : CanMerge R m one two) (g : IsMerged m one two n) (well_one : All (IsWellFormedShape one) one.shapes)
@@ -154,16 +155,16 @@ module _ {I : Type 0} (In : I → Tree → Type 0) (R : I → I → Type 0) (sam
   off_n : (k : Name) → is_listed n k ≡ false → is_some (option_or (find name_cmp k one.children) (find name_cmp k two.children)) ≡ false
   off_n k e = sym (ap is_some (g.children k)) ∙ e
 
-  leads_one : (k : Name) → IsAtBoth one n k → Linked In (child_of one k) (child_of n k)
-  leads_one k (listed_both l u) = subst (Linked In (child_of one k)) (child_n k)
+  leads_one : (k : Name) → IsAtBoth one n k → LeadAlike In (child_of one k) (child_of n k)
+  leads_one k (listed_both l u) = subst (LeadAlike In (child_of one k)) (child_n k)
       (one_listed R In same (find name_cmp k one.children) (find name_cmp k two.children) one.other (option_or one.other two.other) l)
-  leads_one k (other_both off u t v) = subst (Linked In (child_of one k)) (child_n k)
+  leads_one k (other_both off u t v) = subst (LeadAlike In (child_of one k)) (child_n k)
       (one_other R In same (find name_cmp k one.children) (find name_cmp k two.children) one.other two.other k (off_n k u) t)
 
-  leads_two : (k : Name) → IsAtBoth two n k → Linked In (child_of two k) (child_of n k)
-  leads_two k (listed_both l u) = subst (Linked In (child_of two k)) (child_n k)
+  leads_two : (k : Name) → IsAtBoth two n k → LeadAlike In (child_of two k) (child_of n k)
+  leads_two k (listed_both l u) = subst (LeadAlike In (child_of two k)) (child_n k)
       (two_listed R In same (find name_cmp k one.children) (find name_cmp k two.children) two.other (option_or one.other two.other) (c.agree.children k) l)
-  leads_two k (other_both off u t v) = subst (Linked In (child_of two k)) (child_n k)
+  leads_two k (other_both off u t v) = subst (LeadAlike In (child_of two k)) (child_n k)
       (two_other R In same (find name_cmp k one.children) (find name_cmp k two.children) one.other two.other k c.agree.others (off_n k u) t)
 
   -- ---- the trees

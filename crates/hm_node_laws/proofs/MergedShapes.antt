@@ -20,7 +20,7 @@ use Rattle.hm_node_laws.specs.Merging.{same_names, same_set, same_bound, same_sh
 use Rattle.hm_node_laws.proofs.Elements.{any_weaker, any_all, any_some, any_of}
 use Rattle.hm_node_laws.proofs.Drawn.{any_left, any_right, any_split, any_mapped, mapped_any, any_filtered, filtered_any}
 use Rattle.hm_node_laws.proofs.NameSets.{insert_new}
-use Rattle.hm_node_laws.proofs.Refitted.{SameBut, same_but_back, same_but_then, remove_gone, but_unrequired, but_loosened, same_names_here, refit}
+use Rattle.hm_node_laws.proofs.Refitted.{SameBut, same_but_back, same_but_then, remove_gone, but_unrequired, but_loosened, refit_here}
 
 -- ---- the test that two shapes are equal
 
@@ -81,11 +81,8 @@ module _ {I : Type 0} (n : NodeOver I) (m : Name) (l : IsTrue (is_listed n m)) (
   abbrev F : Shape → Type 0
   F a = Fits n a names
 
-  fits_but : (a b : Shape) → SameBut m a b → (Requires m b → IsTrue (contains names m)) → (IsTrue (contains names m) → IsTrue (has_name b m)) → F a → F b
-  fits_but a b but need has f = refit m n n names names (same_names_here m n n names (λ k. refl) (λ k h. h) l) a b but need has f
-
   loosen : (a b : Shape) → SameBut m b (loosened m a) → F b → F (loosened m a)
-  loosen a b but f = fits_but b (loosened m a) but (λ r. absurd (true≢false (sym r ∙ remove_gone m a.required)))
+  loosen a b but f = refit_here m n names l b (loosened m a) but (λ r. absurd (true≢false (sym r ∙ remove_gone m a.required)))
       (λ h. or_right (contains (remove a.required m) m) (contains (insert a.optional m) m) (insert_new m a.optional m refl)) f
 
   loosen_bare : (a : Shape) → F (unrequired m a) → F (loosened m a)
@@ -93,11 +90,11 @@ module _ {I : Type 0} (n : NodeOver I) (m : Name) (l : IsTrue (is_listed n m)) (
       (same_but_then m (unrequired m a) a (loosened m a) (same_but_back m a (unrequired m a) (but_unrequired m a)) (but_loosened m a)) f
 
   tighten : (a : Shape) → Requires m a → IsTrue (contains names m) → F (loosened m a) → F a
-  tighten a r at f = fits_but (loosened m a) a (same_but_back m a (loosened m a) (but_loosened m a)) (λ h. at)
+  tighten a r at f = refit_here m n names l (loosened m a) a (same_but_back m a (loosened m a) (but_loosened m a)) (λ h. at)
       (λ h. or_left (contains a.required m) (contains a.optional m) r) f
 
   bare : (a : Shape) → (IsTrue (contains names m) → ⊥) → F (loosened m a) → F (unrequired m a)
-  bare a off f = fits_but (loosened m a) (unrequired m a)
+  bare a off f = refit_here m n names l (loosened m a) (unrequired m a)
       (same_but_then m (loosened m a) a (unrequired m a) (same_but_back m a (loosened m a) (but_loosened m a)) (but_unrequired m a))
       (λ r. absurd (true≢false (sym r ∙ remove_gone m a.required))) (λ h. absurd (off h)) f
 

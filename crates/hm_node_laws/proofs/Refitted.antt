@@ -1,6 +1,6 @@
 -- Names fit a shape where other names fit another shape, if the two shapes, the two sets of names and the two nodes are the same
 -- but for a name.
-use Rattle.std.proofs.Common.{◌≡◌, ◌≤◌, false, IsTrue, IfSome, None, refl, sym, ap, subst, ◌∙◌, inl, inr}
+use Rattle.std.proofs.Common.{◌≡◌, ◌↔◌, ◌≤◌, false, IsTrue, IfSome, None, refl, sym, ap, subst, ◌∙◌, inl, inr}
 use Rattle.std.proofs.lemmas.Bool.{true≢false, or_cases, or_left, or_right, false_from_ne_true}
 use Rattle.std.specs.FinSet.{contains, insert, remove}
 use Rattle.hm_tree.specs.Names.{Name}
@@ -73,19 +73,18 @@ module _ (m : Name) where
 pub record AreSameBut {I J : Type 0} (m : Name) (n : NodeOver I) (p : NodeOver J) (names others : Names) : Type 0 where
   pub same : (k : Name) → (k ≡ m → ⊥) → contains names k ≡ contains others k
   pub listed : (k : Name) → (k ≡ m → ⊥) → is_listed n k ≡ is_listed p k
-  pub takes : (k : Name) → Takes n k → Takes p k
+  pub takes : (k : Name) → Takes n k ↔ Takes p k
   pub one : IsTrue (contains names m) → IsTrue (is_listed n m)
   pub two : IsTrue (contains others m) → IsTrue (is_listed p m)
 
--- the same names, at one node or at two that list the same
-pub same_names_here : {I J : Type 0} (m : Name) (n : NodeOver I) (p : NodeOver J) (names : Names) → ((k : Name) → is_listed n k ≡ is_listed p k)
-    → ((k : Name) → Takes n k → Takes p k) → IsTrue (is_listed n m) → AreSameBut m n p names names
-same_names_here m n p names same takes l = record {
-  same = λ k f. refl;
-  listed = λ k f. same k;
-  takes = takes;
-  one = λ h. l;
-  two = λ h. sym (same m) ∙ l;
+pub are_same_back : {I J : Type 0} (m : Name) (n : NodeOver I) (p : NodeOver J) (names others : Names) → AreSameBut m n p names others
+    → AreSameBut m p n others names
+are_same_back m n p names others s = record {
+  same = λ k f. sym (s.same k f);
+  listed = λ k f. sym (s.listed k f);
+  takes = λ k. let t = s.takes k in (t.1, t.0);
+  one = s.two;
+  two = s.one;
 }
 
 module _ {I J : Type 0} (m : Name) (n : NodeOver I) (p : NodeOver J) (names others : Names) (s : AreSameBut m n p names others) where
@@ -116,13 +115,19 @@ module _ {I J : Type 0} (m : Name) (n : NodeOver I) (p : NodeOver J) (names othe
         ]
       ];
     };
-    others = λ k h off. let d = not_two k h off in s.takes k (f.others k (s.same k d ∙ h) (s.listed k d ∙ off));
+    others = λ k h off. let d = not_two k h off in (s.takes k).0 (f.others k (s.same k d ∙ h) (s.listed k d ∙ off));
     number = record {
       least = subst (λ u. b.least ≤ u) same_unlisted (subst (λ l. l ≤ unlisted n names) but.least f.number.least);
       most = subst (λ u. IfSome b.most (λ most. u ≤ most)) same_unlisted
           (subst (λ o. IfSome o (λ most. unlisted n names ≤ most)) but.most f.number.most);
     };
   }
+
+-- the same names at one node that lists the name
+pub refit_here : {I : Type 0} (m : Name) (n : NodeOver I) (names : Names) → IsTrue (is_listed n m) → (a b : Shape) → SameBut m a b
+    → (Requires m b → IsTrue (contains names m)) → (IsTrue (contains names m) → IsTrue (has_name b m)) → Fits n a names → Fits n b names
+refit_here m n names l = refit m n n names names
+    (record { same = λ k f. refl; listed = λ k f. refl; takes = λ k. (λ h. h, λ h. h); one = λ h. l; two = λ h. l })
 
 -- ---- well formed shapes
 

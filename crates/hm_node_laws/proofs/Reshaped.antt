@@ -2,7 +2,6 @@
 -- have, or none.
 use Rattle.std.proofs.Common.{◌≡◌, ◌⊎◌, false, is_some, IsTrue, List, [], Option, Some, None, All, Any, refl, sym, ap, subst, ◌∙◌, inl, inr}
 use Rattle.std.proofs.lemmas.Bool.{true≢false}
-use Rattle.std.proofs.lemmas.Option.{same_Some}
 use Rattle.std.proofs.lemmas.List.Elements.{All-nil}
 use Rattle.std.specs.FinSet.{contains}
 use Rattle.hm_tree.specs.Names.{Name}
@@ -17,31 +16,27 @@ use Rattle.hm_node_laws.specs.Standing.{IsBelow, HasTwin, Stands, Alike}
 use Rattle.hm_node_laws.specs.Shapes.{IsShut, Requires, shaped}
 use Rattle.hm_node_laws.proofs.Elements.{any_all, any_some}
 use Rattle.hm_node_laws.proofs.Shapes.{Sits, alike, IsAtBoth, sits_back, fits_across, at_both, all_listed}
+use Rattle.hm_node_laws.proofs.Across.{AreRelated, none_related, some_related, related_there}
 use Rattle.hm_node_laws.proofs.Standing.{has_below, none_below, alike_back}
 
--- ---- what names lead to
+-- ---- what a name leads to at two nodes
 
--- two names lead to the same, or to sets with the same trees
-pub data Linked {I : Type 0} (In : I → Tree → Type 0) : Option I → Option I → Type 0 where
-  same_link : {o : Option I} → Linked In o o
-  link : {i j : I} → Alike (In i) (In j) → Linked In (Some i) (Some j)
+module _ {I : Type 0} (In : I → Tree → Type 0) where
+  -- sets with the same trees, or nothing
+  abbrev pub LeadAlike : Option I → Option I → Type 0
+  LeadAlike = AreRelated (λ i j. Alike (In i) (In j))
 
-pub link_back : {I : Type 0} (In : I → Tree → Type 0) {p q : Option I} → Linked In p q → Linked In q p
-link_back In same_link = same_link
-link_back In (link a) = link (alike_back a)
+  pub lead_itself : (x : Option I) → LeadAlike x x
+  lead_itself None = none_related
+  lead_itself (Some i) = some_related (record { into = λ t h. h; from = λ t h. h })
 
--- so the same trees may stand below them
-pub below_linked : {I : Type 0} (In : I → Tree → Type 0) (n m : NodeOver I) (k l : Name) (x : Tree) → Linked In (child_of n k) (child_of m l)
-    → IsBelow In n k x → IsBelow In m l x
-below_linked {I = I} In n m k l x linked b = go (child_of n k) refl (child_of m l) refl linked
-  where
-    go : (p : Option I) → child_of n k ≡ p → (q : Option I) → child_of m l ≡ q → Linked In p q → IsBelow In m l x
-    go p e q f same_link = record { child = b.child; is = f ∙ sym e ∙ b.is; inside = b.inside }
-    go p e q f (link {i = i} {j = j} a) = record {
-      child = j;
-      is = f;
-      inside = a.into x (subst (λ i. In i x) (same_Some b.child i (sym b.is ∙ e)) b.inside);
-    }
+  lead_back : {x y : Option I} → LeadAlike x y → LeadAlike y x
+  lead_back none_related = none_related
+  lead_back (some_related a) = some_related (alike_back a)
+
+  -- so the same trees may stand below it
+  below_alike : (n m : NodeOver I) (k : Name) (x : Tree) → LeadAlike (child_of n k) (child_of m k) → IsBelow In n k x → IsBelow In m k x
+  below_alike n m k x lead b = let c = related_there b.child lead b.is in record { child = c.0; is = c.1; inside = c.2.into x b.inside }
 
 -- names of a tree that has nothing below a name don't have that
 pub below_none : (t : Tree) (k : Name) → below k t ≡ None → IsTrue (contains (names_of t) k) → ⊥
@@ -54,9 +49,9 @@ no_twins n t e = subst (λ twins. All (HasTwin t) twins) (sym e) (All-nil (HasTw
 -- ---- a node of which the shapes sit at another, where names lead to the same
 
 module _ {I : Type 0} (In : I → Tree → Type 0) (v n : NodeOver I) (sits : All (Sits v n) v.shapes)
-    (leads : (k : Name) → IsAtBoth v n k → Linked In (child_of v k) (child_of n k)) (t : Tree) where
-  stand_linked : Any (λ a. Fits v a (names_of t)) v.shapes → (k : Name) (x : Tree) → below k t ≡ Some x → Linked In (child_of v k) (child_of n k)
-  stand_linked h k x at = leads k (any_some (λ a. Fits v a (names_of t)) (Sits v n)
+    (leads : (k : Name) → IsAtBoth v n k → LeadAlike In (child_of v k) (child_of n k)) (t : Tree) where
+  stand_alike : Any (λ a. Fits v a (names_of t)) v.shapes → (k : Name) (x : Tree) → below k t ≡ Some x → LeadAlike In (child_of v k) (child_of n k)
+  stand_alike h k x at = leads k (any_some (λ a. Fits v a (names_of t)) (Sits v n)
       (λ a s f. at_both v n a (names_of t) s f k (has_below t k x at)) v.shapes sits h)
 
   -- names that are permitted at the one fit one of its shapes at the other
@@ -68,7 +63,7 @@ module _ {I : Type 0} (In : I → Tree → Type 0) (v n : NodeOver I) (sits : Al
   sitting_stands h f w = record {
     permitted = f;
     twins = w;
-    children = λ k x at. below_linked In v n k k x (stand_linked h.permitted k x at) (h.children k x at);
+    children = λ k x at. below_alike In v n k x (stand_alike h.permitted k x at) (h.children k x at);
   }
 
   pub stands_sitting : Stands In n t → Any (λ a. Fits n a (names_of t)) v.shapes → All (HasTwin t) v.twins → Stands In v t
@@ -78,7 +73,7 @@ module _ {I : Type 0} (In : I → Tree → Type 0) (v n : NodeOver I) (sits : Al
       record {
         permitted = g;
         twins = w;
-        children = λ k x at. below_linked In n v k k x (link_back In (stand_linked g k x at)) (h.children k x at);
+        children = λ k x at. below_alike In n v k x (lead_back In (stand_alike g k x at)) (h.children k x at);
       }
 
 -- ---- a node with other shapes
@@ -91,13 +86,13 @@ module _ {I : Type 0} (In : I → Tree → Type 0) (n : NodeOver I) (shapes : Li
   sits_shaped i d lt = alike (λ k. refl) (λ k. (λ h. h, λ h. h))
 
   pub shaped_fits : Stands In v t → Any (λ a. Fits n a (names_of t)) shapes
-  shaped_fits h = sitting_fits In v n sits_shaped (λ k b. same_link) t h
+  shaped_fits h = sitting_fits In v n sits_shaped (λ k b. lead_itself In (child_of n k)) t h
 
   pub shaped_stands : Stands In v t → Permits n (names_of t) → All (HasTwin t) n.twins → Stands In n t
-  shaped_stands h f w = sitting_stands In v n sits_shaped (λ k b. same_link) t h f w
+  shaped_stands h f w = sitting_stands In v n sits_shaped (λ k b. lead_itself In (child_of n k)) t h f w
 
   pub stands_shaped : Stands In n t → Any (λ a. Fits n a (names_of t)) shapes → All (HasTwin t) twins → Stands In v t
-  stands_shaped h f w = stands_sitting In v n sits_shaped (λ k b. same_link) t h f w
+  stands_shaped h f w = stands_sitting In v n sits_shaped (λ k b. lead_itself In (child_of n k)) t h f w
 
 -- ---- names that each tree of a node has, or none
 
