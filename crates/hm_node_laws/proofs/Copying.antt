@@ -11,7 +11,6 @@ use Rattle.hm_tree.specs.declared.class.Class.{Class}
 use Rattle.hm_tree.specs.Names.{Name, name_cmp}
 use Rattle.hm_tree.specs.Nodes.{Tree, below, with_edge, without_edge}
 use Rattle.hm_tree.proofs.NameSets.{tied_one, tied_self}
-use Rattle.hm_schema.specs.declared.node.Shape.{Shape}
 use Rattle.hm_schema.specs.Values.{NodeOver, is_listed}
 use Rattle.hm_schema.specs.Tidied.{has_name}
 use Rattle.hm_schema.specs.WellFormed.{IsWellFormedShape}
@@ -25,27 +24,18 @@ use Rattle.hm_node_laws.proofs.Elements.{all_one}
 use Rattle.hm_node_laws.proofs.Drawn.{all_some, mapped_some, mapped_to, mapped_from}
 use Rattle.hm_node_laws.proofs.NameSets.{insert_old, insert_new}
 use Rattle.hm_node_laws.proofs.Refitted.{same_but_back, but_with_required, well_but}
-use Rattle.hm_node_laws.proofs.Reshaped.{required_there, absent_there}
+use Rattle.hm_node_laws.proofs.Reshaped.{required_listed, required_there, absent_there}
 use Rattle.hm_node_laws.proofs.OneMore.{more_with, more_without, AddsName, AddsTo, stands_less, stands_more}
 
 module _ {I : Type 0} (m n : Name) (w v : NodeOver I) (can : CanCopy m n w) (is : IsCopied m n w v) (well : All (IsWellFormedShape w) w.shapes)
     (some : 0 < length w.shapes) where
-  -- a shape of the source
-  record Source : Type 0 where
-    shape : Shape
-    formed : IsWellFormedShape w shape
-    requires : Requires m shape
-    lacks : has_name shape n ≡ false
-
-  source : Source
-  source =
-      let a = all_some (λ a. IsWellFormedShape w a × Requires m a × (has_name a n ≡ false)) w.shapes some
-      (λ i d lt. (well i d lt, can.required i d lt, can.absent i d lt)) in
-      record { shape = a.0; formed = a.1.0; requires = a.1.1; lacks = a.1.2 }
+  listed_first : IsTrue (is_listed w m)
+  listed_first = required_listed w m well some can.required
 
   apart : m ≡ n → ⊥
-  apart e = true≢false (sym (or_left (contains source.shape.required n) (contains source.shape.optional n)
-      (subst (λ k. IsTrue (contains source.shape.required k)) e source.requires)) ∙ source.lacks)
+  apart e =
+      let a = all_some (λ a. Requires m a × (has_name a n ≡ false)) w.shapes some (λ i d lt. (can.required i d lt, can.absent i d lt)) in
+      true≢false (sym (or_left (contains a.0.required n) (contains a.0.optional n) (subst (λ k. IsTrue (contains a.0.required k)) e a.1.0)) ∙ a.1.1)
 
   found_new : find name_cmp n v.children ≡ find name_cmp m w.children
   found_new = is.children n ∙ ap (λ b. cond b (find name_cmp m w.children) (find name_cmp n w.children)) (tied_self n)
@@ -55,8 +45,7 @@ module _ {I : Type 0} (m n : Name) (w v : NodeOver I) (can : CanCopy m n w) (is 
       (λ x. x ≡ find name_cmp k w.children) (λ e. absurd (f (tied_one k n e))) (λ e. refl)
 
   listed_new : IsTrue (is_listed v n)
-  listed_new = ap is_some found_new
-      ∙ source.formed.listed m (or_left (contains source.shape.required m) (contains source.shape.optional m) source.requires)
+  listed_new = ap is_some found_new ∙ listed_first
 
   -- the view's shapes add the name to the source's
   adds : All (λ a. AddsName n (with_required n a) a) w.shapes

@@ -6,6 +6,7 @@ pub mod Refitted
 pub mod Reshaped
 pub mod OneMore
 pub mod Copying
+pub mod Hiding
 pub mod Branching
 pub mod MergedShapes
 pub mod MergedNodes

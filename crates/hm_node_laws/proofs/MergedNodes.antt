@@ -6,7 +6,6 @@ use Rattle.std.proofs.lemmas.List.Elements.{All-weaker, All-append, All-map, All
 use Rattle.std.specs.List.{list_any}
 use Rattle.std.specs.Option.{option_or, option_map}
 use Rattle.std.specs.FinMap.{find}
-use Rattle.std.specs.FinSet.{contains}
 use Rattle.hm_tree.specs.declared.class.Class.{Class}
 use Rattle.hm_tree.specs.Classes.{IsInClass}
 use Rattle.hm_tree.specs.Names.{Name, name_cmp}
@@ -17,15 +16,14 @@ use Rattle.hm_schema.specs.Permitted.{Fits, Permits, Takes, names_of}
 use Rattle.hm_schema.specs.WellFormed.{IsWellFormedShape}
 use Rattle.hm_lens_laws.specs.Sets.{IsBranched, Side, with_it, without_it}
 use Rattle.hm_node_laws.specs.Standing.{Stands, Alike}
-use Rattle.hm_node_laws.specs.Shapes.{IsShut, Requires}
+use Rattle.hm_node_laws.specs.Shapes.{IsShut}
 use Rattle.hm_node_laws.specs.Merging.{CanMerge, IsMerged, merged_shapes, merged_first, merged_rest, differs_in, loosened}
-use Rattle.hm_node_laws.proofs.Drawn.{all_some}
 use Rattle.hm_node_laws.proofs.Shapes.{Sits, shut, alike, IsAtBoth, listed_both, other_both}
 use Rattle.hm_node_laws.proofs.Across.{some_related}
 use Rattle.hm_node_laws.proofs.Standing.{has_below, alike_back}
 use Rattle.hm_node_laws.proofs.MergedShapes.{one_into, two_into, one_from, two_from}
 use Rattle.hm_node_laws.proofs.Refitted.{remove_gone, but_loosened, well_but, well_at}
-use Rattle.hm_node_laws.proofs.Reshaped.{LeadAlike, lead_itself, no_twins, below_none, sitting_fits, sitting_stands, stands_sitting, required_there, absent_there}
+use Rattle.hm_node_laws.proofs.Reshaped.{LeadAlike, lead_itself, no_twins, below_none, sitting_fits, sitting_stands, stands_sitting, required_listed, required_there, absent_there}
 
 -- ---- two options, and the first of them that is there
 
@@ -108,9 +106,7 @@ module _ {I : Type 0} (In : I → Tree → Type 0) (R : I → I → Type 0) (sam
   up_two k l = listed_n k ∙ or_right (is_listed one k) (is_listed two k) l
 
   listed_m : IsTrue (is_listed n m)
-  listed_m =
-      let a = all_some (λ a. IsWellFormedShape one a × Requires m a) one.shapes some (λ i d lt. (well_one i d lt, c.required i d lt)) in
-      up_one m (a.1.0.listed m (or_left (contains a.0.required m) (contains a.0.optional m) a.1.1))
+  listed_m = up_one m (required_listed one m well_one some c.required)
 
   no_other : n.other ≡ None → (one.other ≡ None) × (two.other ≡ None)
   no_other e = none_or one.other two.other (sym g.other ∙ e)

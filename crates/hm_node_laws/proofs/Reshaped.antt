@@ -1,7 +1,7 @@
 -- Nodes of which the shapes sit at another node, as those with other shapes: which trees stand there, and which names all of them
 -- have, or none.
-use Rattle.std.proofs.Common.{◌≡◌, ◌⊎◌, false, is_some, IsTrue, List, [], Option, Some, None, All, Any, refl, sym, ap, subst, ◌∙◌, inl, inr}
-use Rattle.std.proofs.lemmas.Bool.{true≢false}
+use Rattle.std.proofs.Common.{◌≡◌, ◌<◌, ◌⊎◌, length, false, is_some, IsTrue, List, [], Option, Some, None, All, Any, refl, sym, ap, subst, ◌∙◌, inl, inr}
+use Rattle.std.proofs.lemmas.Bool.{true≢false, or_left}
 use Rattle.std.proofs.lemmas.List.Elements.{All-nil}
 use Rattle.std.specs.FinSet.{contains}
 use Rattle.hm_tree.specs.Names.{Name}
@@ -10,11 +10,13 @@ use Rattle.hm_schema.specs.declared.node.Shape.{Shape}
 use Rattle.hm_schema.specs.Values.{NodeOver, is_listed, child_of}
 use Rattle.hm_schema.specs.Permitted.{Fits, Permits, names_of}
 use Rattle.hm_schema.specs.Tidied.{has_name}
+use Rattle.hm_schema.specs.WellFormed.{IsWellFormedShape}
 use Rattle.hm_schema.proofs.NamesOf.{names_of-below}
 use Rattle.hm_terms.proofs.Maps.{is_there}
 use Rattle.hm_node_laws.specs.Standing.{IsBelow, HasTwin, Stands, Alike}
 use Rattle.hm_node_laws.specs.Shapes.{IsShut, Requires, shaped}
 use Rattle.hm_node_laws.proofs.Elements.{any_all, any_some}
+use Rattle.hm_node_laws.proofs.Drawn.{all_some}
 use Rattle.hm_node_laws.proofs.Shapes.{Sits, alike, IsAtBoth, sits_back, fits_across, at_both, all_listed}
 use Rattle.hm_node_laws.proofs.Across.{AreRelated, none_related, some_related, related_there}
 use Rattle.hm_node_laws.proofs.Standing.{has_below, none_below, alike_back}
@@ -95,6 +97,13 @@ module _ {I : Type 0} (In : I → Tree → Type 0) (n : NodeOver I) (shapes : Li
   stands_shaped h f w = stands_sitting In v n sits_shaped (λ k b. lead_itself In (child_of n k)) t h f w
 
 -- ---- names that each tree of a node has, or none
+
+-- a name that each shape requires is listed
+pub required_listed : {I : Type 0} (n : NodeOver I) (k : Name) → All (IsWellFormedShape n) n.shapes → 0 < length n.shapes → All (Requires k) n.shapes
+    → IsTrue (is_listed n k)
+required_listed n k well some all =
+    let a = all_some (λ a. IsWellFormedShape n a × Requires k a) n.shapes some (λ i d lt. (well i d lt, all i d lt)) in
+    a.1.0.listed k (or_left (contains a.0.required k) (contains a.0.optional k) a.1.1)
 
 module _ {I : Type 0} (In : I → Tree → Type 0) (n : NodeOver I) (k : Name) (t : Tree) (h : Stands In n t) where
   -- a name that each shape requires
