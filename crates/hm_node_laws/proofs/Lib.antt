@@ -7,6 +7,8 @@ pub mod Reshaped
 pub mod OneMore
 pub mod Copying
 pub mod Hiding
+pub mod ListShapes
+pub mod ListNodes
 pub mod Branching
 pub mod MergedShapes
 pub mod MergedNodes

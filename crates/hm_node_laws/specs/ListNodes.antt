@@ -23,3 +23,15 @@ pub record IsListNode {I : Type 0} (R : I → I → Type 0) (s : I) (n : NodeOve
   pub rest : I
   pub rest_is : child_of n tail ≡ Some rest
   pub itself : R rest s
+
+-- a node, tidied, has the shape of an item and no other; what is under *t is a list node, of which the items are as the first is
+pub record IsItemNode {I : Type 0} (R : I → I → Type 0) (n list : NodeOver I) : Type 0 where
+  pub plain : n.twins ≡ []
+  pub shapes : All (λ a. a ≡ item_shape) n.shapes
+  pub item : Any (λ a. a ≡ item_shape) n.shapes
+  pub first : I
+  pub first_is : child_of n head ≡ Some first
+  pub rest : I
+  pub rest_is : child_of n tail ≡ Some rest
+  pub others : IsListNode R rest list
+  pub alike : R others.first first
