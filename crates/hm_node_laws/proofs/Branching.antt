@@ -1,9 +1,9 @@
 -- The trees of a node are those of the node with a name, which have it, and those of the node without it, which don't.
 use Rattle.std.proofs.Common.{◌≡◌, false, not, IsTrue, List, [], get_or, Option, Some, None, All, Any, refl, sym, ap, ◌∙◌, inr}
-use Rattle.std.proofs.lemmas.Bool.{true≢false, or_left, or_from, not-true, false_from_ne_true}
+use Rattle.std.proofs.lemmas.Bool.{true≢false, or_from, not-true, false_from_ne_true}
 use Rattle.std.proofs.lemmas.List.Elements.{All-nil, All-map, All-weaker, All-filter, filter_passes}
 use Rattle.std.specs.List.{filter}
-use Rattle.std.specs.FinSet.{contains, insert, remove}
+use Rattle.std.specs.FinSet.{contains, remove}
 use Rattle.hm_tree.specs.Names.{Name}
 use Rattle.hm_tree.specs.Nodes.{Tree, below}
 use Rattle.hm_schema.specs.declared.node.Shape.{Shape}
@@ -15,6 +15,7 @@ use Rattle.hm_lens_laws.specs.Sets.{IsBranched, Side, with_it, without_it}
 use Rattle.hm_node_laws.specs.Standing.{HasTwin, Stands}
 use Rattle.hm_node_laws.specs.Shapes.{Requires}
 use Rattle.hm_node_laws.specs.Branching.{requiring, lacking, shapes_with, shapes_without, node_with, node_without}
+use Rattle.hm_node_laws.proofs.Shapes.{required_has}
 use Rattle.hm_node_laws.proofs.Elements.{any_weaker}
 use Rattle.hm_node_laws.proofs.Drawn.{any_mapped, mapped_any, any_filtered, filtered_any}
 use Rattle.hm_node_laws.proofs.NameSets.{insert_new}
@@ -36,7 +37,7 @@ module _ {I : Type 0} (n : NodeOver I) (m : Name) (l : IsTrue (is_listed n m)) (
   -- names that have it fit a shape where they fit the one with it; so do those that don't, and the one without it
   fits_with : (a : Shape) → IsTrue (contains names m) → F a → F (requiring m a)
   fits_with a at = refit_here m n names l a (requiring m a) (but_requiring m a)
-      (λ r. at) (λ h. or_left (contains (insert a.required m) m) (contains (remove a.optional m) m) (with_has m a))
+      (λ r. at) (λ h. required_has (requiring m a) m (with_has m a))
 
   with_fits : (a : Shape) → IsTrue (has_name a m) → F (requiring m a) → F a
   with_fits a has f = refit_here m n names l (requiring m a) a

@@ -1,6 +1,6 @@
 -- A child copied under another name: the lens fits the trees of its source and of its view.
 use Rattle.std.proofs.Common.{◌≡◌, ◌<◌, false, cond, is_some, IsTrue, [], ◌∷◌, length, get_or, Some, None, All, Any, refl, sym, ap, subst, ◌∙◌}
-use Rattle.std.proofs.lemmas.Bool.{true≢false, or_left, or_parts, cond_both}
+use Rattle.std.proofs.lemmas.Bool.{true≢false, or_parts, cond_both}
 use Rattle.std.proofs.lemmas.List.Elements.{All-head, All-map}
 use Rattle.std.specs.Option.{option_or, option_map}
 use Rattle.std.specs.Ordering.{eq_by_cmp}
@@ -20,6 +20,7 @@ use Rattle.hm_lens_laws.proofs.Copy.{fits_copy}
 use Rattle.hm_node_laws.specs.Standing.{IsBelow, HasTwin, Stands}
 use Rattle.hm_node_laws.specs.Shapes.{Requires, RequiresTwin, RequiresTwins}
 use Rattle.hm_node_laws.specs.Copying.{with_required, CanCopy, IsCopied}
+use Rattle.hm_node_laws.proofs.Shapes.{required_has}
 use Rattle.hm_node_laws.proofs.Elements.{all_one}
 use Rattle.hm_node_laws.proofs.Drawn.{all_some, mapped_some, mapped_to, mapped_from}
 use Rattle.hm_node_laws.proofs.NameSets.{insert_old, insert_new}
@@ -35,7 +36,7 @@ module _ {I : Type 0} (m n : Name) (w v : NodeOver I) (can : CanCopy m n w) (is 
   apart : m ≡ n → ⊥
   apart e =
       let a = all_some (λ a. Requires m a × (has_name a n ≡ false)) w.shapes some (λ i d lt. (can.required i d lt, can.absent i d lt)) in
-      true≢false (sym (or_left (contains a.0.required n) (contains a.0.optional n) (subst (λ k. IsTrue (contains a.0.required k)) e a.1.0)) ∙ a.1.1)
+      true≢false (sym (required_has a.0 n (subst (λ k. Requires k a.0) e a.1.0)) ∙ a.1.1)
 
   found_new : find name_cmp n v.children ≡ find name_cmp m w.children
   found_new = is.children n ∙ ap (λ b. cond b (find name_cmp m w.children) (find name_cmp n w.children)) (tied_self n)

@@ -7,7 +7,7 @@ pub mod Reshaped
 pub mod OneMore
 pub mod Copying
 pub mod Hiding
-pub mod ListShapes
+pub mod ListTrees
 pub mod ListNodes
 pub mod Branching
 pub mod MergedShapes

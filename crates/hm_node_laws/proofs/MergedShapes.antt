@@ -1,7 +1,7 @@
 -- Shapes merged on a name: names that have it fit a merged shape where they fit one of the first shapes, and names without it
 -- where they fit one of the second.
 use Rattle.std.proofs.Common.{◌≡◌, ◌↔◌, ℕ, ◌==◌, Bool, true, false, cond, not, ◌&&◌, IsTrue, List, [], ◌∷◌, Option, Some, None, All, Any, Contains, refl, sym, ap, subst, ◌∙◌, inl, inr}
-use Rattle.std.proofs.lemmas.Bool.{true≢false, and_parts, and_from, or_left, or_right, eqb-true, eq-eqb, cond_both, cond-true}
+use Rattle.std.proofs.lemmas.Bool.{true≢false, and_parts, and_from, or_right, eqb-true, eq-eqb, cond_both, cond-true}
 use Rattle.std.proofs.lemmas.List.Elements.{All-contains_itself}
 use Rattle.std.proofs.lemmas.List.Folds.{Any-from_list_any, list_any-from_Any}
 use Rattle.std.specs.List.{list_any}
@@ -17,6 +17,7 @@ use Rattle.hm_schema.specs.Permitted.{Fits}
 use Rattle.hm_schema.specs.Tidied.{has_name}
 use Rattle.hm_node_laws.specs.Shapes.{Requires}
 use Rattle.hm_node_laws.specs.Merging.{same_names, same_set, same_bound, same_shape, unrequired, loosened, differs_in, merged_first, merged_rest, merged_shapes}
+use Rattle.hm_node_laws.proofs.Shapes.{required_has}
 use Rattle.hm_node_laws.proofs.Elements.{any_weaker, any_all, any_some, any_of}
 use Rattle.hm_node_laws.proofs.Drawn.{any_left, any_right, any_split, any_mapped, mapped_any, any_filtered, filtered_any}
 use Rattle.hm_node_laws.proofs.NameSets.{insert_new}
@@ -91,7 +92,7 @@ module _ {I : Type 0} (n : NodeOver I) (m : Name) (l : IsTrue (is_listed n m)) (
 
   tighten : (a : Shape) → Requires m a → IsTrue (contains names m) → F (loosened m a) → F a
   tighten a r at f = refit_here m n names l (loosened m a) a (same_but_back m a (loosened m a) (but_loosened m a)) (λ h. at)
-      (λ h. or_left (contains a.required m) (contains a.optional m) r) f
+      (λ h. required_has a m r) f
 
   bare : (a : Shape) → (IsTrue (contains names m) → ⊥) → F (loosened m a) → F (unrequired m a)
   bare a off f = refit_here m n names l (loosened m a) (unrequired m a)

@@ -1,7 +1,7 @@
 -- Trees and nodes of which one has a name more than the other: a tree stands at the one where the tree without the name stands at
 -- the other.
 use Rattle.std.proofs.Common.{◌≡◌, false, cond, not, is_some, IsTrue, IsSomeAnd, [], Some, None, All, Any, refl, sym, ap, subst, ◌∙◌, inl, inr}
-use Rattle.std.proofs.lemmas.Bool.{true≢false, or_left, cond_both, not-false}
+use Rattle.std.proofs.lemmas.Bool.{true≢false, cond_both, not-false}
 use Rattle.std.proofs.lemmas.Option.{same_Some, none-some}
 use Rattle.std.specs.Option.{option_or, option_map}
 use Rattle.std.specs.Ordering.{eq_by_cmp}
@@ -22,6 +22,7 @@ use Rattle.hm_schema.proofs.NamesOf.{names_of-below}
 use Rattle.hm_lens_laws.proofs.Copy.{below-without}
 use Rattle.hm_node_laws.specs.Standing.{IsBelow, HasTwin, Stands}
 use Rattle.hm_node_laws.specs.Shapes.{Requires}
+use Rattle.hm_node_laws.proofs.Shapes.{required_has}
 use Rattle.hm_node_laws.proofs.Elements.{any_weaker, any_some}
 use Rattle.hm_node_laws.proofs.NameSets.{same_name}
 use Rattle.hm_node_laws.proofs.Standing.{has_below, below_as}
@@ -85,11 +86,11 @@ module _ {I : Type 0} (In : I → Tree → Type 0) (o : Name) (n m : NodeOver I)
 
   fits_less : (a b : Shape) → AddsName o a b → Fits n a (names_of t) → Fits m b (names_of u)
   fits_less a b add = refit o n m (names_of t) (names_of u) same a b add.but
-      (λ r. absurd (true≢false (sym (or_left (contains b.required o) (contains b.optional o) r) ∙ add.lacks))) (λ g. absurd (none_there g))
+      (λ r. absurd (true≢false (sym (required_has b o r) ∙ add.lacks))) (λ g. absurd (none_there g))
 
   fits_more : (b a : Shape) → AddsName o a b → Fits m b (names_of u) → Fits n a (names_of t)
   fits_more b a add = refit o m n (names_of u) (names_of t) (are_same_back o n m (names_of t) (names_of u) same) b a (same_but_back o a b add.but)
-      (λ r. has_below t o y h.new) (λ g. or_left (contains a.required o) (contains a.optional o) add.requires)
+      (λ r. has_below t o y h.new) (λ g. required_has a o add.requires)
 
   same_child : (k : Name) → (k ≡ o → ⊥) → child_of n k ≡ child_of m k
   same_child k f = λ i. option_or (d.children k f i) (option_map (λ (o : Class × I). o.1) (d.other i))

@@ -42,12 +42,12 @@ module _ {I : Type 0} (In : I → Tree → Type 0) (n : NodeOver I) (plain : n.t
 -- ---- of given names
 
 module _ {I : Type 0} (n : NodeOver I) (names others : Names) where
-  exact_fits : (a : Shape) → HasExactly names a → Fits n a others → others ≡ names
+  pub exact_fits : (a : Shape) → HasExactly names a → Fits n a others → others ≡ names
   exact_fits a h f = same_names others names (λ k. same_bool (contains others k) (contains names k)
       (λ at. h.only k (f.listed.allowed k at (all_listed n others a h.shut f k at)))
       (λ at. f.listed.required k (h.requires k at)))
 
-  fits_exact : (a : Shape) → IsWellFormedShape n a → HasExactly names a → others ≡ names → Fits n a others
+  pub fits_exact : (a : Shape) → IsWellFormedShape n a → HasExactly names a → others ≡ names → Fits n a others
   fits_exact a w h e = record {
     listed = record { required = λ k r. there k (h.only k (required_has a k r)); allowed = λ k at l. required_has a k (required k at) };
     others = λ k at off. absurd (true≢false (sym (lists k at) ∙ off));
@@ -94,29 +94,39 @@ module _ {I : Type 0} (In : I → Tree → Type 0) (n : NodeOver I) (names : Nam
   pub stands_exact : (t : Tree) → Stands In n t → names_of t ≡ names
   stands_exact t s = (permits_exact n names (names_of t) h).0 s.permitted
 
+pub shape_exact : (names : Names) → HasExactly names (exact_shape names)
+shape_exact names = record { requires = λ k at. at; only = only; shut = refl }
+  where
+    only : (k : Name) → IsTrue (contains names k || contains (from_list {R = name_cmp} []) k) → IsTrue (contains names k)
+    only k h = elim (or_cases (contains names k) (contains (from_list {R = name_cmp} []) k) h) [
+      | inl at ↦ at
+      | inr at ↦ absurd (true≢false (sym at ∙ contains-from_list name_total [] k))
+    ]
+
 -- a node of the one shape of some names, which it lists
 module _ {I : Type 0} (n : NodeOver I) (names : Names) where
-  shape_exact : HasExactly names (exact_shape names)
-  shape_exact = record { requires = λ k at. at; only = only; shut = refl }
-    where
-      only : (k : Name) → IsTrue (contains names k || contains (from_list {R = name_cmp} []) k) → IsTrue (contains names k)
-      only k h = elim (or_cases (contains names k) (contains (from_list {R = name_cmp} []) k) h) [
-        | inl at ↦ at
-        | inr at ↦ absurd (true≢false (sym at ∙ contains-from_list name_total [] k))
-      ]
-
   pub exact_of : n.shapes ≡ exact_shape names ∷ [] → n.twins ≡ [] → ((k : Name) → IsTrue (contains names k) → IsTrue (is_listed n k)) → IsOf names n
   exact_of e plain lists = record {
     well = subst (All (IsWellFormedShape n)) (sym e) (all_one (IsWellFormedShape n) (exact_shape names) (record {
-      listed = λ k h. lists k (shape_exact.only k h);
+      listed = λ k h. lists k ((shape_exact names).only k h);
       apart = λ k h. contains-from_list name_total [] k;
       ordered = omega arith;
       none = λ h. (refl, refl);
     }));
     some = subst (λ l. 0 < length l) (sym e) (omega arith);
-    exact = subst (All (HasExactly names)) (sym e) (all_one (HasExactly names) (exact_shape names) shape_exact);
+    exact = subst (All (HasExactly names)) (sym e) (all_one (HasExactly names) (exact_shape names) (shape_exact names));
     plain = plain;
   }
+
+-- a node of which each shape is that of some names
+pub exact_all : {I : Type 0} (n : NodeOver I) (names : Names) → All (λ a. a ≡ exact_shape names) n.shapes → 0 < length n.shapes
+    → All (IsWellFormedShape n) n.shapes → n.twins ≡ [] → IsOf names n
+exact_all n names all some well plain = record {
+  well = well;
+  some = some;
+  exact = λ i d lt. subst (HasExactly names) (sym (all i d lt)) (shape_exact names);
+  plain = plain;
+}
 
 -- ---- of one name
 

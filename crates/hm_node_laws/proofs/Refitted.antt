@@ -1,7 +1,7 @@
 -- Names fit a shape where other names fit another shape, if the two shapes, the two sets of names and the two nodes are the same
 -- but for a name.
 use Rattle.std.proofs.Common.{◌≡◌, ◌↔◌, ◌≤◌, false, IsTrue, IfSome, None, refl, sym, ap, subst, ◌∙◌, inl, inr}
-use Rattle.std.proofs.lemmas.Bool.{true≢false, or_cases, or_left, or_right, false_from_ne_true}
+use Rattle.std.proofs.lemmas.Bool.{true≢false, or_cases, or_right, false_from_ne_true}
 use Rattle.std.specs.FinSet.{contains, insert, remove}
 use Rattle.hm_tree.specs.Names.{Name}
 use Rattle.hm_tree.proofs.NameSets.{same_bool}
@@ -15,7 +15,7 @@ use Rattle.hm_node_laws.specs.Branching.{requiring, lacking}
 use Rattle.hm_node_laws.specs.Merging.{unrequired, loosened}
 use Rattle.hm_node_laws.specs.Copying.{with_required}
 use Rattle.hm_node_laws.proofs.NameSets.{same_name, in_insert, insert_old, in_remove, remove_from}
-use Rattle.hm_node_laws.proofs.Shapes.{same_count}
+use Rattle.hm_node_laws.proofs.Shapes.{required_has, same_count}
 
 -- ---- shapes that are the same but for a name
 
@@ -110,7 +110,7 @@ module _ {I J : Type 0} (m : Name) (n : NodeOver I) (p : NodeOver J) (names othe
       allowed = λ k h l. elim (same_name k m) [
         | inl e ↦ subst (λ k. IsTrue (has_name b k)) (sym e) (has (subst (λ k. IsTrue (contains others k)) e h))
         | inr d ↦ elim (or_cases (contains a.required k) (contains a.optional k) (f.listed.allowed k (s.same k d ∙ h) (s.listed k d ∙ l))) [
-          | inl r ↦ or_left (contains b.required k) (contains b.optional k) (sym (but.required k d) ∙ r)
+          | inl r ↦ required_has b k (sym (but.required k d) ∙ r)
           | inr o ↦ or_right (contains b.required k) (contains b.optional k) (sym (but.optional k d) ∙ o)
         ]
       ];
@@ -139,7 +139,7 @@ well_but m n p a b but lists none here apart w = record {
   listed = λ k h. elim (same_name k m) [
     | inl e ↦ subst (λ k. IsTrue (is_listed p k)) (sym e) (here (subst (λ k. IsTrue (has_name b k)) e h))
     | inr d ↦ lists k d (w.listed k (elim (or_cases (contains b.required k) (contains b.optional k) h) [
-      | inl r ↦ or_left (contains a.required k) (contains a.optional k) (but.required k d ∙ r)
+      | inl r ↦ required_has a k (but.required k d ∙ r)
       | inr o ↦ or_right (contains a.required k) (contains a.optional k) (but.optional k d ∙ o)
     ]))
   ];

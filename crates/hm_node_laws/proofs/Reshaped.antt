@@ -1,7 +1,7 @@
 -- Nodes of which the shapes sit at another node, as those with other shapes: which trees stand there, and which names all of them
 -- have, or none.
-use Rattle.std.proofs.Common.{◌≡◌, ◌<◌, ◌⊎◌, length, false, is_some, IsTrue, List, [], Option, Some, None, All, Any, refl, sym, ap, subst, ◌∙◌, inl, inr}
-use Rattle.std.proofs.lemmas.Bool.{true≢false, or_left}
+use Rattle.std.proofs.Common.{◌≡◌, ◌<◌, ◌⊎◌, length, false, is_some, IsTrue, List, [], get_or, Option, Some, None, All, Any, sym, ap, subst, ◌∙◌, inl, inr}
+use Rattle.std.proofs.lemmas.Bool.{true≢false}
 use Rattle.std.proofs.lemmas.List.Elements.{All-nil}
 use Rattle.std.specs.FinSet.{contains}
 use Rattle.hm_tree.specs.Names.{Name}
@@ -17,7 +17,7 @@ use Rattle.hm_node_laws.specs.Standing.{IsBelow, HasTwin, Stands, Alike}
 use Rattle.hm_node_laws.specs.Shapes.{IsShut, Requires, shaped}
 use Rattle.hm_node_laws.proofs.Elements.{any_all, any_some}
 use Rattle.hm_node_laws.proofs.Drawn.{all_some}
-use Rattle.hm_node_laws.proofs.Shapes.{Sits, alike, IsAtBoth, sits_back, fits_across, at_both, all_listed}
+use Rattle.hm_node_laws.proofs.Shapes.{required_has, Sits, IsAtBoth, sits_shaped, sits_back, fits_across, at_both, all_listed}
 use Rattle.hm_node_laws.proofs.Across.{AreRelated, none_related, some_related, related_there}
 use Rattle.hm_node_laws.proofs.Standing.{has_below, none_below, alike_back}
 
@@ -84,17 +84,17 @@ module _ {I : Type 0} (In : I → Tree → Type 0) (n : NodeOver I) (shapes : Li
   abbrev v : NodeOver I
   v = shaped n shapes twins
 
-  sits_shaped : All (Sits v n) shapes
-  sits_shaped i d lt = alike (λ k. refl) (λ k. (λ h. h, λ h. h))
+  each_sits : All (Sits v n) shapes
+  each_sits i d lt = sits_back n v (get_or shapes i d) (sits_shaped n shapes twins (get_or shapes i d))
 
   pub shaped_fits : Stands In v t → Any (λ a. Fits n a (names_of t)) shapes
-  shaped_fits h = sitting_fits In v n sits_shaped (λ k b. lead_itself In (child_of n k)) t h
+  shaped_fits h = sitting_fits In v n each_sits (λ k b. lead_itself In (child_of n k)) t h
 
   pub shaped_stands : Stands In v t → Permits n (names_of t) → All (HasTwin t) n.twins → Stands In n t
-  shaped_stands h f w = sitting_stands In v n sits_shaped (λ k b. lead_itself In (child_of n k)) t h f w
+  shaped_stands h f w = sitting_stands In v n each_sits (λ k b. lead_itself In (child_of n k)) t h f w
 
   pub stands_shaped : Stands In n t → Any (λ a. Fits n a (names_of t)) shapes → All (HasTwin t) twins → Stands In v t
-  stands_shaped h f w = stands_sitting In v n sits_shaped (λ k b. lead_itself In (child_of n k)) t h f w
+  stands_shaped h f w = stands_sitting In v n each_sits (λ k b. lead_itself In (child_of n k)) t h f w
 
 -- ---- names that each tree of a node has, or none
 
@@ -103,7 +103,7 @@ pub required_listed : {I : Type 0} (n : NodeOver I) (k : Name) → All (IsWellFo
     → IsTrue (is_listed n k)
 required_listed n k well some all =
     let a = all_some (λ a. IsWellFormedShape n a × Requires k a) n.shapes some (λ i d lt. (well i d lt, all i d lt)) in
-    a.1.0.listed k (or_left (contains a.0.required k) (contains a.0.optional k) a.1.1)
+    a.1.0.listed k (required_has a.0 k a.1.1)
 
 module _ {I : Type 0} (In : I → Tree → Type 0) (n : NodeOver I) (k : Name) (t : Tree) (h : Stands In n t) where
   -- a name that each shape requires
