@@ -8,7 +8,7 @@ use Rattle.hm_tree.specs.Nodes.{Tree, below}
 use Rattle.hm_schema.specs.declared.node.Shape.{Shape}
 use Rattle.hm_schema.specs.Values.{NodeOver, child_of}
 use Rattle.hm_schema.specs.Permitted.{Fits, names_of}
-use Rattle.hm_node_laws.specs.Standing.{HasTwin, Stands}
+use Rattle.hm_node_laws.specs.Standing.{IsBelow, HasTwin, Stands}
 use Rattle.hm_node_laws.proofs.Elements.{any_of}
 use Rattle.hm_node_laws.proofs.Shapes.{Sits, IsAtBoth, fits_across, at_both}
 use Rattle.hm_node_laws.proofs.Standing.{has_below}
@@ -44,6 +44,13 @@ related_same {I = I} x y e = subst (AreRelated (λ i j. i ≡ j) x) e (go x)
     go None = none_related
     go (Some i) = some_related refl
 
+-- so what stands below a name of one stands below it at the other, where related values carry it over
+pub below_related : {I J : Type 0} (R : I → J → Type 0) (In : I → Tree → Type 0) (Jn : J → Tree → Type 0) (n : NodeOver I) (m : NodeOver J) (k : Name)
+    (x : Tree) → AreRelated R (child_of n k) (child_of m k) → ((i : I) (j : J) → R i j → In i x → Jn j x) → IsBelow In n k x → IsBelow Jn m k x
+below_related R In Jn n m k x lead carries b =
+    let c = related_there b.child lead b.is in
+    record { child = c.0; is = c.1; inside = carries b.child c.0 c.2 b.inside }
+
 module _ {I J : Type 0} (R : I → J → Type 0) (In : I → Tree → Type 0) (Jn : J → Tree → Type 0) (n : NodeOver I) (m : NodeOver J) (t : Tree) where
   -- what a name leads to at both, where it is listed at both or at neither
   abbrev pub LeadAlike : Type 0
@@ -62,9 +69,7 @@ module _ {I J : Type 0} (R : I → J → Type 0) (In : I → Tree → Type 0) (J
     twins = λ i d lt.
         All-contains (HasTwin t) n.twins (get_or m.twins i d) h.twins (twins (get_or m.twins i d) (Contains-get_or m.twins i d lt));
     children = λ k x at.
-        let b = h.children k x at in
         let p = h.permitted in
         let here = at_both n m p.1 (names_of t) (shapes p.1 (p.0, p.2, p.3)).1 p.4 k (has_below t k x at) in
-        let c = related_there b.child (lead k here) b.is in
-        record { child = c.0; is = c.1; inside = carries k x at b.child c.0 c.2 b.inside };
+        below_related R In Jn n m k x (lead k here) (carries k x at) (h.children k x at);
   }

@@ -14,11 +14,11 @@ use Rattle.hm_schema.specs.WellFormed.{IsWellFormedShape}
 use Rattle.hm_schema.proofs.NamesOf.{names_of-below}
 use Rattle.hm_terms.proofs.Maps.{is_there}
 use Rattle.hm_node_laws.specs.Standing.{IsBelow, HasTwin, Stands, Alike}
-use Rattle.hm_node_laws.specs.Shapes.{IsShut, Requires, shaped}
+use Rattle.hm_node_laws.specs.Shapes.{IsShut, Requires, RequiresTwin, RequiresTwins, shaped}
 use Rattle.hm_node_laws.proofs.Elements.{any_all, any_some}
 use Rattle.hm_node_laws.proofs.Drawn.{all_some}
 use Rattle.hm_node_laws.proofs.Shapes.{required_has, Sits, IsAtBoth, sits_shaped, sits_back, fits_across, at_both, all_listed}
-use Rattle.hm_node_laws.proofs.Across.{AreRelated, none_related, some_related, related_there}
+use Rattle.hm_node_laws.proofs.Across.{AreRelated, none_related, some_related, below_related}
 use Rattle.hm_node_laws.proofs.Standing.{has_below, none_below, alike_back}
 
 -- ---- what a name leads to at two nodes
@@ -38,7 +38,7 @@ module _ {I : Type 0} (In : I → Tree → Type 0) where
 
   -- so the same trees may stand below it
   below_alike : (n m : NodeOver I) (k : Name) (x : Tree) → LeadAlike (child_of n k) (child_of m k) → IsBelow In n k x → IsBelow In m k x
-  below_alike n m k x lead b = let c = related_there b.child lead b.is in record { child = c.0; is = c.1; inside = c.2.into x b.inside }
+  below_alike n m k x lead = below_related (λ i j. Alike (In i) (In j)) In In n m k x lead (λ i j a h. a.into x h)
 
 -- names of a tree that has nothing below a name don't have that
 pub below_none : (t : Tree) (k : Name) → below k t ≡ None → IsTrue (contains (names_of t) k) → ⊥
@@ -47,6 +47,10 @@ below_none t k e at = true≢false (sym at ∙ names_of-below t k ∙ ap is_some
 -- a node without twins has no twin that isn't there
 pub no_twins : {I : Type 0} (n : NodeOver I) (t : Tree) → n.twins ≡ [] → All (HasTwin t) n.twins
 no_twins n t e = subst (λ twins. All (HasTwin t) twins) (sym e) (All-nil (HasTwin t))
+
+-- nor one that a shape doesn't require
+pub plain_own : {I : Type 0} (n : NodeOver I) → n.twins ≡ [] → RequiresTwins n
+plain_own n e i d lt = subst (λ twins. All (RequiresTwin (get_or n.shapes i d)) twins) (sym e) (All-nil (RequiresTwin (get_or n.shapes i d)))
 
 -- ---- a node of which the shapes sit at another, where names lead to the same
 
