@@ -109,6 +109,13 @@ required_listed n k well some all =
     let a = all_some (λ a. IsWellFormedShape n a × Requires k a) n.shapes some (λ i d lt. (well i d lt, all i d lt)) in
     a.1.0.listed k (required_has a.0 k a.1.1)
 
+-- so are both names of a twin that each shape requires
+pub twins_listed : {I : Type 0} (n : NodeOver I) → RequiresTwins n → All (IsWellFormedShape n) n.shapes → 0 < length n.shapes
+    → All (λ twin. IsTrue (is_listed n twin.0) × IsTrue (is_listed n twin.1)) n.twins
+twins_listed n own well some i d lt =
+    let twin = get_or n.twins i d in
+    (required_listed n twin.0 well some (λ j a less. (own j a less i d lt).one), required_listed n twin.1 well some (λ j a less. (own j a less i d lt).two))
+
 module _ {I : Type 0} (In : I → Tree → Type 0) (n : NodeOver I) (k : Name) (t : Tree) (h : Stands In n t) where
   -- a name that each shape requires
   pub required_there : All (Requires k) n.shapes → (x : Tree) × (below k t ≡ Some x)
