@@ -110,8 +110,8 @@ module _ {I : Type 0} (m n : Name) (w v : NodeOver I) (can : CanCopy m n w) (is 
           well_but n w v a (with_required n a) (but_with_required n a) (λ k f l. ap is_some (found_other k f) ∙ l) (λ e. sym is.other ∙ e)
           (λ h. listed_new) (λ r. (or_parts (contains a.required n) (contains a.optional n) (can.absent i d lt)).1) (well i d lt)
 
-  pub copied_own : RequiresTwins v
-  copied_own = subst (λ twins. All (λ a. All (RequiresTwin a) twins) v.shapes) (sym is.twins)
+  pub copied_requires : RequiresTwins v
+  copied_requires = subst (λ twins. All (λ a. All (RequiresTwin a) twins) v.shapes) (sym is.twins)
       (subst (All (λ a. All (RequiresTwin a) ((m, n) ∷ []))) (sym is.shapes)
       (All-map (λ a. All (RequiresTwin a) ((m, n) ∷ [])) (with_required n) w.shapes each))
     where

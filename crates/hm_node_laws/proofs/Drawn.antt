@@ -1,5 +1,5 @@
 -- That something holds of an element of a list that comes of others: of their ends, of a mapped and of a filtered list.
-use Rattle.std.proofs.Common.{◌<◌, length, arith, ◌≡◌, ◌⊎◌, Bool, true, false, cond, IsTrue, List, [], ◌∷◌, ◌++◌, map, All, Any, Contains, refl, inl, inr}
+use Rattle.std.proofs.Common.{◌<◌, length, arith, ◌≡◌, ◌⊎◌, Bool, true, false, cond, IsTrue, List, [], ◌∷◌, ◌++◌, map, All, Any, refl, inl, inr}
 use Rattle.std.proofs.lemmas.List.Elements.{All-head, All-map, All-contains_itself}
 use Rattle.std.specs.List.{filter}
 use Rattle.hm_node_laws.proofs.Elements.{Holds, at_head, in_tail, holds_from, holds_to, holds_left, holds_right, holds_split, any_of}
@@ -13,9 +13,6 @@ module _ {X : Type 0} (P : X → Type 0) where
 
   pub any_split : (xs ys : List X) → Any P (xs ++ ys) → Any P xs ⊎ Any P ys
   any_split xs ys h = elim (holds_split P xs ys (holds_from P (xs ++ ys) h)) [ inl g ↦ inl (holds_to P g) | inr g ↦ inr (holds_to P g) ]
-
-  pub any_contained : (xs : List X) → Any P xs → Any (λ x. Contains xs x × P x) xs
-  any_contained xs (k, x, lt, e, h) = (k, x, lt, e, ((k, lt, e), h))
 
 -- ---- a list that is mapped
 

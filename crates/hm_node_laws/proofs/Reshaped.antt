@@ -49,8 +49,8 @@ pub no_twins : {I : Type 0} (n : NodeOver I) (t : Tree) → n.twins ≡ [] → A
 no_twins n t e = subst (λ twins. All (HasTwin t) twins) (sym e) (All-nil (HasTwin t))
 
 -- nor one that a shape doesn't require
-pub plain_own : {I : Type 0} (n : NodeOver I) → n.twins ≡ [] → RequiresTwins n
-plain_own n e i d lt = subst (λ twins. All (RequiresTwin (get_or n.shapes i d)) twins) (sym e) (All-nil (RequiresTwin (get_or n.shapes i d)))
+pub plain_requires : {I : Type 0} (n : NodeOver I) → n.twins ≡ [] → RequiresTwins n
+plain_requires n e i d lt = subst (λ twins. All (RequiresTwin (get_or n.shapes i d)) twins) (sym e) (All-nil (RequiresTwin (get_or n.shapes i d)))
 
 -- ---- a node of which the shapes sit at another, where names lead to the same
 

@@ -14,7 +14,7 @@ requiring m a = record { required = insert a.required m; optional = remove a.opt
 abbrev pub lacking : Name → Shape → Shape
 lacking m a = record { required = a.required; optional = remove a.optional m; least = a.least; most = a.most }
 
--- the shapes that have a name, and those that don't require it
+-- the shapes that have a name, which they then require, and those that don't require it, which then don't have it
 abbrev pub shapes_with : Name → List Shape → List Shape
 shapes_with m shapes = map (requiring m) (filter (λ a. has_name a m) shapes)
 
