@@ -85,7 +85,7 @@ module _ (S : Setting) where
       | inr w ↦ good n (record { sequence = false; children = false; way = more_calls h.is h.calls w; bad = inr refl })
     ])
 
-    falls : (n m : Name) (s c : Bool) → HasCall S n s c m → Falls steps rank n s c m
+    falls : (n m : Name) (s c : Bool) → HasCall S n s c m → Falls steps rank (steps n) (rank n) s c m
     unfolding steps rank
     falls n m true c h = number_lt (λ k. (to k).set m) (λ k. (to k).set n) (λ k e. (to k).closed n m (calls_next S n m true c h) e) n
         (no_return n m c h) (itself n) (has_body S n h.body h.is)
@@ -97,5 +97,5 @@ module _ (S : Setting) where
     )
 
     -- the calls of a body fall
-    pub body_falls : (n : Name) (l : Lens) → body_of S n ≡ Some l → AllFall steps rank n false false l
+    pub body_falls : (n : Name) (l : Lens) → body_of S n ≡ Some l → AllFall steps rank (steps n) (rank n) false false l
     body_falls n l e = record { each = λ s c m h. falls n m s c (record { body = l; is = e; calls = h }) }

@@ -5,13 +5,13 @@ use Rattle.hm_tree.specs.Names.{Name}
 use Rattle.hm_lens_laws.specs.Falling.{Falls, IsAsked}
 
 module _ (steps rank : Name → ℕ) (P : Name → ℕ → Type 0)
-    (step : (n : Name) (d : ℕ) → ((s c : Bool) (m : ℕ) (k : Name) → IsAsked s c d m → Falls steps rank n s c k → P k m) → P n d) where
+    (step : (n : Name) (d : ℕ) → ((s c : Bool) (m : ℕ) (k : Name) → IsAsked s c d m → Falls steps rank (steps n) (rank n) s c k → P k m) → P n d) where
   one : (n : Name) (d : ℕ) → ((k : Name) → steps k < steps n → (m : ℕ) → P k m)
       → ((k : Name) → steps k ≤ steps n → (m : ℕ) → m < d → P k m)
       → ((k : Name) → steps k ≤ steps n → rank k < rank n → P k d) → P n d
   one n d fewer lower earlier = step n d go
     where
-      go : (s c : Bool) (m : ℕ) (k : Name) → IsAsked s c d m → Falls steps rank n s c k → P k m
+      go : (s c : Bool) (m : ℕ) (k : Name) → IsAsked s c d m → Falls steps rank (steps n) (rank n) s c k → P k m
       go true c m k a f = fewer k f m
       go false true m k a f = lower k f m a
       go false false m k a f = subst (λ m. P k m) (sym a) (earlier k f.0 f.1)

@@ -1,3 +1,15 @@
+mod Nodes
+pub mod MemberNodes
+mod SoundForms
+pub mod SameMembers
+mod SoundViews
+mod TreeForms
+mod ListForms
+pub mod SoundGoes
+mod ForkFits
+mod ChildrenFits
+pub mod BodyFits
+pub mod TypedFits
 mod Determined
 pub mod Once
 mod TwoFaults

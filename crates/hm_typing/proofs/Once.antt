@@ -112,7 +112,9 @@ module _ (T : Types) where
       (goes_view {x = x2} {y = y2} {n = n2} {one = one2} {two = two2} {w = w} b2 f2 g2 c2 is2 e2) =
       let same = node_one u n n2 b.node b2.node in
       e ∙ both_merged o one two one2 two2 v w
-      (one_under x x2 one one2 (goes_once f (from (formed (node_with m n)) (formed (node_with m n2)) x2 (ap (λ n. formed (node_with m n)) same) f2)) c.node_one c2.node_one)
-      (one_under y y2 two two2 (goes_once g (from (formed (node_without m n)) (formed (node_without m n2)) y2 (ap (λ n. formed (node_without m n)) same) g2)) c.node_two c2.node_two)
+      (one_under x x2 one one2 (goes_once f (from (formed (node_with m n)) (formed (node_with m n2)) x2
+      (ap (λ n. formed (node_with m n)) same) f2)) c.node_one c2.node_one)
+      (one_under y y2 two two2 (goes_once g (from (formed (node_without m n)) (formed (node_without m n2)) y2
+      (ap (λ n. formed (node_without m n)) same) g2)) c.node_two c2.node_two)
       is is2 ∙ sym e2
   goes_once (goes_call {v = v} {x = x} is s) (goes_call {v = w} {x = x2} is2 s2) = ap (λ (p : Form × Form). p.1) (same_Some (x, v) (x2, w) (sym is ∙ is2))

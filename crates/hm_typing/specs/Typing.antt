@@ -1,7 +1,7 @@
 -- When a lens goes from a source to a view (TOPLAS 2007, the types of each lens).
 use Rattle.std.specs.Prelude.{◌≡◌, ◌<◌, Bool, true, false, cond, IsTrue, IsSome, List, [], ◌∷◌, map, length, Option, Some, None, All, option_and_then}
 use Rattle.std.specs.FinMap.{find}
-use Rattle.std.specs.FinSet.{contains, from_list}
+use Rattle.std.specs.FinSet.{contains}
 use Rattle.std.specs.Ordering.{eq_by_cmp}
 use Rattle.hm_tree.specs.Names.{Name, name_cmp}
 use Rattle.hm_tree.specs.Nodes.{Tree, edges, below}
@@ -16,30 +16,24 @@ use Rattle.hm_node_laws.specs.Branching.{node_with, node_without, shapes_with, s
 use Rattle.hm_node_laws.specs.Merging.{CanMerge, IsMerged}
 use Rattle.hm_node_laws.specs.Copying.{CanCopy, IsCopied, CanHide, hidden_node}
 use Rattle.hm_node_laws.specs.ListNodes.{IsListNode, empty_shape, item_shape}
+use Rattle.hm_node_laws.specs.Plain.{exact_shape, edge_node}
+use Rattle.hm_lens_laws.specs.Sets.{alone}
 use Rattle.hm_typing.specs.Forms.{Form, Label, Step, named, others, under, node_of, formed, can_be}
 use Rattle.hm_typing.specs.Members.{Member}
 use Rattle.hm_typing.specs.SameForms.{IsSame}
 
 -- ---- the views of single lenses
 
--- one shape, which requires some names, and no others
-abbrev pub only : Names → Shape
-only names = record { required = names; optional = from_list []; least = 0; most = Some 0 }
-
 -- nodes that have exactly a tree: at each place one shape, which requires the names there
 abbrev pub exactly : Tree → Form
-exactly t [] = Some (record { shapes = only (names_of t) ∷ []; children = map (λ e. (e.0, tt)) (edges t); other = None; twins = [] })
+exactly t [] = Some (record { shapes = exact_shape (names_of t) ∷ []; children = map (λ e. (e.0, tt)) (edges t); other = None; twins = [] })
 exactly t (named k ∷ w) = option_and_then (λ x. exactly x w) (below k t)
 exactly t (others ∷ w) = None
 
 -- each shape of a node requires a name alone
 pub record IsAlone (m : Name) (n : NodeOver Form) : Type 0 where
-  pub shapes : All (λ a. a ≡ only (from_list (m ∷ []))) n.shapes
+  pub shapes : All (λ a. a ≡ exact_shape (alone m)) n.shapes
   pub plain : n.twins ≡ []
-
--- one name, which is required
-abbrev pub plunged : Name → Form → NodeOver Form
-plunged m u = record { shapes = only (from_list (m ∷ [])) ∷ []; children = (m, u) ∷ []; other = None; twins = [] }
 
 -- ---- lists
 
@@ -147,7 +141,7 @@ pub data Goes (T : Types) : Lens → Form → Form → Type 0 where
   goes_constant : {t d : Tree} {u v : Form} → Member u d → v ≡ exactly t → Goes T (constant t d) u v
   goes_hoist : {m : Name} {u v : Form} {n : NodeOver Form} → node_of u ≡ Some n → IsAlone m n → find name_cmp m n.children ≡ Some v
       → Goes T (hoist m) u v
-  goes_plunge : {m : Name} {u v : Form} → v ≡ formed (plunged m u) → Goes T (plunge m) u v
+  goes_plunge : {m : Name} {u v : Form} → v ≡ formed (edge_node m u) → Goes T (plunge m) u v
   goes_fork : {P Q : Names} {l k : Lens} {u x y v : Form} {n one two w : NodeOver Form} {a : Shape} → IsForked P u n a
       → Goes T l (inside_form P n a) x → Goes T k (outside_form P n a) y → AreJoinable Q x y one two → IsJoined (contains Q) one two w
       → v ≡ formed w → Goes T (fork P Q l k) u v
