@@ -17,3 +17,4 @@ mod Sources
 mod OneFault
 mod OneAmong
 pub mod NeverBoth
+mod Examples
