@@ -23,4 +23,5 @@ mod Folded
 mod CleanText
 pub mod SpelledText
 pub mod NameSets
+mod SetEdits
 pub mod Ascending

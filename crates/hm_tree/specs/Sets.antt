@@ -1,8 +1,8 @@
 -- The names of a set, in ascending order.
-use Rattle.std.specs.Prelude.{◌≡◌, ℕ, ◌<◌, ◌≤◌, List, [], ◌∷◌, map, length, get_or}
+use Rattle.std.specs.Prelude.{◌≡◌, ℕ, ◌<◌, ◌≤◌, not, List, [], ◌∷◌, map, filter, length, get_or}
 use Rattle.std.specs.declared.cmp.Ordering.TheVariants.{Less}
 use Rattle.std.specs.FinMap.{put}
-use Rattle.std.specs.FinSet.{FinSet, items}
+use Rattle.std.specs.FinSet.{FinSet, contains, items}
 use Rattle.hm_tree.specs.Names.{Name, name_cmp}
 
 -- each name of a list once, in its place
@@ -17,3 +17,8 @@ ascending names = map (λ e. e.0) (placed (items names))
 pub record ArePassed (names : List Name) (at : ℕ) (name : Name) : Type 0 where
   pub within : at ≤ length names
   pub less : (j : ℕ) (d : Name) → j < at → name_cmp (get_or names j d) name ≡ Less
+
+-- the names of a list that are in a set, and those that aren't
+pub record AreParted (names : FinSet name_cmp) (all inside outside : List Name) : Type 0 where
+  pub inside_is : inside ≡ filter (λ k. contains names k) all
+  pub outside_is : outside ≡ filter (λ k. not (contains names k)) all

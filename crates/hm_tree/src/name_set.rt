@@ -1,5 +1,5 @@
 //! Sets of names.
-ghost use Rattle.std.specs.Prelude.{◌≡◌, IfOk};
+ghost use Rattle.std.specs.Prelude.{◌≡◌, ◌++◌, not, IfOk, OnOk};
 ghost use Rattle.std.specs.List.Sorted.{IsStrictlySortedBy};
 ghost use Rattle.std.specs.FinSet as set;
 ghost use Rattle.hm_tree.specs.Names.{name_cmp};
@@ -49,6 +49,73 @@ impl NameSet {
             .is_ok()
     }
 
+    /// An equal set.
+    pub fn copy(&self) -> Result<NameSet, Memory>
+        ensures { IfOk result (λ s. s ≡ self.now) }
+    {
+        let mut names = Vec::with_capacity(*self.names.allocator(), self.names.len())?;
+        for name in &self.names {
+            names.push(name.copy()?)?;
+        }
+        Ok(NameSet { names })
+    }
+
+    /// Its names that are in another set, and its other names.
+    pub fn parts(&self, names: &NameSet) -> Result<(NameSet, NameSet), Memory>
+        ensures inside { IfOk result (λ p. p.0 ≡ set.retain self.now (λ k. set.contains names.now k)) }
+        ensures outside { IfOk result (λ p. p.1 ≡ set.retain self.now (λ k. not (set.contains names.now k))) }
+    {
+        let alloc = *self.names.allocator();
+        let mut inside = Vec::new(alloc);
+        let mut outside = Vec::new(alloc);
+        for name in &self.names {
+            if names.has(name) {
+                inside.push(name.copy()?)?;
+            } else {
+                outside.push(name.copy()?)?;
+            }
+        }
+        Ok((NameSet { names: inside }, NameSet { names: outside }))
+    }
+
+    /// The set with a name more.
+    pub fn with(&self, name: &Name) -> Result<NameSet, Memory>
+        ensures { IfOk result (λ s. s ≡ set.insert self.now name.now) }
+    {
+        let mut names = Vec::with_capacity(*self.names.allocator(), self.names.len() + 1)?;
+        push_copies(&mut names, &self.names)?;
+        names.push(name.copy()?)?;
+        Ok(NameSet::from_list(names)?)
+    }
+
+    /// The set without a name.
+    pub fn without(&self, name: &Name) -> Result<NameSet, Memory>
+        ensures { IfOk result (λ s. s ≡ set.remove self.now name.now) }
+    {
+        let mut alone = Vec::new(*self.names.allocator());
+        alone.push(name.copy()?)?;
+        let (_, others) = self.parts(&NameSet::from_list(alone)?)?;
+        Ok(others)
+    }
+
+    /// The names of both sets.
+    pub fn union(&self, other: &NameSet) -> Result<NameSet, Memory>
+        ensures { IfOk result (λ s. s ≡ set.union self.now other.now) }
+    {
+        let mut names = Vec::new(*self.names.allocator());
+        push_copies(&mut names, &self.names)?;
+        push_copies(&mut names, &other.names)?;
+        Ok(NameSet::from_list(names)?)
+    }
+
+    /// Its names, in ascending order and each once, which it gives up.
+    pub fn into_names(self) -> Vec<Name>
+        ensures ascending { IsStrictlySortedBy name_cmp result.items }
+        ensures same { set.from_list result.items ≡ self }
+    {
+        self.names
+    }
+
     /// Its names, in ascending order and each once.
     pub fn names(&self) -> &[Name]
         ensures ascending { IsStrictlySortedBy name_cmp result.now }
@@ -56,6 +123,16 @@ impl NameSet {
     {
         &self.names
     }
+}
+
+// Puts copies of names behind names.
+fn push_copies(names: &mut Vec<Name>, more: &[Name]) -> Result<(), Memory>
+    ensures { OnOk result (names.new.items ≡ names.old.items ++ more.now) }
+{
+    for name in more {
+        names.push(name.copy()?)?;
+    }
+    Ok(())
 }
 
 /// Whether a name is among names that rise, where those before a place are less: the search goes on from there, to the
