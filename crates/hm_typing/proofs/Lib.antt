@@ -1,4 +1,4 @@
-mod Nodes
+pub mod Nodes
 pub mod MemberNodes
 mod SoundForms
 pub mod SameMembers
@@ -12,6 +12,8 @@ pub mod BodyFits
 pub mod TypedFits
 mod Determined
 pub mod Once
+pub mod SameForms
+pub mod NumberedOnce
 mod TwoFaults
 mod Sources
 mod OneFault

@@ -6,3 +6,4 @@ pub mod Faults
 pub mod Sound
 pub mod Texts
 pub mod Programs
+pub mod Numbering
