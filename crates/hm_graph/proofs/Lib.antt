@@ -1,0 +1,8 @@
+pub mod Pairs
+pub mod Alike
+mod Forests
+mod Search
+mod Ends
+mod Owed
+mod Shortened
+pub mod Decided
