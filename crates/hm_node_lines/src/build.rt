@@ -15,10 +15,9 @@ ghost use Rattle.hm_node_lines.specs.Building.{id_in, shape_of, child_of, IsOthe
 use crate::entry::Entry;
 use crate::firsts::first_place;
 use crate::judge::is_empty_node;
-use crate::names::copy_names;
 use crate::node_line::{NodeLine, ShapeLine};
 use crate::section::{begins_node, count_nodes, lines_of_node};
-use hm_schema::{Node, NodeId, Shape};
+use hm_schema::{Node, NodeId, Shape, copy_names};
 use hm_tree::{Class, Memory, Name, NameSet};
 use std::alloc::Global;
 use std::collections::BTreeMap;

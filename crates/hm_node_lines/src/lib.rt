@@ -27,7 +27,6 @@ mod count;
 mod entry;
 mod firsts;
 mod judge;
-mod names;
 mod node_line;
 mod section;
 #[cfg(test)]
@@ -41,7 +40,6 @@ pub use count::Count;
 pub use entry::{Entry, read_entries, read_entry};
 pub use firsts::{begun, first_place, is_first, keep_first};
 pub use judge::{Line, declared_nodes, has_double, is_bad_line, is_node};
-pub use names::copy_names;
 pub use node_line::{NodeLine, ShapeLine, is_word, read_node_line};
 pub use section::{Section, read_section, section_at};
 pub use token::{Token, behind, first_quoted, first_word, gap_length, lone_word, read_tokens};

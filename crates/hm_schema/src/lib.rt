@@ -8,6 +8,7 @@
 //! file has none.
 #![tactic(auto)]
 
+mod copies;
 mod named;
 mod node;
 mod options;
@@ -17,6 +18,7 @@ mod schema;
 mod tests;
 mod twins;
 
+pub use copies::{append_copies, copy_names, copy_set};
 pub use node::{Node, NodeId, Shape};
 pub use options::Options;
 pub use schema::Schema;

@@ -1,9 +1,11 @@
 //! The nodes of schemas.
-ghost use Rattle.std.specs.Prelude.{◌≡◌, ◌↔◌, IsTrue, T};
+ghost use Rattle.std.specs.Prelude.{◌≡◌, ◌↔◌, IsTrue, IfOk, T};
 ghost use Rattle.std.specs.FinMap.{is_sorted, find};
 ghost use Rattle.hm_tree.specs.Names.{name_cmp};
 
-use hm_tree::{Class, Name, NameSet, place_of};
+use crate::copies::{copy_children, copy_pairs, copy_set, copy_shapes};
+use hm_tree::{Class, Memory, Name, NameSet, place_of};
+use std::alloc::Global;
 
 /// The place of a node in the list of nodes of its schema.
 #[derive(Clone, Copy, Debug, PartialEq, Eq)]
@@ -45,6 +47,20 @@ pub fn listed(children: &[(Name, NodeId)], name: &Name) -> Option<NodeId>
     }
 }
 
+impl Shape {
+    /// An equal shape.
+    pub fn copy(&self, alloc: Global) -> Result<Shape, Memory>
+        ensures { IfOk result (λ shape. shape ≡ self.now) }
+    {
+        Ok(Shape {
+            required: copy_set(alloc, &self.required)?,
+            optional: copy_set(alloc, &self.optional)?,
+            least: self.least,
+            most: self.most,
+        })
+    }
+}
+
 impl Node {
     ghost use Rattle.hm_schema.specs.Values.{node_value, child_of};
 
@@ -60,5 +76,17 @@ impl Node {
                 None => None,
             },
         }
+    }
+
+    /// An equal node.
+    pub fn copy(&self, alloc: Global) -> Result<Node, Memory>
+        ensures { IfOk result (λ node. node_value node ≡ node_value self.now) }
+    {
+        Ok(Node {
+            shapes: copy_shapes(alloc, &self.shapes)?,
+            children: copy_children(alloc, &self.children)?,
+            other: self.other,
+            twins: copy_pairs(alloc, &self.twins)?,
+        })
     }
 }

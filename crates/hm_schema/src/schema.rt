@@ -6,6 +6,7 @@ ghost use Rattle.hm_schema.specs.Permitted.{PermitsAt, names_of};
 ghost use Rattle.hm_schema.specs.WellFormed.{IsWellFormed, IsWellFormedNode};
 ghost use Rattle.hm_schema.specs.Membership.{IsMember, IsAllowed, HasNoTwins, IsAnswer};
 
+use crate::copies::copy_nodes;
 use crate::node::{Node, NodeId};
 use crate::permitted::permits;
 use crate::twins::have_twins;
@@ -42,6 +43,16 @@ impl Schema {
         ensures { result ≡ schema_value nodes.items root }
     {
         Schema { nodes, root }
+    }
+
+    /// An equal schema.
+    pub fn copy(&self, alloc: Global) -> Result<Schema, Memory>
+        ensures { IfOk result (λ schema. schema ≡ self.now) }
+    {
+        Ok(Schema {
+            nodes: copy_nodes(alloc, &self.nodes)?,
+            root: self.root,
+        })
     }
 
     /// The node of the root.

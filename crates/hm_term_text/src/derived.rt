@@ -5,7 +5,7 @@ ghost use Rattle.hm_terms.specs.Programs.{lens_of};
 ghost use Rattle.hm_term_text.specs.Derived.{no_names_set, only, under_name, filter_lens, prune_lens, focus_lens, add_lens, rename_lens};
 ghost use Rattle.hm_terms.specs.Lenses.{sequence, fork};
 
-use crate::names::copy_set;
+use hm_schema::copy_set;
 use hm_terms::Term;
 use hm_tree::{Memory, Name, NameSet, Tree};
 use std::alloc::Global;

@@ -1,19 +1,11 @@
 //! Sets of names.
-ghost use Rattle.std.specs.Prelude.{◌≡◌, IfOk};
+ghost use Rattle.std.specs.Prelude.{IfOk};
 ghost use Rattle.hm_term_text.specs.Fronts.{IsSet};
 ghost use Rattle.hm_term_text.specs.Reading.{IsFound};
 
 use crate::front::{read_edge, read_sign};
-use hm_node_lines::copy_names;
 use hm_tree::{Memory, NameSet};
 use std::alloc::Global;
-
-/// An equal set.
-pub fn copy_set(alloc: Global, set: &NameSet) -> Result<NameSet, Memory>
-    ensures { IfOk result (λ copy. copy ≡ set.now) }
-{
-    NameSet::from_list(copy_names(alloc, set.names())?)
-}
 
 /// The set: names between braces.
 pub fn read_set<'a>(alloc: Global, text: &'a [u8]) -> Result<Option<(NameSet, &'a [u8])>, Memory>
