@@ -5,4 +5,5 @@ pub mod Members
 pub mod References
 pub mod Outside
 mod Small
+mod Standing
 pub mod Decided

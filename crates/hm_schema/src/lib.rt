@@ -14,6 +14,7 @@ mod node;
 mod options;
 mod permitted;
 mod schema;
+mod tidying;
 #[cfg(test)]
 mod tests;
 mod twins;
