@@ -3,6 +3,7 @@ mod Fitting
 pub mod Lists
 pub mod Members
 pub mod References
+mod OrderedSets
 pub mod Outside
 mod Small
 mod Standing

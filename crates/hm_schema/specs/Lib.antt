@@ -4,3 +4,5 @@ pub mod WellFormed
 pub mod Membership
 pub mod Tidied
 pub mod Sameness
+pub mod ShapeOrder
+pub mod OrderedSets

@@ -9,14 +9,17 @@
 #![tactic(auto)]
 
 mod copies;
+mod label;
 mod named;
 mod node;
 mod options;
+mod ordered_set;
 mod permitted;
 mod schema;
-mod tidying;
+mod shape_order;
 #[cfg(test)]
 mod tests;
+mod tidying;
 mod twins;
 
 pub use copies::{append_copies, copy_names, copy_set};
