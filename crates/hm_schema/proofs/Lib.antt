@@ -5,6 +5,8 @@ pub mod Members
 pub mod References
 mod OrderedSets
 pub mod Outside
+mod Labels
+mod LabelNumbers
 mod Small
 mod Standing
 pub mod Decided

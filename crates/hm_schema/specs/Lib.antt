@@ -6,3 +6,5 @@ pub mod Tidied
 pub mod Sameness
 pub mod ShapeOrder
 pub mod OrderedSets
+pub mod Numbering
+pub mod Labels

@@ -12,6 +12,7 @@ mod copies;
 mod label;
 mod named;
 mod node;
+mod numbering;
 mod options;
 mod ordered_set;
 mod permitted;
@@ -23,6 +24,7 @@ mod tidying;
 mod twins;
 
 pub use copies::{append_copies, copy_names, copy_set};
+pub use label::label_numbers;
 pub use node::{Node, NodeId, Shape};
 pub use options::Options;
 pub use schema::Schema;
