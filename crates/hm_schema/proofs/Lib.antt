@@ -6,6 +6,9 @@ pub mod References
 mod OrderedSets
 pub mod Outside
 mod Labels
+mod JointGraphs
+mod JointEdges
+mod JointSameness
 mod LabelNumbers
 mod Small
 mod Standing

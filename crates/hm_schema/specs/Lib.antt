@@ -8,3 +8,4 @@ pub mod ShapeOrder
 pub mod OrderedSets
 pub mod Numbering
 pub mod Labels
+pub mod JointGraphs

@@ -16,6 +16,7 @@ mod numbering;
 mod options;
 mod ordered_set;
 mod permitted;
+mod sameness;
 mod schema;
 mod shape_order;
 #[cfg(test)]
@@ -27,4 +28,5 @@ pub use copies::{append_copies, copy_names, copy_set};
 pub use label::label_numbers;
 pub use node::{Node, NodeId, Shape};
 pub use options::Options;
+pub use sameness::same;
 pub use schema::Schema;

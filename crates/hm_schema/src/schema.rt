@@ -1,5 +1,5 @@
 //! Schemas.
-ghost use Rattle.std.specs.Prelude.{◌≡◌, ◌↔◌, ◌<◌, IsTrue, IsSome, Some, [], length, IfOk};
+ghost use Rattle.std.specs.Prelude.{◌≡◌, ◌↔◌, ◌<◌, IsTrue, IsSome, Some, [], length, map, IfOk};
 ghost use Rattle.hm_tree.specs.States.{state};
 ghost use Rattle.hm_schema.specs.Values.{schema_value, node_value, node_at, child_at, reached};
 ghost use Rattle.hm_schema.specs.Permitted.{PermitsAt, names_of};
@@ -61,6 +61,14 @@ impl Schema {
         ensures in_range { result.place < length self.now.nodes }
     {
         self.root
+    }
+
+    // The nodes.
+    pub(crate) fn nodes(&self) -> &[Node]
+        ensures nodes { map node_value result.now ≡ self.now.nodes }
+        ensures well_formed { IsWellFormed self.now }
+    {
+        &self.nodes
     }
 
     /// The node at a place.
