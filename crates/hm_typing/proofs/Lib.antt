@@ -14,6 +14,10 @@ mod Determined
 pub mod Once
 pub mod SameForms
 pub mod NumberedOnce
+mod Distinct
+mod NumberedNodes
+mod SoundVisits
+pub mod NumberedMembers
 mod TwoFaults
 mod Sources
 mod OneFault

@@ -21,7 +21,7 @@ use Rattle.hm_typing.specs.Members.{Member, member}
 -- ---- the node of a form that begins at a node
 
 -- each entry of the second list is found in the first
-abbrev AllFound : {X : Type 0} → List (Name × X) → List (Name × X) → Type 0
+abbrev pub AllFound : {X : Type 0} → List (Name × X) → List (Name × X) → Type 0
 AllFound all [] = Unit {0}
 AllFound all (c ∷ cs) = (find name_cmp c.0 all ≡ Some c.1) × AllFound all cs
 
