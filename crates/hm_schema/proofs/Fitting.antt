@@ -1,26 +1,23 @@
--- When names fit a shape: listed name by listed name, and unlisted name by unlisted name.
-use Rattle.std.proofs.Common.{◌≡◌, ℕ, ◌<◌, Bool, true, false, not, ◌||◌, IsTrue, length, slice_get, Some, All, refl, count_by}
-use Rattle.hm_tree.specs.Names.{Name}
+-- When names fit a shape, name by name.
+use Rattle.std.proofs.Common.{◌≡◌, ℕ, ◌<◌, false, not, IsTrue, List, length, get_or, slice_get, Some, All, refl, sym, ap, subst, ◌∙◌, count_by}
+use Rattle.std.specs.List.Sorted.{IsStrictlySortedBy}
+use Rattle.std.specs.FinSet as set
+use Rattle.std.proofs.lemmas.Option.{slice_get_read}
+use Rattle.hm_tree.specs.Names.{Name, name_cmp}
 use Rattle.hm_tree.specs.Sets.{ascending}
-use Rattle.hm_tree.proofs.Ascending.{ascending_all, contains-ascending}
-use Rattle.hm_schema.specs.declared.node.Shape.{Shape}
+use Rattle.hm_tree.proofs.Ascending.{ascending_all, ascending_is, contains-ascending}
 use Rattle.hm_schema.specs.Values.{Names, NodeValue, is_listed}
-use Rattle.hm_schema.specs.Permitted.{FitsName, FitsListed, Takes, TakesUnlisted, unlisted}
-use Rattle.hm_schema.specs.WellFormed.{IsWellFormedShape}
-use Rattle.hm_schema.proofs.NamesOf.{len-retain_names, found_in}
+use Rattle.hm_schema.specs.Permitted.{Takes, TakesUnlisted, unlisted}
+use Rattle.hm_schema.proofs.NamesOf.{len-retain_names}
 
-or_left : (a b : Bool) → IsTrue a → IsTrue (a || b)
-or_left a b h = rw h refl
+-- the names of a set in the order in which they are lent
+module _ (names : List Name) (s : Names) (rising : IsStrictlySortedBy name_cmp names) (same : set.from_list {R = name_cmp} names ≡ s) where
+  pub each_required : (P : Name → Type 0) → All P names → (k : Name) → IsTrue (set.contains s k) → P k
+  each_required P all = ascending_all P s (subst (All P) (sym (ascending_is names s rising same)) all)
 
-module _ (n : NodeValue) (s : Shape) (names : Names) where
-  pub fits_all : IsWellFormedShape n s → All (λ e. FitsName s names e.0) n.children → FitsListed n s names
-  fits_all h all = record {
-    required = λ k r. (found_in (FitsName s names) n.children all k (h.listed k (or_left _ _ r))).required r;
-    allowed = λ k there listed. (found_in (FitsName s names) n.children all k listed).allowed there;
-  }
-
-  pub fits_one : FitsListed n s names → (i : ℕ) (k : Name) → i < length n.children → is_listed n k ≡ true → FitsName s names k
-  fits_one f i k lt listed = record { required = f.required k; allowed = λ there. f.allowed k there listed }
+  pub is_required : (i : ℕ) (k : Name) → i < length names → k ≡ get_or names i k → IsTrue (set.contains s k)
+  is_required i k lt is =
+      contains-ascending s i k (ap (λ l. slice_get l i) (ascending_is names s rising same) ∙ slice_get_read names _ i k refl lt is)
 
 module _ (n : NodeValue) (names : Names) where
   pub number_is : unlisted n names ≡ count_by (λ k. not (is_listed n k)) (ascending names)

@@ -1,10 +1,9 @@
 //! Whether a node permits a set of names.
-ghost use Rattle.std.specs.Prelude.{◌≡◌, ◌↔◌, IsTrue, T, IfSome, IsSome, All};
+ghost use Rattle.std.specs.Prelude.{◌≡◌, ◌↔◌, IsTrue, T, IfSome, IsSome};
 ghost use Rattle.std.specs.FinMap.{is_sorted};
 ghost use Rattle.hm_tree.specs.Names.{name_cmp};
 ghost use Rattle.hm_schema.specs.Values.{node_value};
-ghost use Rattle.hm_schema.specs.Permitted.{Permits, Takes, TakesUnlisted, IsWithin, FitsListed, FitsName, unlisted};
-ghost use Rattle.hm_schema.specs.WellFormed.{IsWellFormedShape};
+ghost use Rattle.hm_schema.specs.Permitted.{Permits, Takes, TakesUnlisted, IsWithin, FitsListed, Admits, unlisted};
 
 use crate::named::Named;
 use crate::node::{Node, Shape, listed};
@@ -12,8 +11,7 @@ use hm_tree::Name;
 
 /// Whether names fit one of the shapes of a node.
 pub fn permits<N: Named>(node: &Node, names: &N) -> bool
-    requires ascending { T (is_sorted name_cmp node.now.children.items) }
-    requires shapes { All (IsWellFormedShape (node_value node.now)) node.now.shapes.items }
+    requires { T (is_sorted name_cmp node.now.children.items) }
     ensures { IsTrue result ↔ Permits (node_value node.now) (N.names names.now) }
 {
     let Some(number) = count_unlisted(node, names) else {
@@ -70,27 +68,29 @@ fn is_within(shape: &Shape, number: u64) -> bool
     }
 }
 
-// Whether the listed names among them are all that a shape requires, and no others than it allows.
+// Whether all names that a shape requires are among them, and those of them that are listed are in the shape. Names that
+// are missing end the first loop, so that it takes no more steps than there are names, and one.
 fn fits_listed<N: Named>(node: &Node, shape: &Shape, names: &N) -> bool
-    requires ascending { T (is_sorted name_cmp node.now.children.items) }
-    requires shape { IsWellFormedShape (node_value node.now) shape.now }
+    requires { T (is_sorted name_cmp node.now.children.items) }
     ensures { IsTrue result ↔ FitsListed (node_value node.now) shape.now (N.names names.now) }
 {
-    for child in &node.children {
-        if !fits_name(shape, &child.0, names) {
+    for name in shape.required.names() {
+        if !names.has(name) {
+            return false;
+        }
+    }
+    for place in 0..names.count() {
+        if !admits(node, shape, names.name(place)) {
             return false;
         }
     }
     true
 }
 
-// The same of one listed name.
-fn fits_name<N: Named>(shape: &Shape, name: &Name, names: &N) -> bool
-    ensures { IsTrue result ↔ FitsName shape.now (N.names names.now) name.now }
+// Whether a name is in a shape, or isn't listed.
+fn admits(node: &Node, shape: &Shape, name: &Name) -> bool
+    requires { T (is_sorted name_cmp node.now.children.items) }
+    ensures { IsTrue result ↔ Admits (node_value node.now) shape.now name.now }
 {
-    if names.has(name) {
-        shape.required.has(name) || shape.optional.has(name)
-    } else {
-        !shape.required.has(name)
-    }
+    shape.required.has(name) || shape.optional.has(name) || listed(&node.children, name).is_none()
 }

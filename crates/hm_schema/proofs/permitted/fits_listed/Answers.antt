@@ -1,37 +1,55 @@
-use Rattle.std.proofs.Common.{rules, ◌≡◌, refl, ap, ◌∙◌, ◌<◌, length, is_some, get_or}
-use mathlib.Core.Bool.{false≢true}
-use Rattle.std.specs.FinMap.{find}
-use Rattle.hm_tree.specs.Names.{Name, name_cmp}
-use Rattle.hm_schema.specs.declared.node.NodeId.{NodeId}
+use Rattle.std.proofs.Common.{rules, ◌≡◌, ◌<◌, false, IsTrue, length, refl, sym, ◌∙◌}
+use mathlib.Core.Bool.{false≢true, true≢false}
+use Rattle.std.specs.FinSet.{contains}
+use Rattle.hm_tree.specs.Names.{Name}
+use Rattle.hm_tree.specs.Sets.{ascending}
+use Rattle.hm_tree.proofs.Ascending.{ascending_all, contains-ascending}
 use Rattle.hm_schema.specs.Values.{node_value}
-use Rattle.hm_schema.specs.Permitted.{FitsName}
-use Rattle.hm_schema.proofs.NamesOf.{found_at_place}
-use Rattle.hm_schema.proofs.Fitting.{fits_all, fits_one}
-use Rattle.hm_schema.proofs.Lists.{all_next, all_done}
+use Rattle.hm_schema.specs.Permitted.{Admits}
+use Rattle.hm_schema.proofs.Fitting.{each_required, is_required}
+use Rattle.hm_schema.proofs.Lists.{all_next, all_next_read, all_done}
 use Rattle.hm_schema.proofs.permitted.fits_listed.Goals as goal
 
-pub returns-then-not-fits_name : goal.returns-then-not-fits_name
-returns-then-not-fits_name g c = (
+pub returns-then-not-has : goal.returns-then-not-has
+returns-then-not-has g c = (
   λ f. absurd (false≢true f),
   λ fits.
-      let lt : c.loop-child.child-index < length c.args.node.now.children.items = rw (← c.deref-child-items.ensures.value) (search rules) in
-      let is : c.child-item.result ≡ get_or c.args.node.now.children.items c.loop-child.child-index c.child-item.result =
-      rw (← c.deref-child-items.ensures.value) c.child-item.is in
-      let listed = ap (λ (e : Name × NodeId). is_some (find name_cmp e.0 c.args.node.now.children.items)) is
-      ∙ found_at_place c.args.node.now.children.items c.loop-child.child-index c.child-item.result lt in
-      let fit = c.fits_name.ensures.1 (fits_one (node_value c.args.node.now) _ _ fits _ _ lt listed) in
+      let lt : c.loop-name.name-index < length c.names-name-items.result.now = search rules in
+      let there = fits.required c.name-item.result (is_required c.names-name-items.result.now c.args.shape.now.required
+      c.names-name-items.ensures.ascending c.names-name-items.ensures.same c.loop-name.name-index c.name-item.result lt c.name-item.is) in
+      let missing : contains (g.N.Named.names c.args.names.now) c.name-item.result ≡ false = search rules in
+      absurd (true≢false (sym there ∙ missing)),
+)
+
+pub loop-name-preserved : goal.loop-name-preserved
+loop-name-preserved g c =
+    all_next (λ (k : Name). IsTrue (contains (g.N.Named.names c.args.names.now) k)) c.names-name-items.result.now _ _ (search rules)
+    c.name-item.is c.loop-name.invariant (search rules)
+
+pub returns-then-not-admits : goal.returns-then-not-admits
+returns-then-not-admits g c = (
+  λ f. absurd (false≢true f),
+  λ fits.
+      let admitted = c.admits.ensures.1 (fits.allowed c.name.result.now
+      (contains-ascending (g.N.Named.names c.args.names.now) c.loop-place.place c.name.result.now c.name.ensures)) in
       search rules,
 )
 
-pub loop-child-preserved : goal.loop-child-preserved
-loop-child-preserved g c =
-    all_next (λ (e : Name × NodeId). FitsName c.args.shape.now (g.N.Named.names c.args.names.now) e.0) c.deref-child-items.result.now _ _
-    (search rules) c.child-item.is c.loop-child.invariant (c.fits_name.ensures.0 (search rules))
+pub loop-place-preserved : goal.loop-place-preserved
+loop-place-preserved g c =
+    all_next_read (Admits (node_value c.args.node.now) c.args.shape.now) (ascending (g.N.Named.names c.args.names.now)) _ _ c.name.ensures
+    c.loop-place.invariant (c.admits.ensures.0 (search rules))
 
 pub returns : goal.returns
 returns g c = (
-  λ _. fits_all _ _ _ c.requires.shape (rw (← c.deref-child-items.ensures.value)
-      (all_done (λ (e : Name × NodeId). FitsName c.args.shape.now (g.N.Named.names c.args.names.now) e.0) c.deref-child-items.result.now _
-      (search rules) c.loop-child.invariant)),
+  λ _. record {
+    required = each_required c.names-name-items.result.now c.args.shape.now.required c.names-name-items.ensures.ascending
+        c.names-name-items.ensures.same (λ (k : Name). IsTrue (contains (g.N.Named.names c.args.names.now) k))
+        (all_done (λ (k : Name). IsTrue (contains (g.N.Named.names c.args.names.now) k)) c.names-name-items.result.now _ (search rules)
+        c.loop-name.invariant);
+    allowed = ascending_all (Admits (node_value c.args.node.now) c.args.shape.now) (g.N.Named.names c.args.names.now)
+        (all_done (Admits (node_value c.args.node.now) c.args.shape.now) (ascending (g.N.Named.names c.args.names.now)) _ (search rules)
+        c.loop-place.invariant);
+  },
   λ _. refl,
 )

@@ -1,9 +1,10 @@
-use Rattle.std.proofs.Common.{rules, refl, sym, subst, All}
+use Rattle.std.proofs.Common.{rules, refl, sym, subst, ◌∙◌, All}
 use mathlib.Core.Bool.{false≢true}
 use Rattle.hm_schema.specs.Values.{node_value}
 use Rattle.hm_schema.specs.Permitted.{Fits, IsWithin}
-use Rattle.hm_schema.proofs.Lists.{none_is, all_done}
+use Rattle.hm_schema.proofs.Lists.{none_is, all_next, all_done}
 use Rattle.hm_schema.proofs.permitted.permits.Goals as goal
+use Rattle.hm_schema.proofs.permitted.permits.Goals.{else-is_within-via-then-is_within+else-fits_listed, else-is_within-via-else-is_within}
 
 pub returns-then-fits_listed : goal.returns-then-fits_listed
 returns-then-fits_listed g c = (
@@ -29,3 +30,14 @@ returns g c = (
       (all_done (λ s. ¬ (Fits (node_value c.args.node.now) s (g.N.Named.names c.args.names.now))) c.deref-shape-items.result.now _
       (search rules) c.loop-shape.invariant)) some),
 )
+
+pub loop-shape-preserved : goal.loop-shape-preserved
+loop-shape-preserved g c =
+    all_next (λ s. ¬ (Fits (node_value c.args.node.now) s (g.N.Named.names c.args.names.now))) c.deref-shape-items.result.now _ _ (search rules)
+    c.shape-item.is c.loop-shape.invariant (λ fits. elim c.else-is_within.branch [
+      | else-is_within-via-then-is_within+else-fits_listed w ↦
+          let there = w.fits_listed.ensures.1 fits.listed in absurd (false≢true (sym w.if-fits_listed.false ∙ there))
+      | else-is_within-via-else-is_within w ↦
+          let within = c.is_within.ensures.1 (subst (IsWithin c.shape-item.result) (sym c.in-Some.ensures.number) fits.number) in
+          absurd (false≢true (sym w.if-is_within.false ∙ within))
+    ])
