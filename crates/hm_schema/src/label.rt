@@ -37,6 +37,7 @@ pub fn label_numbers(alloc: Global, nodes: &[&Node]) -> Result<Vec<u64>, Memory>
 }
 
 // The label of a node.
+#[tactic(auto, using(crate::specs::ShapeOrder::shape_one, crate::proofs::Labels::twin_one))]
 fn label_of(alloc: Global, node: Node) -> Result<Label, Memory>
     ensures { IfOk result (IsLabel (node_value node)) }
 {

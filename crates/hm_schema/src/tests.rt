@@ -5,7 +5,7 @@ ghost use Rattle.hm_schema.specs.Values.{node_value, reached};
 ghost use Rattle.hm_schema.specs.Membership.{HasNoTwins};
 ghost use Rattle.std.specs.FinSet.{from_list};
 
-use crate::{Node, NodeId, Schema, Shape};
+use crate::{Node, NodeId, Schema, Shape, label_numbers, same};
 use hm_tree::{Class, Memory, Name, NameSet, Path, Tree};
 use std::alloc::Global;
 use std::test::Fail;
@@ -239,5 +239,80 @@ fn a_path_has_a_node(rt: HostRuntime) -> Result<(), Fail> {
     path.names.push(Name::from_text(alloc, "a")?)?;
     path.names.push(Name::from_text(alloc, "b")?)?;
     assert_eq!(rt; schema.at(&path), schema.root());
+    Ok(())
+}
+
+#[test]
+fn a_copy_is_the_same(rt: HostRuntime) -> Result<(), Fail> {
+    let alloc = rt.alloc();
+    let schema = two_of_three(alloc)?;
+    let copy = schema.copy(alloc)?;
+    assert!(rt; same(alloc, &schema, &copy)?);
+    let root = copy.root();
+    assert!(rt; copy.permits(root, &flat(alloc, &["x", "z"])?));
+    assert!(rt; !copy.permits(root, &flat(alloc, &["x", "y", "z"])?));
+    Ok(())
+}
+
+#[test]
+fn classes_and_bounds_differ(rt: HostRuntime) -> Result<(), Fail> {
+    let alloc = rt.alloc();
+    let clean = unlisted_alone(alloc, Class::Clean, 0, None)?;
+    assert!(rt;
+        same(
+            alloc,
+            &clean,
+            &unlisted_alone(alloc, Class::Clean, 0, None)?
+        )?
+    );
+    assert!(rt; !same(alloc, &clean, &unlisted_alone(alloc, Class::Any, 0, None)?)?);
+    assert!(rt;
+        !same(
+            alloc,
+            &clean,
+            &unlisted_alone(alloc, Class::Clean, 0, Some(1))?
+        )?
+    );
+    assert!(rt; !same(alloc, &clean, &two_of_three(alloc)?)?);
+    let none = unlisted_alone(alloc, Class::Clean, 0, Some(0))?;
+    assert!(rt;
+        same(
+            alloc,
+            &none,
+            &unlisted_alone(alloc, Class::Any, 0, Some(0))?
+        )?
+    );
+    Ok(())
+}
+
+// A node of one shape, which has all its names, and twins.
+fn twinned(alloc: Global, names: &[&str], twins: &[(&str, &str)]) -> Result<Node, Memory> {
+    let mut node = leaf(alloc)?;
+    let mut children = Vec::new(alloc);
+    for name in names {
+        children.push((Name::from_text(alloc, name)?, NodeId { place: 0 }))?;
+    }
+    node.shapes.push(Shape {
+        required: set(alloc, names)?,
+        optional: set(alloc, &[])?,
+        least: 0,
+        most: Some(0),
+    })?;
+    node.children = children;
+    for (one, two) in twins {
+        node.twins.push((Name::from_text(alloc, one)?, Name::from_text(alloc, two)?))?;
+    }
+    Ok(node)
+}
+
+#[test]
+fn labels_have_numbers(rt: HostRuntime) -> Result<(), Fail> {
+    let alloc = rt.alloc();
+    let one = twinned(alloc, &["a", "b"], &[("a", "b"), ("b", "a")])?;
+    let two = twinned(alloc, &["a", "b"], &[("b", "a"), ("a", "b"), ("b", "a")])?;
+    let three = twinned(alloc, &["a", "b"], &[("a", "b")])?;
+    let four = twinned(alloc, &["a"], &[])?;
+    let numbers = label_numbers(alloc, &[&one, &three, &two, &four, &one])?;
+    assert_eq!(rt; numbers.as_slice(), [0, 1, 0, 3, 0].as_slice());
     Ok(())
 }
