@@ -13,7 +13,8 @@ use Rattle.hm_typing.specs.Faults.{At, at, Before, size_of, Faults, fault_first,
 use Rattle.hm_typing.proofs.Determined.{list_one, items_one, list_or_items}
 use Rattle.hm_typing.proofs.Once.{goes_once, label_one}
 use Rattle.hm_typing.proofs.TwoFaults.{IsSingle, two_once, two_never}
-use Rattle.hm_typing.proofs.Sources.{ForkSource, fork_source_one, BranchSource, branch_source_one, CanJoinViews, CanMergeViews, fork_faults, concrete_faults, view_faults}
+use Rattle.hm_typing.specs.Sources.{ForkSource, BranchSource}
+use Rattle.hm_typing.proofs.Sources.{fork_source_one, branch_source_one, CanJoinViews, CanMergeViews, fork_faults, concrete_faults, view_faults}
 
 -- ---- steps, in their order
 

@@ -8,29 +8,17 @@ use Rattle.hm_node_laws.specs.Branching.{node_with, node_without}
 use Rattle.hm_typing.specs.Forms.{Form, formed}
 use Rattle.hm_typing.specs.SameForms.{IsSame}
 use Rattle.hm_typing.specs.Typing.{Types, Goes, IsForked, inside_form, outside_form, AreJoinable, AreMergeable, IsBranched}
+use Rattle.hm_typing.specs.Sources.{ForkSource, BranchSource}
 use Rattle.hm_typing.specs.Faults.{At, at, size_of, Faults, fault_fork, fault_inside, fault_outside, fault_joined, fault_concrete, fault_where_it_has, fault_where_it_lacks, fault_apart, fault_view, fault_where_it_showed, fault_where_it_did_not, fault_merged}
 use Rattle.hm_typing.proofs.Determined.{node_one, forked_one}
 use Rattle.hm_typing.proofs.TwoFaults.{TwoFaults, at_source, in_first, in_second, at_end}
 
 -- ---- what the two lenses of a fork and of a conditional are checked at
 
-pub record ForkSource (P : Names) (u p q : Form) : Type 0 where
-  pub node : NodeOver Form
-  pub shape : Shape
-  pub forked : IsForked P u node shape
-  pub first : p ≡ inside_form P node shape
-  pub second : q ≡ outside_form P node shape
-
 pub fork_source_one : (P : Names) (u p q r s : Form) → ForkSource P u p q → ForkSource P u r s → (p ≡ r) × (q ≡ s)
 fork_source_one P u p q r s h k =
     let same = forked_one P u h.node k.node h.shape k.shape h.forked k.forked in
     (h.first ∙ (λ i. inside_form P (same.0 i) (same.1 i)) ∙ sym k.first, h.second ∙ (λ i. outside_form P (same.0 i) (same.1 i)) ∙ sym k.second)
-
-pub record BranchSource (m : Name) (u p q : Form) : Type 0 where
-  pub node : NodeOver Form
-  pub branched : IsBranched m u node
-  pub first : p ≡ formed (node_with m node)
-  pub second : q ≡ formed (node_without m node)
 
 pub branch_source_one : (m : Name) (u p q r s : Form) → BranchSource m u p q → BranchSource m u r s → (p ≡ r) × (q ≡ s)
 branch_source_one m u p q r s h k =

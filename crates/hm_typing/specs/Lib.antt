@@ -2,6 +2,7 @@ pub mod Forms
 pub mod Members
 pub mod SameForms
 pub mod Typing
+pub mod Sources
 pub mod Faults
 pub mod Sound
 pub mod Texts

@@ -1,0 +1,14 @@
+mod Places
+pub mod Keys
+pub mod Grown
+mod Sets
+mod Beside
+mod Overlaid
+mod Rows
+mod Replaced
+pub mod Forms
+mod OneName
+mod TwoAdded
+mod PartedNodes
+mod CopiedNode
+mod JoinedNode

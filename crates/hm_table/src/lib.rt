@@ -1,0 +1,33 @@
+//! Tables of nodes, on which lenses are typed.
+//!
+//! A table is a growing list of nodes that refer to one another. Nodes of one kind share its shapes, names and twins, so
+//! that a node over other nodes costs its edges alone (`specs/Tables`). Each function looks at a node, or adds the node
+//! that the view of a lens begins with; what it says of a node it says of the form that the node stands for (`hm_typing`),
+//! which stays the same as the table grows (`proofs/Grown`).
+#![tactic(auto)]
+
+mod branching;
+mod copying;
+mod hoisting;
+mod joining;
+mod kind;
+mod looks;
+mod names;
+mod overlays;
+mod parting;
+mod plunging;
+mod shaped;
+mod shapes;
+mod table;
+mod vertex;
+
+pub use branching::branched;
+pub use copying::copied;
+pub use hoisting::hoisted;
+pub use joining::joined;
+pub use kind::Kind;
+pub use looks::{child, count, is_plain, lets_some_in, listed, lists, other};
+pub use parting::parted;
+pub use plunging::plunged;
+pub use table::Table;
+pub use vertex::Vertex;
