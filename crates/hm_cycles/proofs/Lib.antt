@@ -1,0 +1,11 @@
+mod Elements
+mod Marks
+mod Adding
+mod Searches
+mod Naming
+mod LensCalls
+mod Rows
+mod Bodies
+mod Defined
+mod Leading
+mod Earliest

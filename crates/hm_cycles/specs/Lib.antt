@@ -1,0 +1,5 @@
+pub mod Calls
+pub mod CallSets
+pub mod Places
+pub mod Callees
+pub mod BadCycles
