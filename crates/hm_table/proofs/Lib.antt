@@ -12,3 +12,4 @@ mod TwoAdded
 mod PartedNodes
 mod CopiedNode
 mod JoinedNode
+pub mod Shifted

@@ -29,14 +29,14 @@ module _ (kinds ks : List Kind) where
   kind_front : (v : Vertex) → IsSeated kinds v → slice_get (kinds ++ ks) v.kind ≡ slice_get kinds v.kind
   kind_front v s = at_front kinds ks v.kind s.kind
 
-  rows_kinds : (vs : List Vertex) → All (IsSeated kinds) vs → rows (kinds ++ ks) vs ≡ rows kinds vs
+  pub rows_kinds : (vs : List Vertex) → All (IsSeated kinds) vs → rows (kinds ++ ks) vs ≡ rows kinds vs
   rows_kinds [] h = refl
   rows_kinds (v ∷ vs) h =
       let one = ap (λ x. seat_if x v) (kind_front v (All-head (IsSeated kinds) v vs h)) in
       let more = rows_kinds vs (All-tail (IsSeated kinds) v vs h) in
       λ i. one i ∷ more i
 
-  seats_kinds : (vs : List Vertex) → All (IsSeated kinds) vs → All (IsSeated (kinds ++ ks)) vs
+  pub seats_kinds : (vs : List Vertex) → All (IsSeated kinds) vs → All (IsSeated (kinds ++ ks)) vs
   seats_kinds vs h = All-weaker (IsSeated kinds) (IsSeated (kinds ++ ks)) (λ v s. record {
     kind = omega (arith, s.kind, length-append kinds ks);
     count = subst (λ x. IfSome x (λ k. length v.next.items ≡ length k.names.items)) (sym (kind_front v s)) s.count;

@@ -1,5 +1,5 @@
 -- What contracts see of a table: its nodes. Nodes of one kind share its shapes, names and twins.
-use Rattle.std.specs.Prelude.{◌≡◌, ◌<◌, List, [], ◌++◌, length, map, Option, Some, None, slice_get, All, IfSome}
+use Rattle.std.specs.Prelude.{◌≡◌, ℕ, ◌+◌, ◌<◌, List, [], ◌++◌, length, map, Option, Some, None, slice_get, All, IfSome}
 use Rattle.std.specs.List.{zip}
 use Rattle.hm_tree.specs.declared.class.Class.{Class}
 use Rattle.hm_tree.specs.Names.{Name}
@@ -53,6 +53,21 @@ pub record IsSeated (kinds : List Kind) (v : Vertex) : Type 0 where
 pub record IsTable (kinds : List Kind) (vs : List Vertex) : Type 0 where
   pub formed : AreFormed (rows kinds vs)
   pub seated : All (IsSeated kinds) vs
+
+-- ---- the nodes of a schema behind others
+
+abbrev pub shift : ℕ → NodeId → NodeId
+shift by i = record { place = by + i.place }
+
+-- its edges lead to nodes so many places further
+abbrev pub shifted : ℕ → NodeValue → NodeValue
+shifted by n = over (λ s j. shift by j) n
+
+-- kinds and vertices of the nodes of a schema, to stand behind so many kinds and so many nodes
+pub record AreShifted (first by : ℕ) (kinds : List Kind) (vs : List Vertex) (nodes : Nodes) : Type 0 where
+  pub count : length kinds ≡ length nodes
+  pub rows : (before : List Kind) → length before ≡ first → rows (before ++ kinds) vs ≡ map (shifted by) nodes
+  pub seated : (before : List Kind) → length before ≡ first → All (IsSeated (before ++ kinds)) vs
 
 -- ---- a node of the kind of another one
 

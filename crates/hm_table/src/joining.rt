@@ -17,6 +17,7 @@ use crate::overlays::overlaid;
 use crate::parting::separates;
 use crate::shapes::{all_have, all_shut};
 use crate::table::Table;
+use crate::twins::push_twins;
 use hm_schema::{NodeId, Shape};
 use hm_tree::{Memory, Name, NameSet};
 use std::alloc::Global;
@@ -124,11 +125,7 @@ fn both_twins(
     ensures { IfOk result (λ v. v.items ≡ ones.now ++ twos.now) }
 {
     let mut twins = Vec::new(alloc);
-    for one in ones {
-        twins.push((one.0.copy()?, one.1.copy()?))?;
-    }
-    for two in twos {
-        twins.push((two.0.copy()?, two.1.copy()?))?;
-    }
+    push_twins(&mut twins, ones)?;
+    push_twins(&mut twins, twos)?;
     Ok(twins)
 }

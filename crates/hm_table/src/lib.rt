@@ -13,12 +13,14 @@ mod joining;
 mod kind;
 mod looks;
 mod names;
+mod nodes;
 mod overlays;
 mod parting;
 mod plunging;
 mod shaped;
 mod shapes;
 mod table;
+mod twins;
 mod vertex;
 
 pub use branching::branched;

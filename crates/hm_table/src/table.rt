@@ -1,15 +1,17 @@
 //! Tables of nodes, which grow.
-ghost use Rattle.std.specs.Prelude.{◌≡◌, ◌<◌, ◌++◌, ◌∷◌, [], Some, length, slice_get, OnOk, OnErr, IfOk};
+ghost use Rattle.std.specs.Prelude.{◌≡◌, ◌<◌, ◌++◌, ◌∷◌, [], Some, length, slice_get, OnOk, OnErr, IfOk, All, map};
 ghost use Rattle.std.specs.List.Sorted.{IsStrictlySortedBy};
 ghost use Rattle.hm_tree.specs.Names.{name_cmp};
-ghost use Rattle.hm_schema.specs.Values.{NodeValue};
+ghost use Rattle.hm_schema.specs.Values.{NodeValue, node_value};
 ghost use Rattle.hm_schema.specs.WellFormed.{IsWellFormedNode};
-ghost use Rattle.hm_table.specs.Tables.{AreFormed, seat, seated, replaced, CanReplace};
+ghost use Rattle.hm_table.specs.Tables.{AreFormed, seat, seated, shifted, replaced, CanReplace};
 
 use crate::kind::Kind;
+use crate::nodes::{kind_of, vertex_of};
 use crate::vertex::Vertex;
-use hm_schema::NodeId;
+use hm_schema::{Node, NodeId};
 use hm_tree::{Class, Memory};
+use std::alloc::Global;
 use std::marker::Model;
 
 /// Nodes that refer to one another.
@@ -34,6 +36,17 @@ impl Model for Table {
 }
 
 impl Table {
+    /// A table without nodes.
+    pub fn new(alloc: Global) -> Table
+        ensures value { result ≡ [] }
+        ensures formed { AreFormed result }
+    {
+        Table {
+            kinds: Vec::new(alloc),
+            vertices: Vec::new(alloc),
+        }
+    }
+
     /// A node, as its kind and its vertex.
     pub fn at(&self, id: NodeId) -> (&Kind, &Vertex)
         requires { id.place < length self.now }
@@ -88,5 +101,26 @@ impl Table {
         let kind = self.vertices[id.place].kind;
         self.vertices.push(Vertex { kind, next, other })?;
         Ok(NodeId { place })
+    }
+
+    /// Adds the nodes of a schema, whose references are to one another.
+    pub fn add_nodes(&mut self, alloc: Global, nodes: &[Node]) -> Result<(), Memory>
+        requires { All (IsWellFormedNode (length nodes.now)) (map node_value nodes.now) }
+        ensures nodes { OnOk result (self.new ≡ self.old ++ map (shifted (length self.old)) (map node_value nodes.now)) }
+        ensures err { OnErr result (self.new ≡ self.old) }
+        ensures formed { AreFormed self.new }
+    {
+        let by = self.vertices.len();
+        let first = self.kinds.len();
+        let mut kinds = Vec::new(alloc);
+        let mut vertices = Vec::new(alloc);
+        for node in nodes {
+            let kind = first + kinds.len();
+            kinds.push(kind_of(alloc, node)?)?;
+            vertices.push(vertex_of(alloc, node, kind, by)?)?;
+        }
+        self.kinds.append(&mut kinds)?;
+        self.vertices.append(&mut vertices)?;
+        Ok(())
     }
 }
