@@ -80,13 +80,13 @@ below_as In n m k x e b = record { child = b.child; is = sym e ∙ b.is; inside 
 -- ---- the nodes of a schema
 
 -- twins are said by paths there
-twin_from : (t : Tree) (twin : Name × Name) → IsTwin (state (Some t)) twin.0 twin.1 → HasTwin t twin
+pub twin_from : (t : Tree) (twin : Name × Name) → IsTwin (state (Some t)) twin.0 twin.1 → HasTwin t twin
 twin_from t twin w =
     let one = is_there (below twin.0 t) (below_has t twin.0 [] w.has_one) in
     let two = is_there (below twin.1 t) (below_has t twin.1 [] w.has_two) in
     record { tree = one.0; one = one.1; two = two.1 ∙ ap Some (sym (same_twin t twin.0 twin.1 one.0 two.0 one.1 two.1 w)) }
 
-twin_to : (t : Tree) (twin : Name × Name) → HasTwin t twin → IsTwin (state (Some t)) twin.0 twin.1
+pub twin_to : (t : Tree) (twin : Name × Name) → HasTwin t twin → IsTwin (state (Some t)) twin.0 twin.1
 twin_to t twin w = twin_same t twin.0 twin.1 w.tree w.tree w.one w.two refl
 
 module _ (s : SchemaValue) where

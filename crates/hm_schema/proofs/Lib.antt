@@ -5,11 +5,11 @@ pub mod Members
 pub mod References
 mod OrderedSets
 pub mod Outside
-mod Labels
+pub mod Labels
 mod JointGraphs
 mod JointEdges
 mod JointSameness
-mod LabelNumbers
+pub mod LabelNumbers
 mod Small
 mod Standing
 pub mod Decided

@@ -3,7 +3,7 @@ ghost use Rattle.std.specs.Prelude.{◌≡◌, ◌++◌, IfOk, OnOk, map};
 ghost use Rattle.hm_schema.specs.Values.{node_value};
 
 use crate::node::{Node, NodeId, Shape};
-use hm_tree::{Memory, Name, NameSet};
+use hm_tree::{Memory, Name};
 use std::alloc::Global;
 
 /// Puts copies of some names behind others.
@@ -25,13 +25,6 @@ pub fn copy_names(alloc: Global, names: &[Name]) -> Result<Vec<Name>, Memory>
     Ok(copies)
 }
 
-/// An equal set.
-pub fn copy_set(alloc: Global, set: &NameSet) -> Result<NameSet, Memory>
-    ensures { IfOk result (λ copy. copy ≡ set.now) }
-{
-    NameSet::from_list(copy_names(alloc, set.names())?)
-}
-
 // Equal nodes.
 pub fn copy_nodes(alloc: Global, nodes: &[Node]) -> Result<Vec<Node>, Memory>
     ensures { IfOk result (λ copies. map node_value copies.items ≡ map node_value nodes.now) }
@@ -43,13 +36,13 @@ pub fn copy_nodes(alloc: Global, nodes: &[Node]) -> Result<Vec<Node>, Memory>
     Ok(copies)
 }
 
-// Equal shapes.
+/// Equal shapes.
 pub fn copy_shapes(alloc: Global, shapes: &[Shape]) -> Result<Vec<Shape>, Memory>
     ensures { IfOk result (λ copies. copies.items ≡ shapes.now) }
 {
     let mut copies = Vec::with_capacity(alloc, shapes.len())?;
     for shape in shapes {
-        copies.push(shape.copy(alloc)?)?;
+        copies.push(shape.copy()?)?;
     }
     Ok(copies)
 }
@@ -68,7 +61,7 @@ pub fn copy_children(
     Ok(copies)
 }
 
-// Equal pairs of names.
+/// Equal pairs of names.
 pub fn copy_pairs(alloc: Global, pairs: &[(Name, Name)]) -> Result<Vec<(Name, Name)>, Memory>
     ensures { IfOk result (λ copies. copies.items ≡ pairs.now) }
 {

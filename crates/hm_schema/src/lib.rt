@@ -10,6 +10,7 @@
 
 mod copies;
 mod label;
+mod listing;
 mod named;
 mod node;
 mod numbering;
@@ -24,9 +25,15 @@ mod tests;
 mod tidying;
 mod twins;
 
-pub use copies::{append_copies, copy_names, copy_set};
-pub use label::label_numbers;
+pub use copies::{append_copies, copy_names, copy_pairs, copy_shapes};
+pub use label::{Label, label_numbers, label_of};
+pub use listing::Listing;
+pub use named::Named;
 pub use node::{Node, NodeId, Shape};
+pub use numbering::number;
 pub use options::Options;
+pub use permitted::permits;
 pub use sameness::same;
 pub use schema::Schema;
+pub use tidying::names_in_shapes;
+pub use twins::have_twins;

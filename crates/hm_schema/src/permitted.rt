@@ -2,22 +2,22 @@
 ghost use Rattle.std.specs.Prelude.{◌≡◌, ◌↔◌, IsTrue, T, IfSome, IsSome};
 ghost use Rattle.std.specs.FinMap.{is_sorted};
 ghost use Rattle.hm_tree.specs.Names.{name_cmp};
-ghost use Rattle.hm_schema.specs.Values.{node_value};
 ghost use Rattle.hm_schema.specs.Permitted.{Permits, Takes, TakesUnlisted, IsWithin, FitsListed, Admits, unlisted};
 
+use crate::listing::Listing;
 use crate::named::Named;
-use crate::node::{Node, Shape, listed};
+use crate::node::Shape;
 use hm_tree::Name;
 
 /// Whether names fit one of the shapes of a node.
-pub fn permits<N: Named>(node: &Node, names: &N) -> bool
-    requires { T (is_sorted name_cmp node.now.children.items) }
-    ensures { IsTrue result ↔ Permits (node_value node.now) (N.names names.now) }
+pub fn permits<L: Listing, N: Named>(node: &L, names: &N) -> bool
+    requires { T (is_sorted name_cmp (L.node node.now).children) }
+    ensures { IsTrue result ↔ Permits (L.node node.now) (N.names names.now) }
 {
     let Some(number) = count_unlisted(node, names) else {
         return false;
     };
-    for shape in &node.shapes {
+    for shape in node.shapes() {
         if is_within(shape, number) && fits_listed(node, shape, names) {
             return true;
         }
@@ -26,15 +26,15 @@ pub fn permits<N: Named>(node: &Node, names: &N) -> bool
 }
 
 // The number of names that aren't listed, if each of them may stand there.
-fn count_unlisted<N: Named>(node: &Node, names: &N) -> Option<u64>
-    requires { T (is_sorted name_cmp node.now.children.items) }
-    ensures number { IfSome result (λ number. number ≡ unlisted (node_value node.now) (N.names names.now)) }
-    ensures taken { IsSome result ↔ TakesUnlisted (node_value node.now) (N.names names.now) }
+fn count_unlisted<L: Listing, N: Named>(node: &L, names: &N) -> Option<u64>
+    requires { T (is_sorted name_cmp (L.node node.now).children) }
+    ensures number { IfSome result (λ number. number ≡ unlisted (L.node node.now) (N.names names.now)) }
+    ensures taken { IsSome result ↔ TakesUnlisted (L.node node.now) (N.names names.now) }
 {
     let mut number = 0;
     for place in 0..names.count() {
         let name = names.name(place);
-        if listed(&node.children, name).is_some() {
+        if node.lists(name) {
             continue;
         }
         if !takes(node, name) {
@@ -46,11 +46,11 @@ fn count_unlisted<N: Named>(node: &Node, names: &N) -> Option<u64>
 }
 
 // Whether a name that isn't listed may stand at a node.
-fn takes(node: &Node, name: &Name) -> bool
-    ensures { IsTrue result ↔ Takes (node_value node.now) name.now }
+fn takes<L: Listing>(node: &L, name: &Name) -> bool
+    ensures { IsTrue result ↔ Takes (L.node node.now) name.now }
 {
-    match &node.other {
-        Some(other) => name.in_class(other.0),
+    match node.class() {
+        Some(class) => name.in_class(class),
         None => false,
     }
 }
@@ -70,9 +70,9 @@ fn is_within(shape: &Shape, number: u64) -> bool
 
 // Whether all names that a shape requires are among them, and those of them that are listed are in the shape. Names that
 // are missing end the first loop, so that it takes no more steps than there are names, and one.
-fn fits_listed<N: Named>(node: &Node, shape: &Shape, names: &N) -> bool
-    requires { T (is_sorted name_cmp node.now.children.items) }
-    ensures { IsTrue result ↔ FitsListed (node_value node.now) shape.now (N.names names.now) }
+fn fits_listed<L: Listing, N: Named>(node: &L, shape: &Shape, names: &N) -> bool
+    requires { T (is_sorted name_cmp (L.node node.now).children) }
+    ensures { IsTrue result ↔ FitsListed (L.node node.now) shape.now (N.names names.now) }
 {
     for name in shape.required.names() {
         if !names.has(name) {
@@ -88,9 +88,9 @@ fn fits_listed<N: Named>(node: &Node, shape: &Shape, names: &N) -> bool
 }
 
 // Whether a name is in a shape, or isn't listed.
-fn admits(node: &Node, shape: &Shape, name: &Name) -> bool
-    requires { T (is_sorted name_cmp node.now.children.items) }
-    ensures { IsTrue result ↔ Admits (node_value node.now) shape.now name.now }
+fn admits<L: Listing>(node: &L, shape: &Shape, name: &Name) -> bool
+    requires { T (is_sorted name_cmp (L.node node.now).children) }
+    ensures { IsTrue result ↔ Admits (L.node node.now) shape.now name.now }
 {
-    shape.required.has(name) || shape.optional.has(name) || listed(&node.children, name).is_none()
+    shape.required.has(name) || shape.optional.has(name) || !node.lists(name)
 }

@@ -63,8 +63,8 @@ impl Schema {
         self.root
     }
 
-    // The nodes.
-    pub(crate) fn nodes(&self) -> &[Node]
+    /// The nodes.
+    pub fn nodes(&self) -> &[Node]
         ensures nodes { map node_value result.now ≡ self.now.nodes }
         ensures well_formed { IsWellFormed self.now }
     {

@@ -46,8 +46,8 @@ fn lets_in(shape: &Shape) -> bool
     }
 }
 
-// The names that stand in some shape.
-fn names_in_shapes(alloc: Global, shapes: &[Shape]) -> Result<NameSet, Memory>
+/// The names that stand in some shape.
+pub fn names_in_shapes(alloc: Global, shapes: &[Shape]) -> Result<NameSet, Memory>
     ensures { IfOk result (λ names. (k : NameValue) → contains names k ≡ list_any (λ a. has_name a k) shapes.now) }
 {
     let mut names = Vec::new(alloc);

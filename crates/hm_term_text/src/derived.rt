@@ -5,7 +5,6 @@ ghost use Rattle.hm_terms.specs.Programs.{lens_of};
 ghost use Rattle.hm_term_text.specs.Derived.{no_names_set, only, under_name, filter_lens, prune_lens, focus_lens, add_lens, rename_lens};
 ghost use Rattle.hm_terms.specs.Lenses.{sequence, fork};
 
-use hm_schema::copy_set;
 use hm_terms::Term;
 use hm_tree::{Memory, Name, NameSet, Tree};
 use std::alloc::Global;
@@ -63,7 +62,7 @@ fn fork(
 pub fn filter(alloc: Global, names: NameSet, default: Tree) -> Result<Term, Memory>
     ensures { IfOk result (λ term. lens_of term ≡ filter_lens names default) }
 {
-    let shown = copy_set(alloc, &names)?;
+    let shown = names.copy()?;
     let outside = Term::Const {
         tree: Tree::empty(alloc),
         default,

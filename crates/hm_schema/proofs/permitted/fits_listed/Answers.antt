@@ -4,7 +4,6 @@ use Rattle.std.specs.FinSet.{contains}
 use Rattle.hm_tree.specs.Names.{Name}
 use Rattle.hm_tree.specs.Sets.{ascending}
 use Rattle.hm_tree.proofs.Ascending.{ascending_all, contains-ascending}
-use Rattle.hm_schema.specs.Values.{node_value}
 use Rattle.hm_schema.specs.Permitted.{Admits}
 use Rattle.hm_schema.proofs.Fitting.{each_required, is_required}
 use Rattle.hm_schema.proofs.Lists.{all_next, all_next_read, all_done}
@@ -37,7 +36,7 @@ returns-then-not-admits g c = (
 
 pub loop-place-preserved : goal.loop-place-preserved
 loop-place-preserved g c =
-    all_next_read (Admits (node_value c.args.node.now) c.args.shape.now) (ascending (g.N.Named.names c.args.names.now)) _ _ c.name.ensures
+    all_next_read (Admits (g.L.Listing.node c.args.node.now) c.args.shape.now) (ascending (g.N.Named.names c.args.names.now)) _ _ c.name.ensures
     c.loop-place.invariant (c.admits.ensures.0 (search rules))
 
 pub returns : goal.returns
@@ -47,8 +46,8 @@ returns g c = (
         c.names-name-items.ensures.same (λ (k : Name). IsTrue (contains (g.N.Named.names c.args.names.now) k))
         (all_done (λ (k : Name). IsTrue (contains (g.N.Named.names c.args.names.now) k)) c.names-name-items.result.now _ (search rules)
         c.loop-name.invariant);
-    allowed = ascending_all (Admits (node_value c.args.node.now) c.args.shape.now) (g.N.Named.names c.args.names.now)
-        (all_done (Admits (node_value c.args.node.now) c.args.shape.now) (ascending (g.N.Named.names c.args.names.now)) _ (search rules)
+    allowed = ascending_all (Admits (g.L.Listing.node c.args.node.now) c.args.shape.now) (g.N.Named.names c.args.names.now)
+        (all_done (Admits (g.L.Listing.node c.args.node.now) c.args.shape.now) (ascending (g.N.Named.names c.args.names.now)) _ (search rules)
         c.loop-place.invariant);
   },
   λ _. refl,
