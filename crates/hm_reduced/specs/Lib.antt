@@ -1,0 +1,3 @@
+pub mod Reduced
+pub mod Indexed
+pub mod Partitions
