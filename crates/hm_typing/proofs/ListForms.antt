@@ -67,7 +67,7 @@ module _ (u x : Form) (b : Bool) (l : IsList u x b) (h : IsSound u) where
   list_first_sound = subst IsSound l.first_is (child_sound u l.node l.is_node h head l.list.first l.list.first_is)
 
 -- what is found as a listed name is what the name leads to
-found_child : {I : Type 0} (n : NodeOver I) (k : Name) (i : I) → find name_cmp k n.children ≡ Some i → child_of n k ≡ Some i
+pub found_child : {I : Type 0} (n : NodeOver I) (k : Name) (i : I) → find name_cmp k n.children ≡ Some i → child_of n k ≡ Some i
 found_child n k i e = ap (λ x. option_or x (option_map (λ o. o.1) n.other)) e
 
 module _ (u x : Form) (b : Bool) (l : IsItems u x b) (h : IsSound u) where
@@ -110,7 +110,7 @@ module _ (u x : Form) (b : Bool) (l : IsItems u x b) (h : IsSound u) where
 -- ---- the view
 
 -- a node that lists the names of an exact shape
-shape_well : {I : Type 0} (n : NodeOver I) (names : Names) → ((k : Name) → IsTrue (contains names k) → IsTrue (is_listed n k)) → IsWellFormedShape n
+pub shape_well : {I : Type 0} (n : NodeOver I) (names : Names) → ((k : Name) → IsTrue (contains names k) → IsTrue (is_listed n k)) → IsWellFormedShape n
     (exact_shape names)
 shape_well n names lists =
     let o = exact_of (shaped n (exact_shape names ∷ []) []) names refl refl lists in
@@ -125,7 +125,7 @@ unfolding name_cmp
 tail_head = refl
 
 module _ {I : Type 0} (first rest : I) where
-  abbrev item_children : List (Name × I)
+  abbrev pub item_children : List (Name × I)
   item_children = (head, first) ∷ (tail, rest) ∷ []
 
   lists_item : (k : Name) → IsTrue (contains item_names k) → IsTrue (is_some (find name_cmp k item_children))
@@ -146,26 +146,26 @@ module _ {I : Type 0} (first rest : I) where
 lists_none : {I : Type 0} (n : NodeOver I) (k : Name) → IsTrue (contains no_names k) → IsTrue (is_listed n k)
 lists_none n k h = absurd (true≢false (sym h ∙ contains-from_list name_total [] k))
 
-item_well : {I : Type 0} (n : NodeOver I) (first rest : I) → n.children ≡ item_children first rest → IsWellFormedShape n item_shape
+pub item_well : {I : Type 0} (n : NodeOver I) (first rest : I) → n.children ≡ item_children first rest → IsWellFormedShape n item_shape
 item_well n first rest e = shape_well n item_names (λ k h. subst (λ cs. IsTrue (is_some (find name_cmp k cs))) (sym e) (lists_item first rest k h))
 
 empty_well : {I : Type 0} (n : NodeOver I) → IsWellFormedShape n empty_shape
 empty_well n = shape_well n no_names (lists_none n)
 
-both_well : {I : Type 0} (n : NodeOver I) (first rest : I) → n.children ≡ item_children first rest → (b : Bool) → All (IsWellFormedShape n) (list_shapes b)
+pub both_well : {I : Type 0} (n : NodeOver I) (first rest : I) → n.children ≡ item_children first rest → (b : Bool) → All (IsWellFormedShape n) (list_shapes b)
 both_well n first rest e true = All-cons (IsWellFormedShape n) empty_shape (item_shape ∷ []) (empty_well n)
     (all_one (IsWellFormedShape n) item_shape (item_well n first rest e))
 both_well n first rest e false = All-cons (IsWellFormedShape n) item_shape (empty_shape ∷ []) (item_well n first rest e)
     (all_one (IsWellFormedShape n) empty_shape (empty_well n))
 
-rises : T (is_sorted name_cmp (item_children (tt {0}) (tt {0})))
+pub rises : {I : Type 0} (first rest : I) → T (is_sorted name_cmp (item_children first rest))
 unfolding name_cmp
-rises = tt
+rises first rest = tt
 
 label_sound : (shapes : List Shape) → 0 < length shapes → All (IsWellFormedShape (list_label shapes)) shapes → IsSoundNode (list_label shapes)
-label_sound shapes some well = record { ascending = rises; some = some; well = well; own = plain_requires (list_label shapes) refl }
+label_sound shapes some well = record { ascending = rises (tt {0}) (tt {0}); some = some; well = well; own = plain_requires (list_label shapes) refl }
 
-some_shapes : (b : Bool) → 0 < length (list_shapes b)
+pub some_shapes : (b : Bool) → 0 < length (list_shapes b)
 some_shapes true = omega arith
 some_shapes false = omega arith
 

@@ -58,7 +58,7 @@ module _ {I J : Type 0} (f : Step → I → J) (l : NodeOver I) where
 -- ---- what is found under a step of forms that are the same
 
 module _ (u v : Form) (l m : Label) (is : u [] ≡ Some l) (there : v [] ≡ Some m) (same : IsSame u v) where
-  here_match : Match (λ i j. Unit {0}) (tidied l) (tidied m)
+  pub here_match : Match (λ i j. Unit {0}) (tidied l) (tidied m)
   here_match = go (same.on_each []) (ap (option_map tidied) is) (ap (option_map tidied) there)
     where
       go : {x y : Option Label} → MatchThere x y → x ≡ Some (tidied l) → y ≡ Some (tidied m) → Match (λ i j. Unit {0}) (tidied l) (tidied m)
@@ -69,7 +69,7 @@ module _ (u v : Form) (l m : Label) (is : u [] ≡ Some l) (there : v [] ≡ Som
   has : (w : Form) (k : Label) (s : Step) → w [] ≡ Some k → is_some (next_of (tidied k) s) ≡ true → has_step (option_map tidied (w [])) s ≡ true
   has w k s e h = ap (λ x. has_step (option_map tidied x) s) e ∙ h
 
-  step_same : (s : Step) → is_some (next_of (tidied l) s) ≡ true → is_some (next_of (tidied m) s) ≡ true → IsSame (under s u) (under s v)
+  pub step_same : (s : Step) → is_some (next_of (tidied l) s) ≡ true → is_some (next_of (tidied m) s) ≡ true → IsSame (under s u) (under s v)
   step_same s h g = record {
     on_each = λ w.
         subst (λ b. MatchThere (cond b (tidy (under s u) w) None) (tidy (under s v) w)) (has u l s is h)

@@ -1,4 +1,5 @@
--- What the two lenses of a fork and of a conditional are checked at, and the view of a fork.
+-- What the two lenses of a fork and of a conditional are checked at, and the view of a fork and of a conditional that its view
+-- tells apart.
 use Rattle.std.specs.Prelude.{◌≡◌}
 use Rattle.std.specs.FinSet.{contains}
 use Rattle.hm_tree.specs.Names.{Name}
@@ -6,8 +7,9 @@ use Rattle.hm_schema.specs.declared.node.Shape.{Shape}
 use Rattle.hm_schema.specs.Values.{Names, NodeOver}
 use Rattle.hm_node_laws.specs.Branching.{node_with, node_without}
 use Rattle.hm_node_laws.specs.Joining.{IsJoined}
+use Rattle.hm_node_laws.specs.Merging.{IsMerged}
 use Rattle.hm_typing.specs.Forms.{Form, formed}
-use Rattle.hm_typing.specs.Typing.{IsForked, inside_form, outside_form, IsBranched, AreJoinable}
+use Rattle.hm_typing.specs.Typing.{IsForked, inside_form, outside_form, IsBranched, AreJoinable, AreMergeable}
 
 pub record ForkSource (P : Names) (u p q : Form) : Type 0 where
   pub node : NodeOver Form
@@ -29,4 +31,13 @@ pub record ForkView (Q : Names) (x y v : Form) : Type 0 where
   pub joinable : AreJoinable Q x y one two
   pub node : NodeOver Form
   pub joined : IsJoined (contains Q) one two node
+  pub is : v ≡ formed node
+
+-- the view of a conditional that is told apart by a name, of the views of its two lenses
+pub record MergeView (o : Name) (x y v : Form) : Type 0 where
+  pub one : NodeOver Form
+  pub two : NodeOver Form
+  pub mergeable : AreMergeable o x y one two
+  pub node : NodeOver Form
+  pub merged : IsMerged o one two node
   pub is : v ≡ formed node
