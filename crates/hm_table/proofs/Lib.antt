@@ -1,4 +1,13 @@
 mod Places
+mod Left
+mod Outlines
+mod TidiedSteps
+mod Matching
+mod Classed
+mod ClassEdges
+mod NodeGraphs
+mod Added
+mod SameNodes
 pub mod Keys
 pub mod Grown
 mod Sets

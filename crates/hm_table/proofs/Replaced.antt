@@ -63,7 +63,7 @@ module _ (nodes : Nodes) (n : NodeValue) (js : List NodeId) (o : Option (Class Ã
       other None None r = tt
       other None (Some q) r = absurd r
       other (Some p) None r = absurd r
-      other (Some p) (Some q) r = r
+      other (Some p) (Some q) r = r.1
 
 -- ---- a vertex of the kind of another one
 

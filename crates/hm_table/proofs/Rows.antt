@@ -76,14 +76,13 @@ module _ (kinds : List Kind) (vs : List Vertex) (nodes : Nodes) (h : IsTable kin
   pub rows_one : rows (kinds ++ k ∷ []) (vs ++ v ∷ []) ≡ nodes ++ seat k v ∷ []
   rows_one = rows_grown kinds vs nodes h are (k ∷ []) (v ∷ []) (seat k v ∷ []) row_at
 
-  pub table_one : length v.next.items ≡ length k.names.items → IsWellFormedNode (length nodes) (seat k v) → IsTable (kinds ++ k ∷ []) (vs ++ v ∷ [])
+  pub table_one : length v.next.items ≡ length k.names.items → IsWellFormedNode (length nodes + 1) (seat k v) → IsTable (kinds ++ k ∷ []) (vs ++ v ∷ [])
   table_one count well = table_grown kinds vs nodes h are (k ∷ []) (v ∷ []) (seat k v ∷ []) row_at
       (All-cons (IsSeated (kinds ++ k ∷ [])) v [] (record {
         kind = omega (arith, at, length-append kinds (k ∷ []));
         count = subst (λ x. IfSome x (λ k. length v.next.items ≡ length k.names.items)) (sym kind_at) count;
       }) (All-nil (IsSeated (kinds ++ k ∷ []))))
-      (All-cons (IsWellFormedNode (length nodes + 1)) (seat k v) [] (well_more (length nodes) (length nodes + 1) (seat k v) (omega arith) well)
-      (All-nil (IsWellFormedNode (length nodes + 1))))
+      (All-cons (IsWellFormedNode (length nodes + 1)) (seat k v) [] well (All-nil (IsWellFormedNode (length nodes + 1))))
 
 -- ---- one node of a kind that is there
 

@@ -174,3 +174,24 @@ pub values_more : (nodes : List Node) (i : ℕ) (n : Node) → i < length nodes 
     → map node_value (take (i + 1) nodes) ≡ map node_value (take i nodes) ++ node_value n ∷ []
 values_more nodes i n lt is = ap (map node_value) (take_more nodes i n lt ∙ ap (λ n. take i nodes ++ n ∷ []) (sym is))
     ∙ map-append node_value (take i nodes) (n ∷ [])
+
+-- ---- nodes that stay in their places
+
+none_children : (cs : List (Name × NodeId)) → map {B = Name × NodeId} (λ c. (c.0, shift 0 c.1)) cs ≡ cs
+none_children [] = refl
+none_children (c ∷ cs) =
+    let place : 0 + c.1.place ≡ c.1.place = omega arith in
+    let rest = none_children cs in
+    λ t. (c.0, record { place = place t }) ∷ rest t
+
+none_other : (o : Option (Class × NodeId)) → option_map {U = Class × NodeId} (λ o. (o.0, shift 0 o.1)) o ≡ o
+none_other None = refl
+none_other (Some o) = let place : 0 + o.1.place ≡ o.1.place = omega arith in λ t. Some (o.0, record { place = place t })
+
+pub shifted_zero : (nodes : Nodes) → map (shifted 0) nodes ≡ nodes
+shifted_zero [] = refl
+shifted_zero (n ∷ nodes) =
+    let cs = none_children n.children in
+    let o = none_other n.other in
+    let rest = shifted_zero nodes in
+    λ t. record { shapes = n.shapes; children = cs t; other = o t; twins = n.twins } ∷ rest t

@@ -1,3 +1,4 @@
 pub mod Tables
 pub mod Conditions
 pub mod Overlays
+pub mod Classes

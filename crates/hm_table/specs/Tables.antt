@@ -78,10 +78,10 @@ keys es = map (λ e. e.0) es
 abbrev pub replaced : NodeValue → List NodeId → Option (Class × NodeId) → NodeValue
 replaced n next other = record { shapes = n.shapes; children = zip (keys n.children) next; other = other; twins = n.twins }
 
--- both are missing, or both are there and the second is in range
+-- both are missing, or both are there, have one class, and the second is in range
 abbrev pub Replaces : Nodes → Option (Class × NodeId) → Option (Class × NodeId) → Type 0
 Replaces nodes None None = Unit {0}
-Replaces nodes (Some o) (Some p) = p.1.place < length nodes
+Replaces nodes (Some o) (Some p) = (p.0 ≡ o.0) × (p.1.place < length nodes)
 Replaces nodes None (Some p) = ⊥
 Replaces nodes (Some o) None = ⊥
 

@@ -6,7 +6,6 @@ ghost use Rattle.hm_schema.specs.Values.{NodeValue, is_listed};
 ghost use Rattle.hm_schema.specs.Tidied.{stands, lets_some_in as lets_in_some};
 
 use crate::overlays::beside;
-use crate::shapes::{some_has, some_lets_in};
 use crate::table::Table;
 use hm_schema::NodeId;
 use hm_tree::{Class, Name};
@@ -33,10 +32,9 @@ pub fn listed(table: &Table, id: NodeId, place: usize) -> (NodeId, bool)
     requires place { (n : NodeValue) → slice_get table.now id.place ≡ Some n → place < length n.children }
     ensures { (n : NodeValue) → slice_get table.now id.place ≡ Some n → (k : NameValue) × ((slice_get n.children place ≡ Some (k, result.0)) × (result.1 ≡ stands n k)) }
 {
-    let (kind, vertex) = table.at(id);
     (
-        vertex.next[place],
-        some_has(&kind.shapes, &kind.names[place]),
+        table.at(id).1.next[place],
+        table.outline(id).standing[place],
     )
 }
 
@@ -70,5 +68,5 @@ pub fn lets_some_in(table: &Table, id: NodeId) -> bool
     requires { id.place < length table.now }
     ensures { (n : NodeValue) → slice_get table.now id.place ≡ Some n → result ≡ lets_in_some n }
 {
-    some_lets_in(&table.at(id).0.shapes)
+    table.outline(id).lets_in
 }

@@ -4,10 +4,9 @@ ghost use Rattle.std.specs.Option.{option_map};
 ghost use Rattle.hm_table.specs.Tables.{keys, shift};
 
 use crate::kind::Kind;
-use crate::shapes::copy;
 use crate::twins::push_twins;
 use crate::vertex::Vertex;
-use hm_schema::{Node, NodeId, Shape};
+use hm_schema::{Node, NodeId, copy_shapes};
 use hm_tree::{Class, Memory, Name};
 use std::alloc::Global;
 
@@ -17,7 +16,7 @@ pub fn kind_of(alloc: Global, node: &Node) -> Result<Kind, Memory>
     ensures names { IfOk result (λ k. k.names.items ≡ keys node.now.children.items) }
     ensures twins { IfOk result (λ k. k.twins.items ≡ node.now.twins.items) }
 {
-    let shapes = shape_copies(alloc, &node.shapes)?;
+    let shapes = copy_shapes(alloc, &node.shapes)?;
     let names = names_of(alloc, &node.children)?;
     let mut twins = Vec::new(alloc);
     push_twins(&mut twins, &node.twins)?;
@@ -84,14 +83,4 @@ fn names_of(alloc: Global, children: &[(Name, NodeId)]) -> Result<Vec<Name>, Mem
         names.push(child.0.copy()?)?;
     }
     Ok(names)
-}
-
-fn shape_copies(alloc: Global, shapes: &[Shape]) -> Result<Vec<Shape>, Memory>
-    ensures { IfOk result (λ v. v.items ≡ shapes.now) }
-{
-    let mut copies = Vec::new(alloc);
-    for shape in shapes {
-        copies.push(copy(shape)?)?;
-    }
-    Ok(copies)
 }

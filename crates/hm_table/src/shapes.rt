@@ -1,5 +1,5 @@
 //! What is told of shapes.
-ghost use Rattle.std.specs.Prelude.{◌≡◌, ◌↔◌, ◌||◌, ◌&&◌, not, IsTrue, IfOk, All, [], ◌∷◌, Some};
+ghost use Rattle.std.specs.Prelude.{◌≡◌, ◌↔◌, ◌||◌, ◌&&◌, not, IsTrue, All, [], ◌∷◌, Some};
 ghost use Rattle.std.specs.List.{list_any, list_all};
 ghost use Rattle.std.specs.FinSet.{contains, from_list};
 ghost use Rattle.hm_tree.specs.Names.{Name as NameValue};
@@ -10,7 +10,7 @@ ghost use Rattle.hm_table.specs.Conditions.{HasAll};
 
 use crate::names::all_in;
 use hm_schema::Shape;
-use hm_tree::{Memory, Name, NameSet};
+use hm_tree::{Name, NameSet};
 
 /// Whether each shape requires a name alone, and has no others.
 pub fn all_alone(shapes: &[Shape], name: &Name) -> bool
@@ -62,13 +62,6 @@ pub fn has(shape: &Shape, name: &Name) -> bool
     shape.required.has(name) || shape.optional.has(name)
 }
 
-/// Whether a name is required or optional in some shape.
-pub fn some_has(shapes: &[Shape], name: &Name) -> bool
-    ensures { result ≡ list_any (λ a. has_name a name.now) shapes.now }
-{
-    shapes.iter().any(|shape| has(shape, name))
-}
-
 /// Whether some shape lets unlisted names in.
 pub fn some_lets_in(shapes: &[Shape]) -> bool
     ensures { result ≡ list_any lets_name_in shapes.now }
@@ -84,18 +77,6 @@ pub fn lets_in(shape: &Shape) -> bool
         Some(most) => most != 0,
         None => true,
     }
-}
-
-/// An equal shape.
-pub fn copy(shape: &Shape) -> Result<Shape, Memory>
-    ensures { IfOk result (λ a. a ≡ shape.now) }
-{
-    Ok(Shape {
-        required: shape.required.copy()?,
-        optional: shape.optional.copy()?,
-        least: shape.least,
-        most: shape.most,
-    })
 }
 
 /// Whether no shape lets an unlisted name in.

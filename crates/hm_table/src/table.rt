@@ -1,28 +1,34 @@
 //! Tables of nodes, which grow.
-ghost use Rattle.std.specs.Prelude.{◌≡◌, ◌<◌, ◌++◌, ◌∷◌, [], Some, length, slice_get, OnOk, OnErr, IfOk, All, map};
+ghost use Rattle.std.specs.Prelude.{◌≡◌, ◌+◌, ◌<◌, ◌++◌, ◌∷◌, [], Some, None, IsTrue, length, slice_get, IfOk, OnOk, OnErr, All, map};
+ghost use Rattle.std.specs.List.{list_any};
 ghost use Rattle.std.specs.List.Sorted.{IsStrictlySortedBy};
 ghost use Rattle.hm_tree.specs.Names.{name_cmp};
 ghost use Rattle.hm_schema.specs.Values.{NodeValue, node_value};
 ghost use Rattle.hm_schema.specs.WellFormed.{IsWellFormedNode};
+ghost use Rattle.hm_schema.specs.Tidied.{has_name, lets_some_in, stands};
 ghost use Rattle.hm_table.specs.Tables.{AreFormed, seat, seated, shifted, replaced, CanReplace};
+ghost use Rattle.hm_table.specs.Classes.{HaveClasses};
 
 use crate::kind::Kind;
-use crate::nodes::{kind_of, vertex_of};
-use crate::vertex::Vertex;
+use crate::outline::Outline;
+use crate::seats::Seats;
+use crate::sides::Sides;
+use crate::vertex::{Vertex, class_of};
 use hm_schema::{Node, NodeId};
 use hm_tree::{Class, Memory};
 use std::alloc::Global;
 use std::marker::Model;
 
-/// Nodes that refer to one another.
+/// Nodes that refer to one another, of which it is known which are the same.
 #[derive(Drop)]
 pub struct Table {
-    kinds: Vec<Kind>,
-    vertices: Vec<Vertex>,
+    seats: Seats,
+    sides: Sides,
 }
 
 impl Model for Table {
-    ghost use Rattle.hm_table.specs.Tables.{Nodes, rows, IsTable};
+    ghost use Rattle.hm_table.specs.Tables.{Nodes};
+    ghost use Rattle.hm_table.specs.Classes.{AreClassed};
     ghost use Rattle.hm_schema.specs.contracts.node.Shape as shape;
     ghost use Rattle.std.specs.Coded.{codes};
 
@@ -30,21 +36,32 @@ impl Model for Table {
 
     ghost coded = { Prim.hlevel (codes, shape.the_row.coded) };
 
-    ghost view = { λ t. rows t.kinds.items t.vertices.items };
+    ghost view = { λ t. t.seats };
 
-    ghost invariant = { λ t. IsTable t.kinds.items t.vertices.items };
+    ghost invariant = { λ t. AreClassed t.seats t.sides };
 }
 
 impl Table {
-    /// A table without nodes.
-    pub fn new(alloc: Global) -> Table
-        ensures value { result ≡ [] }
-        ensures formed { AreFormed result }
+    /// The table of the nodes of two schemas, those of the second behind those of the first.
+    pub fn of(alloc: Global, first: &[Node], second: &[Node]) -> Result<Table, Memory>
+        requires first { All (IsWellFormedNode (length first.now)) (map node_value first.now) }
+        requires second { All (IsWellFormedNode (length second.now)) (map node_value second.now) }
+        ensures nodes { IfOk result (λ t. t ≡ map node_value first.now ++ map (shifted (length first.now)) (map node_value second.now)) }
+        ensures formed { IfOk result AreFormed }
     {
-        Table {
-            kinds: Vec::new(alloc),
-            vertices: Vec::new(alloc),
-        }
+        let mut seats = Seats::new(alloc);
+        seats.add_nodes(alloc, first)?;
+        seats.add_nodes(alloc, second)?;
+        let sides = Sides::of(alloc, &seats)?;
+        Ok(Table { seats, sides })
+    }
+
+    /// How many nodes there are.
+    pub fn count(&self) -> usize
+        ensures count { result ≡ length self.now }
+        ensures formed { AreFormed self.now }
+    {
+        self.seats.count()
     }
 
     /// A node, as its kind and its vertex.
@@ -55,8 +72,23 @@ impl Table {
         ensures ascending { IsStrictlySortedBy name_cmp result.0.now.names.items }
         ensures formed { AreFormed self.now }
     {
-        let vertex = &self.vertices[id.place];
-        (&self.kinds[vertex.kind], vertex)
+        self.seats.at(id)
+    }
+
+    // What a node is like when it is tidied.
+    pub(crate) fn outline(&self, id: NodeId) -> &Outline
+        requires { id.place < length self.now }
+        ensures lets_in { (n : NodeValue) → slice_get self.now id.place ≡ Some n → result.now.lets_in ≡ lets_some_in n }
+        ensures standing { (n : NodeValue) → slice_get self.now id.place ≡ Some n → result.now.standing.items ≡ map (λ c. stands n c.0) n.children }
+    {
+        &self.sides.outlines[self.sides.seen[id.place]]
+    }
+
+    /// The class of each node: nodes have equal ones exactly where what they stand for is the same.
+    pub fn classes(&self) -> &[usize]
+        ensures { HaveClasses self.now result.now }
+    {
+        &self.sides.classes
     }
 
     /// Adds a node of a new kind.
@@ -73,15 +105,12 @@ impl Table {
         ensures err { OnErr result (self.new ≡ self.old) }
         ensures formed { AreFormed self.new }
     {
-        let place = self.vertices.len();
-        let vertex = Vertex {
-            kind: self.kinds.len(),
-            next,
-            other,
-        };
-        self.kinds.push(kind)?;
-        self.vertices.push(vertex)?;
-        Ok(NodeId { place })
+        let seen = self.sides.outlined(&kind, class_of(other))?;
+        let class = self.sides.found(seen, &next, other)?;
+        self.sides.room()?;
+        let id = self.seats.add(kind, next, other)?;
+        self.sides.put(seen, class);
+        Ok(id)
     }
 
     /// Adds a node of the kind of another one over other nodes.
@@ -97,30 +126,36 @@ impl Table {
         ensures err { OnErr result (self.new ≡ self.old) }
         ensures formed { AreFormed self.new }
     {
-        let place = self.vertices.len();
-        let kind = self.vertices[id.place].kind;
-        self.vertices.push(Vertex { kind, next, other })?;
-        Ok(NodeId { place })
+        let seen = self.sides.seen[id.place];
+        let class = self.sides.found(seen, &next, other)?;
+        self.sides.room()?;
+        let id = self.seats.add_like(id, next, other)?;
+        self.sides.put(seen, class);
+        Ok(id)
     }
 
-    /// Adds the nodes of a schema, whose references are to one another.
-    pub fn add_nodes(&mut self, alloc: Global, nodes: &[Node]) -> Result<(), Memory>
-        requires { All (IsWellFormedNode (length nodes.now)) (map node_value nodes.now) }
-        ensures nodes { OnOk result (self.new ≡ self.old ++ map (shifted (length self.old)) (map node_value nodes.now)) }
+    /// Adds a node of a kind with two names, which stand in its shapes: the first leads to a node, and the second to the
+    /// new node itself.
+    pub fn add_loop(&mut self, kind: Kind, first: NodeId) -> Result<NodeId, Memory>
+        requires first { first.place < length self.old }
+        requires names { length kind.names.items ≡ 2 }
+        requires stand { All (λ k. IsTrue (list_any (λ a. has_name a k) kind.shapes.items)) kind.names.items }
+        requires well { (j : NodeId) → j.place ≡ length self.old → IsWellFormedNode (length self.old + 1) (seated kind (first ∷ j ∷ []) None) }
+        ensures place { IfOk result (λ j. j.place ≡ length self.old) }
+        ensures node { IfOk result (λ j. self.new ≡ self.old ++ seated kind (first ∷ j ∷ []) None ∷ []) }
         ensures err { OnErr result (self.new ≡ self.old) }
         ensures formed { AreFormed self.new }
     {
-        let by = self.vertices.len();
-        let first = self.kinds.len();
-        let mut kinds = Vec::new(alloc);
-        let mut vertices = Vec::new(alloc);
-        for node in nodes {
-            let kind = first + kinds.len();
-            kinds.push(kind_of(alloc, node)?)?;
-            vertices.push(vertex_of(alloc, node, kind, by)?)?;
-        }
-        self.kinds.append(&mut kinds)?;
-        self.vertices.append(&mut vertices)?;
-        Ok(())
+        let alloc = *kind.names.allocator();
+        let itself = NodeId {
+            place: self.seats.count(),
+        };
+        let next = vec![in alloc; first, itself]?;
+        let seen = self.sides.outlined(&kind, None)?;
+        let class = self.sides.found_loop(seen, first)?;
+        self.sides.room()?;
+        let id = self.seats.add(kind, next, None)?;
+        self.sides.put(seen, class);
+        Ok(id)
     }
 }

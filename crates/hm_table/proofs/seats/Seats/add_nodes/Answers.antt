@@ -5,7 +5,7 @@ use Rattle.hm_schema.specs.WellFormed.{IsWellFormedNode}
 use Rattle.hm_table.specs.Tables.{Nodes, rows, IsTable, AreShifted}
 use Rattle.hm_table.proofs.Rows.{rows_kept, table_kept, rows_length}
 use Rattle.hm_table.proofs.Shifted.{shifted_more, rows_shifted, table_shifted, room, well_at, values_more}
-use Rattle.hm_table.proofs.table.Table.add_nodes.Goals as goal
+use Rattle.hm_table.proofs.seats.Seats.add_nodes.Goals as goal
 
 pub vertex_of-requires-clause-children : goal.vertex_of-requires-clause-children
 vertex_of-requires-clause-children c =
