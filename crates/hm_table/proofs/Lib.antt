@@ -14,6 +14,7 @@ mod Sets
 mod Beside
 mod Overlaid
 mod Rows
+mod ListedPlaces
 mod Replaced
 pub mod Forms
 mod OneName
@@ -21,4 +22,11 @@ mod TwoAdded
 mod PartedNodes
 mod CopiedNode
 mod JoinedNode
+mod HiddenNode
+mod ListRead
+mod ListAdded
+mod MergedShapes
+mod MergedNode
+mod TreeNode
+mod MemberNode
 pub mod Shifted

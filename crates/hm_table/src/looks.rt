@@ -1,14 +1,17 @@
 //! What is read off a node.
-ghost use Rattle.std.specs.Prelude.{◌≡◌, ◌↔◌, ◌<◌, IsTrue, Some, [], length, slice_get};
+ghost use Rattle.std.specs.Prelude.{◌≡◌, ◌↔◌, ◌<◌, IsTrue, IfOk, MatchOption, Some, false, [], length, map, slice_get};
 ghost use Rattle.std.specs.FinMap.{find};
 ghost use Rattle.hm_tree.specs.Names.{Name as NameValue, name_cmp};
+ghost use Rattle.hm_schema.specs.declared.node.NodeId.{NodeId as IdValue};
 ghost use Rattle.hm_schema.specs.Values.{NodeValue, is_listed};
 ghost use Rattle.hm_schema.specs.Tidied.{stands, lets_some_in as lets_in_some};
 
+use crate::names::place;
 use crate::overlays::beside;
 use crate::table::Table;
 use hm_schema::NodeId;
-use hm_tree::{Class, Name};
+use hm_tree::{Class, Memory, Name};
+use std::alloc::Global;
 
 /// Whether a node has no twins.
 pub fn is_plain(table: &Table, id: NodeId) -> bool
@@ -69,4 +72,23 @@ pub fn lets_some_in(table: &Table, id: NodeId) -> bool
     ensures { (n : NodeValue) → slice_get table.now id.place ≡ Some n → result ≡ lets_in_some n }
 {
     table.outline(id).lets_in
+}
+
+/// What the listed names lead to, in their order.
+pub fn targets(alloc: Global, table: &Table, id: NodeId) -> Result<Vec<NodeId>, Memory>
+    requires { id.place < length table.now }
+    ensures { IfOk result (λ v. (n : NodeValue) → slice_get table.now id.place ≡ Some n → v.items ≡ map (λ c. c.1) n.children) }
+{
+    let vertex = table.at(id).1;
+    let mut next = Vec::new(alloc);
+    next.extend_from_slice(&vertex.next)?;
+    Ok(next)
+}
+
+/// Where a name stands among the listed names, if it is listed.
+pub fn place_of(table: &Table, id: NodeId, name: &Name) -> Option<usize>
+    requires { id.place < length table.now }
+    ensures { (n : NodeValue) → slice_get table.now id.place ≡ Some n → MatchOption result (is_listed n name.now ≡ false) (λ p. (j : IdValue) × (slice_get n.children p ≡ Some (name.now, j))) }
+{
+    place(&table.at(id).0.names, name)
 }

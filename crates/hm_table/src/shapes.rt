@@ -48,8 +48,8 @@ fn is_only(names: &NameSet, name: &Name) -> bool
     names.len() == 1 && names[0].same(name)
 }
 
-// Whether a set has no names.
-fn is_bare(names: &NameSet) -> bool
+/// Whether a set has no names.
+pub fn is_bare(names: &NameSet) -> bool
     ensures { IsTrue result ↔ (names.now ≡ from_list []) }
 {
     names.names().is_empty()
