@@ -1,0 +1,4 @@
+pub mod Ends
+pub mod Marks
+pub mod Visiting
+pub mod Writing

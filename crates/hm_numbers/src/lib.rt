@@ -1,0 +1,5 @@
+//! The schemas that nodes of a table are written as.
+#![tactic(auto)]
+
+#[cfg(test)]
+mod tests;

@@ -1,0 +1,55 @@
+//! Small schemas, which are read, put into a table and written by numbers.
+ghost use Rattle.std.specs.Prelude.{◌≡◌, All, []};
+
+use hm_numbering::{is_plain, numbered};
+use hm_schema::Schema;
+use hm_schema_text::{SchemaFault, read_schema};
+use hm_table::Table;
+use hm_tree::Memory;
+use std::alloc::Global;
+use std::test::Fail;
+
+// A cell and its rest in turn are the same; a leaf is listed twice, a shape is repeated, a name stands in no shape, and a
+// node isn't reached.
+const TANGLED: &str =
+    "harmony schema 1\nroot First\nnode Lone\n  edge a Leaf\n  shape a\nnode First\n  edge *h Item\n  edge *t Rest\n  edge z Lone\n  shape\n  shape *h *t\n  shape\nnode Rest\n  edge *h Item\n  edge *t First\n  shape *h *t\n  shape\nnode Item\n  edge a Leaf\n  edge b Other\n  shape a b\nnode Leaf\n  shape\nnode Other\n  shape\n";
+
+fn schema_of(alloc: Global, text: &str) -> Result<Schema, Fail> {
+    match read_schema(alloc, text.as_bytes()) {
+        Ok(schema) => Ok(schema),
+        Err(SchemaFault::Memory) => Err(Memory.into()),
+        Err(SchemaFault::BadSchema { .. }) => Err("a schema isn't read".into()),
+    }
+}
+
+// What a schema without twins is written as.
+fn rewritten(alloc: Global, schema: &Schema) -> Result<Option<Schema>, Memory> {
+    if !is_plain(schema) {
+        return Ok(None);
+    }
+    let table = Table::of(alloc, schema.nodes(), &[])?;
+    Ok(Some(numbered(alloc, &table, schema.root())?))
+}
+
+#[test]
+fn a_schema_is_written_by_numbers(rt: HostRuntime) -> Result<(), Fail> {
+    let alloc = rt.alloc();
+    let schema = schema_of(alloc, TANGLED)?;
+    let Some(found) = rewritten(alloc, &schema)? else {
+        return Err("a schema has twins".into());
+    };
+    let nodes = found.nodes();
+    assert_eq!(rt; nodes.len(), 3);
+    assert_eq!(rt; found.root().place, 0);
+    let mut shapes = Vec::new(alloc);
+    let mut ends = Vec::new(alloc);
+    for node in nodes {
+        shapes.push(node.shapes.len())?;
+        for child in &node.children {
+            ends.push(child.1.place)?;
+        }
+    }
+    assert_eq!(rt; shapes, vec![in alloc; 2, 1, 1]?);
+    assert_eq!(rt; ends, vec![in alloc; 1, 0, 2, 2]?);
+    Ok(())
+}
