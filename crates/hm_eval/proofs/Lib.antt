@@ -1,7 +1,6 @@
 mod Paired
 mod Beside
 mod OnChildren
-mod Rows
 mod ShowSteps
 mod PutSteps
 mod PutItems

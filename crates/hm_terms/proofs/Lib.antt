@@ -2,6 +2,7 @@ pub mod Maps
 pub mod OneShown
 pub mod OnePut
 pub mod Rows
+pub mod Terms
 mod Refused
 pub mod Laws
 mod Examples

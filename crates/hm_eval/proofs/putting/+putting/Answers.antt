@@ -4,7 +4,7 @@ use Rattle.std.proofs.lemmas.Result.{IfOk-weaker}
 use Rattle.hm_terms.specs.Programs.{lens_of}
 use Rattle.hm_eval.proofs.Paired.{next_at, next_cut, all_taken}
 use Rattle.hm_eval.proofs.OnChildren.{on_children}
-use Rattle.hm_eval.proofs.Rows.{row_fork, row_concrete, row_view, row_items}
+use Rattle.hm_terms.proofs.Terms.{row_fork, row_concrete, row_view, row_items}
 use Rattle.hm_eval.proofs.ShowSteps.{row_falls, fewer, inner_falls}
 use Rattle.hm_eval.proofs.PutSteps.{same_put, row_puts, hoist_puts, had_both, merge_puts, inside_put, outside_put, apart_put, fork_puts, concrete_put, concrete_puts, view_put, view_puts, called_put, call_puts}
 use Rattle.hm_eval.proofs.PutItems.{items_list, none_put, old_list, item_put, one_put_more, items_puts}

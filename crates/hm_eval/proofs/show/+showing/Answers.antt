@@ -4,7 +4,7 @@ use Rattle.std.proofs.lemmas.Result.{IfOk-weaker}
 use Rattle.hm_terms.specs.Programs.{lens_of}
 use Rattle.hm_eval.proofs.Paired.{none_paired, more_paired, next_at, all_taken}
 use Rattle.hm_eval.proofs.OnChildren.{on_children, child_shown, shown_edges, children_show, shown_by_lens, shown_by_none}
-use Rattle.hm_eval.proofs.Rows.{row_sequence, row_fork, row_items}
+use Rattle.hm_terms.proofs.Terms.{row_sequence, row_fork, row_items}
 use Rattle.hm_eval.proofs.ShowSteps.{row_falls, fewer, inner_falls, same_shown, same_shows, row_shows, first_shown, second_shown, plunge_shows, merge_shows, inside_shown, outside_shown, apart_shown, fork_shows, branch_shown, branch_shows, called_shown, call_shows, items_list, item_shown, items_show}
 use Rattle.hm_terms.specs.Shown.{by_sequence}
 use Rattle.hm_eval.proofs.show.+showing.Goals.{show_children-in-Some-lens+in_ok-view-in-Some-lens, show_children-in-None-lens}

@@ -3,8 +3,8 @@ use Rattle.std.proofs.Common.{◌≡◌, Box, sym, ap, ◌∙◌}
 use Rattle.std.specs.declared.alloc.Global.{Global}
 use Rattle.hm_tree.specs.Names.{Name}
 use Rattle.hm_schema.specs.Values.{Names}
-use Rattle.hm_terms.specs.declared.term.Term.{Term, Seq, Fork, ByConcrete, ByView, List as ListOf}
-use Rattle.hm_terms.specs.Lenses.{sequence, fork, items, on_concrete, on_view}
+use Rattle.hm_terms.specs.declared.term.Term.{Term, Seq, Fork, ByConcrete, ByView, Map as MapOf, List as ListOf}
+use Rattle.hm_terms.specs.Lenses.{sequence, fork, each, items, on_concrete, on_view}
 use Rattle.hm_terms.specs.Programs.{lens_of}
 
 pub row_sequence : {t l k : Term} {p q : Box Term Global} → t ≡ Seq p q → l ≡ p.value → k ≡ q.value → sequence (lens_of l) (lens_of k) ≡ lens_of t
@@ -24,3 +24,6 @@ row_view {n = n} {m = m} e f g = (λ i. on_view n m (lens_of (f i)) (lens_of (g 
 
 pub row_items : {t l : Term} {p : Box Term Global} → t ≡ ListOf p → l ≡ p.value → items (lens_of l) ≡ lens_of t
 row_items e f = ap (λ t. items (lens_of t)) f ∙ sym (ap lens_of e)
+
+pub row_each : {t l : Term} {p : Box Term Global} → t ≡ MapOf p → l ≡ p.value → each (lens_of l) ≡ lens_of t
+row_each e f = ap (λ t. each (lens_of t)) f ∙ sym (ap lens_of e)
