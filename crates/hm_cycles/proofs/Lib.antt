@@ -2,7 +2,7 @@ mod Elements
 mod Marks
 mod Adding
 mod Searches
-mod Naming
+pub mod Naming
 mod LensCalls
 mod Rows
 mod Bodies

@@ -20,16 +20,16 @@ or_none (Some a) = refl
 
 -- ---- one name more
 
-module _ (name : Name) (place : ℕ) (old : List (Name × ℕ)) (sorted : T (is_sorted name_cmp old)) where
-  there : (es : List (Name × ℕ)) (i : ℕ) → IsPlaceOf name es i → (p : ℕ) × (find name_cmp name es ≡ Some p)
+module _ {V : Type 0} (name : Name) (place : V) (old : List (Name × V)) (sorted : T (is_sorted name_cmp old)) where
+  there : (es : List (Name × V)) (i : ℕ) → IsPlaceOf name es i → (p : V) × (find name_cmp name es ≡ Some p)
   there [] i at = absurd (omega (arith, at.in_range))
   there (e ∷ es) i at = (_, at.found e)
 
   -- the code looks for the name in es
-  pub known_name : (es : List (Name × ℕ)) → es ≡ old → (i : ℕ) → IsPlaceOf name es i → false ≡ is_none (find name_cmp name old)
+  pub known_name : (es : List (Name × V)) → es ≡ old → (i : ℕ) → IsPlaceOf name es i → false ≡ is_none (find name_cmp name old)
   known_name es seen i at = sym (ap is_none (ap (find name_cmp name) (sym seen) ∙ (there es i at).1))
 
-  pub put_known : (es : List (Name × ℕ)) → es ≡ old → (i : ℕ) → IsPlaceOf name es i → IsPutLast name place old old
+  pub put_known : (es : List (Name × V)) → es ≡ old → (i : ℕ) → IsPlaceOf name es i → IsPutLast name place old old
   put_known es seen i at = record { sorted = sorted; all = λ n. go n (eq_by_cmp name_cmp n name) refl }
     where
       go : (n : Name) (b : Bool) → eq_by_cmp name_cmp n name ≡ b → find name_cmp n old ≡ option_or (find name_cmp n old) (cond b (Some place) None)
@@ -39,7 +39,7 @@ module _ (name : Name) (place : ℕ) (old : List (Name × ℕ)) (sorted : T (is_
           let some : find name_cmp n old ≡ Some p.0 = ap (λ m. find name_cmp m old) (tie_one n name e) ∙ ap (find name_cmp name) (sym seen) ∙ p.1 in
           some ∙ sym (ap (λ x. option_or x (Some place)) some)
 
-  pub put_new : (es : List (Name × ℕ)) → es ≡ old → (gap : ℕ) (k : Name) (new : List (Name × ℕ)) → IsGapFor name es gap → k ≡ name
+  pub put_new : (es : List (Name × V)) → es ≡ old → (gap : ℕ) (k : Name) (new : List (Name × V)) → IsGapFor name es gap → k ≡ name
       → new ≡ insert old gap (k, place)
       → IsPutLast name place old new
   put_new es seen gap k new is_free same made = record {

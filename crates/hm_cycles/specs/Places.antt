@@ -19,7 +19,7 @@ pub record ArePlaces (names : List Name) (places : List (Name × ℕ)) : Type 0 
   pub sorted : T (is_sorted name_cmp places)
   pub all : (n : Name) → find name_cmp n places ≡ place_in names n
 
--- a name is put in with a place where it had none
-pub record IsPutLast (name : Name) (place : ℕ) (old new : List (Name × ℕ)) : Type 0 where
+-- a name is put in with a value where it had none
+pub record IsPutLast {V : Type 0} (name : Name) (place : V) (old new : List (Name × V)) : Type 0 where
   pub sorted : T (is_sorted name_cmp new)
   pub all : (n : Name) → find name_cmp n new ≡ option_or (find name_cmp n old) (cond (eq_by_cmp name_cmp n name) (Some place) None)

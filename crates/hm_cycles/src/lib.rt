@@ -15,3 +15,4 @@ mod tests;
 mod ways;
 
 pub use first::first_in_bad_cycle;
+pub use places::add_name;

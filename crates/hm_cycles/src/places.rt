@@ -19,8 +19,8 @@ pub fn places_of(alloc: Global, definitions: &[Definition]) -> Result<Vec<(Name,
     Ok(places)
 }
 
-/// Adds a name with its place to those before it, if it isn't there: whether it was added.
-pub fn add_name(places: &mut Vec<(Name, usize)>, name: &Name, place: usize) -> Result<bool, Memory>
+/// Adds a name with a value to those before it, if it isn't there: whether it was added.
+pub fn add_name<V: Drop>(places: &mut Vec<(Name, V)>, name: &Name, place: V) -> Result<bool, Memory>
     requires { T (is_sorted name_cmp places.old.items) }
     ensures put { OnOk result (IsPutLast name.now place places.old.items places.new.items) }
     ensures added { IfOk result (λ added. added ≡ is_none (find name_cmp name.now places.old.items)) }
