@@ -1,0 +1,39 @@
+-- Views that are remembered.
+use Rattle.std.proofs.Common.{◌≡◌, ◌<◌, ℕ, length, Some, inl, inr, sym, subst}
+use Rattle.hm_schema.specs.declared.node.NodeId.{NodeId}
+use Rattle.hm_terms.specs.Lenses.{Lens}
+use Rattle.hm_table.specs.Tables.{Nodes}
+use Rattle.hm_types.specs.declared.course.Course.{Course}
+use Rattle.hm_types.specs.declared.memo.Memo.{Memo}
+use Rattle.hm_types.specs.Numbers.{StandFrom, parts_of}
+use Rattle.hm_types.specs.Memos.{entry, Remembers}
+use Rattle.hm_types.specs.Courses.{lenses_in, IsView, IsReady, IsGrown}
+use Rattle.hm_types.proofs.Standing.{stand_once}
+use Rattle.hm_types.proofs.Growing.{inside, view_after}
+
+module _ (c : Course) (old : Nodes) (known : Memo) (l : Lens) (n : ℕ) (i : NodeId) where
+  pub recalled : (j : NodeId) → IsReady c old known (parts_of l) n i → entry known n i ≡ Some j → IsView c.declared.now old old l i j
+  recalled j r e = r.memo.each n i j e l r.stand
+
+  module _ (r : IsReady c old known (parts_of l) n i) (new : Nodes) (some more : Memo) (j : NodeId) (g : IsGrown c old new some)
+      (v : IsView c.declared.now old new l i j) (put : Remembers some more n i j) where
+    pub remembered : IsGrown c old new more
+    remembered = record {
+      formed = g.formed;
+      extends = g.extends;
+      memo = record {
+        in_range = λ m a b e. elim (put.each m a b e) [
+          | inl f ↦ g.memo.in_range m a b f
+          | inr f ↦ subst (λ (a : NodeId). a.place < length new) (sym f.1) (inside old new r.start.formed g.extends i r.start.in_range)
+        ];
+        each = λ m a b e k s. elim (put.each m a b e) [
+          | inl f ↦ g.memo.each m a b f k s
+          | inr f ↦
+              let same : k ≡ l = stand_once (lenses_in c) n k l (subst (λ m. StandFrom (lenses_in c) m (parts_of k)) f.0 s) r.stand in
+              subst (λ k. IsView c.declared.now new new k a b) (sym same)
+              (subst (λ (a : NodeId). IsView c.declared.now new new l a b) (sym f.1)
+              (subst (λ (b : NodeId). IsView c.declared.now new new l i b) (sym f.2)
+              (view_after old new r.start.formed g.extends c.declared.now r.start.declared new l i j r.start.in_range v)))
+        ];
+      };
+    }

@@ -1,0 +1,10 @@
+pub mod Numbers
+pub mod Parts
+pub mod Memos
+pub mod Courses
+pub mod Pairs
+pub mod Below
+pub mod Told
+pub mod Bodies
+pub mod DeclaredNodes
+pub mod Checks

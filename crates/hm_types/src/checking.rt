@@ -1,0 +1,91 @@
+//! The check of a program.
+ghost use Rattle.std.specs.Prelude.{IfOk, IfErr, OnOk};
+ghost use Rattle.hm_schema.specs.Membership.{HasNoTwins};
+ghost use Rattle.hm_terms.specs.Programs.{lens_of, program_value};
+ghost use Rattle.hm_terms.specs.WellFormedPrograms.{IsWellFormed};
+ghost use Rattle.hm_cycles.specs.BadCycles.{HasNoBadCycle};
+ghost use Rattle.hm_types.specs.Checks.{IsAccepted, IsFault, IsCycleTold, AreTwinsTold};
+
+use crate::body::{check_body, view_of};
+use crate::declaring::{behind, declared_of};
+use crate::fault::TypeFault;
+use crate::parts::{first_copy, parts};
+use crate::typed::Typed;
+use hm_cycles::first_in_bad_cycle;
+use hm_numbering::{is_plain, numbered};
+use hm_schema::Schema;
+use hm_table::Table;
+use hm_terms::{Program, Term};
+use hm_tree::Memory;
+use std::alloc::Global;
+
+/// Checks that a program is typed over a schema: that no definition is in a bad cycle, that each one goes from its declared source
+/// to what is the same as its declared view, and that the main lens goes from the schema to a view without twins.
+pub fn check(alloc: Global, program: Program, source: &Schema) -> Result<Typed, TypeFault>
+    requires program { IsWellFormed (program_value program) }
+    requires source { HasNoTwins source.now }
+    ensures typed { IfOk result (IsAccepted (program_value program) source.now) }
+    ensures fault { IfErr result (IsFault (program_value program) source.now) }
+{
+    check_cycles(alloc, &program)?;
+    let nodes = source.nodes();
+    let by = nodes.len();
+    let mut table = Table::of(alloc, nodes, &program.options.types)?;
+    let declared = declared_of(alloc, &program.definitions, by)?;
+    let mut number = 1;
+    for definition in &program.definitions {
+        let types = (behind(definition.source, by), behind(definition.view, by));
+        check_body(
+            alloc,
+            &mut table,
+            &declared,
+            number,
+            &definition.body,
+            types,
+        )?;
+        number += 1;
+    }
+    let shown = view_of(
+        alloc,
+        &mut table,
+        &declared,
+        number,
+        &program.main,
+        source.root(),
+    )?;
+    let view = numbered(alloc, &table, shown)?;
+    let _ = view.nodes();
+    if !is_plain(&view) {
+        return Err(twins_left(alloc, &program.main, number)?);
+    }
+    let source = source.copy(alloc)?;
+    Ok(Typed {
+        program,
+        source,
+        view,
+    })
+}
+
+// Checks that no definition is in a bad cycle.
+fn check_cycles(alloc: Global, program: &Program) -> Result<(), TypeFault>
+    ensures guarded { OnOk result (HasNoBadCycle (program_value program.now)) }
+    ensures fault { IfErr result (IsCycleTold (program_value program.now)) }
+{
+    match first_in_bad_cycle(alloc, program)? {
+        None => Ok(()),
+        Some(place) => Err(TypeFault::Unguarded {
+            name: program.definitions[place].name.copy()?,
+        }),
+    }
+}
+
+// The fault of a main lens of this number whose view has twins.
+fn twins_left(alloc: Global, main: &Term, number: usize) -> Result<TypeFault, Memory>
+    ensures { IfOk result (AreTwinsTold (lens_of main.now) number) }
+{
+    let parts = parts(alloc, main)?;
+    Ok(TypeFault::TwinLeft {
+        definition: number,
+        term: first_copy(&parts),
+    })
+}

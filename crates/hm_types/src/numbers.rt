@@ -1,0 +1,16 @@
+//! The numbers of lenses.
+ghost use Rattle.std.specs.Prelude.{◌≡◌, ◌+◌};
+ghost use Rattle.hm_terms.specs.Lenses.{Lens};
+ghost use Rattle.hm_typing.specs.Faults.{size_of};
+ghost use Rattle.hm_types.specs.Numbers.{parts_of, StandFrom};
+ghost use Rattle.hm_types.specs.Courses.{lenses_in, IsNumbered};
+
+use crate::course::Course;
+
+/// The number behind a lens and all lenses in it.
+pub fn behind(course: &Course, number: usize) -> usize
+    requires { IsNumbered course.now number }
+    ensures { (l : Lens) → StandFrom (lenses_in course.now) number (parts_of l) → result ≡ number + size_of l }
+{
+    number + course.parts[number - 1].size
+}
