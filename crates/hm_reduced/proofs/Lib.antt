@@ -7,4 +7,6 @@ mod Fresh
 mod Indexes
 mod Partitions
 mod Rounds
+mod CalmVertices
+mod TakenApart
 mod Numbers

@@ -6,6 +6,7 @@ use Rattle.std.proofs.lemmas.List.Elements.{All-head, All-tail}
 use Rattle.hm_graph.specs.Same.{Graph, IsClosed, next_at, AreAlike}
 use Rattle.hm_graph.proofs.Alike.{alike_label, alike_next}
 use Rattle.hm_reduced.specs.Reduced.{class_at}
+use Rattle.hm_reduced.specs.Apart.{Respects}
 use Rattle.hm_reduced.specs.Partitions.{HaveOneKey, IsFirst, IsRefined, IsStable}
 use Rattle.hm_reduced.proofs.Places.{closed_at}
 
@@ -39,8 +40,12 @@ pub record IsPartition (g : Graph) (cs : List ℕ) : Type 0 where
 pub partition_begins : (g : Graph) (cs : List ℕ) → length cs ≡ length g → ((i : ℕ) → class_at cs i ≡ 0) → IsPartition g cs
 partition_begins g cs size all = record { size = size; alike = λ i j one two a. all i ∙ sym (all j); low = λ i lt. omega (arith, all i) }
 
-module _ (g : Graph) (closed : IsClosed g) (old new : List ℕ) (h : IsPartition g old) (r : IsRefined g old new) where
-  key_of_alike : (i j : ℕ) → i < length g → j < length g → AreAlike g i j → HaveOneKey g old i j
+pub respects_partition : (g : Graph) (cs : List ℕ) → IsPartition g cs → Respects g cs
+respects_partition g cs h = record { size = h.size; alike = h.alike }
+
+module _ (g : Graph) (closed : IsClosed g) (old : List ℕ) (h : Respects g old) where
+  -- alike vertices have one key
+  pub key_of_alike : (i j : ℕ) → i < length g → j < length g → AreAlike g i j → HaveOneKey g old i j
   key_of_alike i j one two a = record {
     class = h.alike i j one two a;
     label = alike_label g i j a;
@@ -58,12 +63,16 @@ module _ (g : Graph) (closed : IsClosed g) (old new : List ℕ) (h : IsPartition
           let rest = go xs ys (All-tail In x xs p) (All-tail In y ys q) r.1 in
           λ t. one t ∷ rest t
 
-  pub partition_refined : IsPartition g new
-  partition_refined = record {
+  pub partition_of : (new : List ℕ) → IsRefined g old new → IsPartition g new
+  partition_of new r = record {
     size = r.size;
     alike = λ i j one two a. first_once g old i j (class_at new i) (class_at new j) (key_of_alike i j one two a) (r.first i one) (r.first j two);
     low = λ i lt. (r.first i lt).low;
   }
+
+module _ (g : Graph) (closed : IsClosed g) (old new : List ℕ) (h : IsPartition g old) (r : IsRefined g old new) where
+  pub partition_refined : IsPartition g new
+  partition_refined = partition_of g closed old (respects_partition g old h) new r
 
   -- numbers only rise
   pub refined_rises : (i : ℕ) → i < length g → class_at old i ≤ class_at new i

@@ -40,10 +40,10 @@ module _ (g : Graph) (cs : List ℕ) where
       let same = parts (class_at cs i) (class_at cs j) (classes_below g cs i) (classes_below g cs j) (sym h.numbers ∙ k.numbers) in
       record { class = same.0; label = h.label ∙ sym k.label; below = same.1 }
 
-  key_shared : (i j : ℕ) (q : Key) → IsKey g cs i q → HaveOneKey g cs i j → IsKey g cs j q
+  pub key_shared : (i j : ℕ) (q : Key) → IsKey g cs i q → HaveOneKey g cs i j → IsKey g cs j q
   key_shared i j q h e = record { label = sym e.label ∙ h.label; numbers = h.numbers ∙ (λ t. e.class t ∷ e.below t) }
 
-  keys_tie : (i : ℕ) (q p : Key) → IsKey g cs i q → IsKey g cs i p → key_cmp q p ≡ Equal
+  pub keys_tie : (i : ℕ) (q p : Key) → IsKey g cs i q → IsKey g cs i p → key_cmp q p ≡ Equal
   keys_tie i q p h k = key_ties q p (same_Some q.0 p.0 (sym h.label ∙ k.label)) (h.numbers ∙ sym k.numbers)
 
 module _ (g : Graph) (old new : List ℕ) (i : ℕ) (known after : BTreeMap Key ℕ) (h : IsRefining g old new i known) (q : Key) (k : IsKey g old i q)

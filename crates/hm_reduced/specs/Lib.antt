@@ -1,3 +1,5 @@
 pub mod Reduced
 pub mod Indexed
 pub mod Partitions
+pub mod Calm
+pub mod Apart

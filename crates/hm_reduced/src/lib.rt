@@ -6,6 +6,8 @@
 //! stay what they are.
 #![tactic(auto)]
 
+mod apart;
+mod calm;
 mod keys;
 mod partition;
 mod quotient;

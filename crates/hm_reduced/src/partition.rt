@@ -8,20 +8,22 @@ ghost use Rattle.hm_reduced.specs.Reduced.{class_at};
 ghost use Rattle.hm_reduced.specs.Indexed.{Key, key_cmp};
 ghost use Rattle.hm_reduced.specs.Partitions.{IsKey, IsRefined, IsStable};
 
+use crate::apart::apart;
 use hm_graph::Vertex;
 use hm_tree::Memory;
 use std::alloc::Global;
 use std::collections::BTreeMap;
 
-// For each vertex the first one that is alike.
+/// For each vertex the first one that is alike.
 //
-// A round takes the vertices of a class apart whose labels differ, or whose edges lead to different classes. Each round but
-// the last makes a class more, and costs as much as a sorting of the edges.
+// A round takes the vertices of a class apart whose labels differ, or whose edges lead to different classes, and costs as much
+// as a sorting of all edges. Numbers that come cheaper have taken them apart before, so there are few rounds.
 pub fn classes(alloc: Global, graph: &[Vertex]) -> Result<Vec<usize>, Memory>
     requires { IsClosed graph.now }
     ensures { IfOk result (λ cs. IsStable graph.now cs.items) }
 {
-    let mut now = zeros(alloc, graph.len())?;
+    let begin = apart(alloc, graph)?;
+    let mut now = refined(alloc, graph, &begin)?;
     loop {
         let next = refined(alloc, graph, &now)?;
         if equal(&next, &now) {
@@ -31,7 +33,7 @@ pub fn classes(alloc: Global, graph: &[Vertex]) -> Result<Vec<usize>, Memory>
     }
 }
 
-fn zeros(alloc: Global, count: usize) -> Result<Vec<usize>, Memory>
+pub fn zeros(alloc: Global, count: usize) -> Result<Vec<usize>, Memory>
     ensures { IfOk result (λ cs. (length cs.items ≡ count) × ((i : ℕ) → class_at cs.items i ≡ 0)) }
 {
     let mut all = Vec::with_capacity(alloc, count)?;
@@ -41,14 +43,14 @@ fn zeros(alloc: Global, count: usize) -> Result<Vec<usize>, Memory>
     Ok(all)
 }
 
-fn equal(one: &[usize], two: &[usize]) -> bool
+pub fn equal(one: &[usize], two: &[usize]) -> bool
     ensures { IsTrue result ↔ (one.now ≡ two.now) }
 {
     one == two
 }
 
 // For each vertex the first one with its key.
-fn refined(alloc: Global, graph: &[Vertex], now: &[usize]) -> Result<Vec<usize>, Memory>
+pub fn refined(alloc: Global, graph: &[Vertex], now: &[usize]) -> Result<Vec<usize>, Memory>
     requires closed { IsClosed graph.now }
     requires size { length now.now ≡ length graph.now }
     ensures { IfOk result (λ cs. IsRefined graph.now now.now cs.items) }
@@ -63,7 +65,7 @@ fn refined(alloc: Global, graph: &[Vertex], now: &[usize]) -> Result<Vec<usize>,
 }
 
 // The key of a vertex.
-fn key_of(
+pub fn key_of(
     alloc: Global,
     graph: &[Vertex],
     now: &[usize],
@@ -97,7 +99,7 @@ pub fn push_classes(
 }
 
 // What a map has at a key, where it then has a value, if it had none.
-fn first(
+pub fn first(
     known: &mut BTreeMap<(u64, Vec<usize>), usize>,
     key: (u64, Vec<usize>),
     value: usize,

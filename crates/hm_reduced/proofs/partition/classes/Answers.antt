@@ -1,19 +1,24 @@
 use Rattle.std.proofs.Common.{◌≡◌, ◌≢◌, ◌<◌, length, sym, subst, ◌∙◌, arith}
 use mathlib.Core.Bool.{true≢false}
 use Rattle.hm_reduced.specs.Partitions.{IsRefined}
-use Rattle.hm_reduced.proofs.Partitions.{partition_begins, partition_refined, partition_ends, refined_rises, slack_falls}
+use Rattle.hm_reduced.proofs.Partitions.{partition_of, partition_refined, partition_ends, refined_rises, slack_falls}
 use Rattle.hm_reduced.proofs.partition.classes.Goals as goal
 
 pub loop-now-init : goal.loop-now-init
-loop-now-init c = partition_begins c.args.graph.now c.in_ok-now.now.items c.in_ok-now.ensures.0 c.in_ok-now.ensures.1
+loop-now-init c =
+    let g = c.args.graph.now in
+    let begin = c.in_ok-begin.begin.items in
+    let new = c.in_ok-now.now.items in
+    let r : IsRefined g begin new = subst (λ l. IsRefined g l new) c.deref.ensures.value c.in_ok-now.ensures in
+    partition_of g c.requires begin c.in_ok-begin.ensures new r
 
 pub returns-then-equal : goal.returns-then-equal
 returns-then-equal c =
     let g = c.args.graph.now in
     let old = c.loop-now.now.items in
     let new = c.in_ok-next.next.items in
-    let r : IsRefined g old new = subst (λ l. IsRefined g l new) c.deref.ensures.value c.in_ok-next.ensures in
-    let same : new ≡ old = sym c.deref-in-loop-now.ensures.value ∙ c.equal.ensures.0 c.if-equal.true ∙ c.deref-in-loop-now-2.ensures.value in
+    let r : IsRefined g old new = subst (λ l. IsRefined g l new) c.deref-in-loop-now.ensures.value c.in_ok-next.ensures in
+    let same : new ≡ old = sym c.deref-in-loop-now-2.ensures.value ∙ c.equal.ensures.0 c.if-equal.true ∙ c.deref-in-loop-now-3.ensures.value in
     partition_ends g c.requires old new c.loop-now.invariant r same
 
 pub loop-now-preserved : goal.loop-now-preserved
@@ -21,7 +26,7 @@ loop-now-preserved c =
     let g = c.args.graph.now in
     let old = c.loop-now.now.items in
     let new = c.in_ok-next.next.items in
-    let r : IsRefined g old new = subst (λ l. IsRefined g l new) c.deref.ensures.value c.in_ok-next.ensures in
+    let r : IsRefined g old new = subst (λ l. IsRefined g l new) c.deref-in-loop-now.ensures.value c.in_ok-next.ensures in
     partition_refined g c.requires old new c.loop-now.invariant r
 
 pub loop-now-smaller : goal.loop-now-smaller
@@ -29,8 +34,8 @@ loop-now-smaller c =
     let g = c.args.graph.now in
     let old = c.loop-now.now.items in
     let new = c.in_ok-next.next.items in
-    let r : IsRefined g old new = subst (λ l. IsRefined g l new) c.deref.ensures.value c.in_ok-next.ensures in
-    let off : new ≢ old = λ e. true≢false (sym (c.equal.ensures.1 (c.deref-in-loop-now.ensures.value ∙ e ∙ sym c.deref-in-loop-now-2.ensures.value)) ∙ c.if-equal.false) in
+    let r : IsRefined g old new = subst (λ l. IsRefined g l new) c.deref-in-loop-now.ensures.value c.in_ok-next.ensures in
+    let off : new ≢ old = λ e. true≢false (sym (c.equal.ensures.1 (c.deref-in-loop-now-2.ensures.value ∙ e ∙ sym c.deref-in-loop-now-3.ensures.value)) ∙ c.if-equal.false) in
     let size : length old ≡ length new = c.loop-now.invariant.size ∙ sym r.size in
     slack_falls (length g) old new size
     (λ i lt.
