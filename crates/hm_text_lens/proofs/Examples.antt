@@ -1,11 +1,14 @@
--- The laws, tried on small meanings: two that meet them and two that don't.
+-- The laws, tried on small meanings: two that meet them and two that don't; a chain, and a list of text lenses.
 use Rattle.std.proofs.Common.{◌≡◌, List, ℕ, [], ◌∷◌, Option, Some, None, refl}
 use Rattle.std.specs.Prelude.{codes}
 use Rattle.hm_tree.specs.declared.class.Class.{Class}
 use Rattle.hm_tree.specs.declared.class.Class.TheVariants.{Any, Clean}
-use Rattle.hm_tree.specs.Names.{Name}
+use Rattle.hm_tree.specs.Names.{Name, name_cmp}
 use Rattle.hm_tree.specs.Classes.{IsClean}
+use Rattle.hm_text_lens.specs.Chains.{chain_of}
+use Rattle.hm_text_lens.specs.ChainLaws.{chain_lawful}
 use Rattle.hm_text_lens.specs.Meanings.{TextMeaning, IsLawful}
+use Rattle.hm_text_lens.specs.Naming.{first_named}
 
 -- ---- a lens that shows a text as it is
 
@@ -102,3 +105,31 @@ forgetful_lawless law =
     let none : List ℕ = [] in
     let lost : none ≡ 97 ∷ [] = law.get_put (97 ∷ []) tt in
     let f : ⊥ = cc in f
+
+-- ---- a chain of two lenses that each hide the first byte hides the first two
+
+twice : TextMeaning
+twice = chain_of (codes "twice") hiding hiding
+
+twice_lawful : IsLawful twice
+unfolding twice hiding
+twice_lawful = chain_lawful (codes "twice") hiding hiding hiding_lawful hiding_lawful refl
+
+twice_shows : twice.get_of (1 ∷ 2 ∷ 3 ∷ []) ≡ 3 ∷ []
+unfolding twice hiding rest
+twice_shows = refl
+
+-- each of them keeps its own byte
+twice_puts : twice.put_of (4 ∷ []) (Some (1 ∷ 2 ∷ 3 ∷ [])) ≡ 1 ∷ 2 ∷ 4 ∷ []
+unfolding twice hiding rest behind_first
+twice_puts = refl
+
+-- ---- of two text lenses of one name the first counts
+
+first_counts : first_named (codes "same") (hiding ∷ same Clean Clean ∷ same Any Any ∷ []) ≡ Some (same Clean Clean)
+unfolding same hiding name_cmp
+first_counts = refl
+
+none_found : first_named (codes "trim") (hiding ∷ same Clean Clean ∷ []) ≡ None
+unfolding same hiding name_cmp
+none_found = refl

@@ -1,1 +1,4 @@
+pub mod Chains
+pub mod ChainLaws
 pub mod Meanings
+pub mod Naming
