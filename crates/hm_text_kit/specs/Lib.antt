@@ -1,0 +1,5 @@
+pub mod CleanLaws
+pub mod KindLaws
+pub mod Kinds
+pub mod TrimLaws
+pub mod Trimmed

@@ -1,0 +1,7 @@
+//! Kinds of text lenses. Each shows texts of one class, meets the laws of `hm_text_lens`, and can stand in a chain or in
+//! a box.
+#![tactic(auto)]
+
+mod trim_ends;
+
+pub use trim_ends::TrimEnds;
