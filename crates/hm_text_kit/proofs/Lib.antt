@@ -1,1 +1,2 @@
+pub mod DateExits
 pub mod Stripped

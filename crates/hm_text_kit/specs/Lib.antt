@@ -1,4 +1,6 @@
 pub mod CleanLaws
+pub mod DateLaws
+pub mod Dates
 pub mod KindLaws
 pub mod Kinds
 pub mod TrimLaws

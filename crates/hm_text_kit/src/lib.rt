@@ -2,6 +2,8 @@
 //! a box.
 #![tactic(auto)]
 
+mod swap_date;
 mod trim_ends;
 
+pub use swap_date::SwapDate;
 pub use trim_ends::TrimEnds;
