@@ -1,2 +1,4 @@
 pub mod DateExits
+pub mod FoldExits
+pub mod FoldTexts
 pub mod Stripped

@@ -1,7 +1,10 @@
 pub mod CleanLaws
 pub mod DateLaws
 pub mod Dates
+pub mod FoldLaws
+pub mod Folding
 pub mod KindLaws
 pub mod Kinds
+pub mod Tests
 pub mod TrimLaws
 pub mod Trimmed

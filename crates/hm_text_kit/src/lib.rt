@@ -2,8 +2,10 @@
 //! a box.
 #![tactic(auto)]
 
+mod fold_case;
 mod swap_date;
 mod trim_ends;
 
+pub use fold_case::FoldCase;
 pub use swap_date::SwapDate;
 pub use trim_ends::TrimEnds;

@@ -1,0 +1,17 @@
+-- The classes Trimmed and Folded as tests that compute.
+use Rattle.std.specs.Prelude.{ℕ, Bool, false, not, ◌&&◌, ◌==◌, ◌-◌, length, slice_get, Option, Some, None}
+use Rattle.std.specs.Str.{bytes_eq}
+use Rattle.hm_tree.specs.Names.{Name}
+use Rattle.hm_tree.specs.Cleaned.{cleaned}
+use Rattle.hm_tree.specs.Classes.{folding}
+
+-- there is a byte, and it is no space
+abbrev pub is_other : Option ℕ → Bool
+is_other None = false
+is_other (Some b) = not (b == 32)
+
+unfoldable pub is_trimmed : Name → Bool
+is_trimmed t = bytes_eq (cleaned t) t && (is_other (slice_get t 0) && is_other (slice_get t (length t - 1)))
+
+unfoldable pub is_folded : Name → Bool
+is_folded t = is_trimmed t && bytes_eq (folding t) t
