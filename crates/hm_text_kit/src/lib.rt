@@ -4,6 +4,8 @@
 
 mod fold_case;
 mod swap_date;
+#[cfg(test)]
+mod tests;
 mod trim_ends;
 
 pub use fold_case::FoldCase;
