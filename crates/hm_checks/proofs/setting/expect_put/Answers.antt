@@ -1,0 +1,11 @@
+use Rattle.std.proofs.Common.{Some}
+use Rattle.hm_terms.specs.Programs.{program_value, setting_of}
+use Rattle.hm_types.specs.Checks.{Trees}
+use Rattle.hm_eval.proofs.Fits.{fits_put}
+use Rattle.hm_checks.proofs.setting.expect_put.Goals as goal
+
+pub put-requires : goal.put-requires
+put-requires g c =
+    let t = c.args.typed.now in
+    let p = program_value t.program in
+    fits_put (setting_of p) p.main (Trees t.source) (Trees t.view) c.requires c.in_ok-view.view (Some c.in_ok-before.before) c.in_ok-view.ensures c.in_ok-before.ensures

@@ -1,0 +1,494 @@
+//! A program for each kind of lens, what it shows and what it puts.
+use crate::setting::{expect_made, expect_put, expect_shown, typed};
+use std::alloc::Global;
+use std::process::Abort;
+use std::test::Fail;
+
+// A tree and its view, then a changed view and what is put of it with that tree and with none.
+#[derive(Clone, Copy)]
+struct Case {
+    tree: &'static str,
+    view: &'static str,
+    changed: &'static str,
+    put: &'static str,
+    made: &'static str,
+}
+
+fn expect(
+    rt: &impl Abort,
+    alloc: Global,
+    nodes: &str,
+    lines: &str,
+    cases: &[Case],
+) -> Result<(), Fail> {
+    let typed = typed(alloc, nodes, lines)?;
+    for case in cases {
+        expect_shown(rt, alloc, &typed, case.tree, case.view)?;
+        expect_put(rt, alloc, &typed, case.view, case.tree, case.tree)?;
+        expect_put(rt, alloc, &typed, case.changed, case.tree, case.put)?;
+        expect_made(rt, alloc, &typed, case.changed, case.made)?;
+    }
+    Ok(())
+}
+
+fn expect_main(
+    rt: &impl Abort,
+    alloc: Global,
+    nodes: &str,
+    main: &str,
+    cases: &[Case],
+) -> Result<(), Fail> {
+    let lines = format!(in alloc; "format tree\nmain = {main}")?;
+    expect(rt, alloc, nodes, lines.as_str(), cases)
+}
+
+// Two names.
+const TWO: &str = "node R\n  edge a V\n  edge c V\n  shape a c\n";
+
+// A name, and one that may be missing.
+const SPARE: &str = "node R\n  edge a V\n  edge c V\n  shape a ? c\n";
+
+// One name alone.
+const LONE: &str = "node R\n  edge a V\n  shape a\n";
+
+#[test]
+fn the_same(rt: HostRuntime) -> Result<(), Fail> {
+    expect_main(
+        &rt,
+        rt.alloc(),
+        TWO,
+        "id",
+        &[Case {
+            tree: "{\"a\":{\"1\"},\"c\":{\"2\"}}",
+            view: "{\"a\":{\"1\"},\"c\":{\"2\"}}",
+            changed: "{\"a\":{\"1\"},\"c\":{\"3\"}}",
+            put: "{\"a\":{\"1\"},\"c\":{\"3\"}}",
+            made: "{\"a\":{\"1\"},\"c\":{\"3\"}}",
+        }],
+    )
+}
+
+#[test]
+fn one_lens_behind_another(rt: HostRuntime) -> Result<(), Fail> {
+    expect_main(
+        &rt,
+        rt.alloc(),
+        LONE,
+        "hoist(a);plunge(b)",
+        &[Case {
+            tree: "{\"a\":{\"1\"}}",
+            view: "{\"b\":{\"1\"}}",
+            changed: "{\"b\":{\"2\"}}",
+            put: "{\"a\":{\"2\"}}",
+            made: "{\"a\":{\"2\"}}",
+        }],
+    )
+}
+
+#[test]
+fn a_constant(rt: HostRuntime) -> Result<(), Fail> {
+    expect_main(
+        &rt,
+        rt.alloc(),
+        TWO,
+        "const({\"t\"},{\"a\":{\"8\"},\"c\":{\"9\"}})",
+        &[Case {
+            tree: "{\"a\":{\"1\"},\"c\":{\"2\"}}",
+            view: "{\"t\"}",
+            changed: "{\"t\"}",
+            put: "{\"a\":{\"1\"},\"c\":{\"2\"}}",
+            made: "{\"a\":{\"8\"},\"c\":{\"9\"}}",
+        }],
+    )
+}
+
+#[test]
+fn a_child_alone(rt: HostRuntime) -> Result<(), Fail> {
+    expect_main(
+        &rt,
+        rt.alloc(),
+        LONE,
+        "hoist(a)",
+        &[Case {
+            tree: "{\"a\":{\"1\"}}",
+            view: "{\"1\"}",
+            changed: "{\"2\"}",
+            put: "{\"a\":{\"2\"}}",
+            made: "{\"a\":{\"2\"}}",
+        }],
+    )
+}
+
+#[test]
+fn a_tree_under_a_name(rt: HostRuntime) -> Result<(), Fail> {
+    expect_main(
+        &rt,
+        rt.alloc(),
+        TWO,
+        "plunge(n)",
+        &[Case {
+            tree: "{\"a\":{\"1\"},\"c\":{\"2\"}}",
+            view: "{\"n\":{\"a\":{\"1\"},\"c\":{\"2\"}}}",
+            changed: "{\"n\":{\"a\":{\"3\"},\"c\":{\"2\"}}}",
+            put: "{\"a\":{\"3\"},\"c\":{\"2\"}}",
+            made: "{\"a\":{\"3\"},\"c\":{\"2\"}}",
+        }],
+    )
+}
+
+#[test]
+fn one_name_under_another(rt: HostRuntime) -> Result<(), Fail> {
+    expect_main(
+        &rt,
+        rt.alloc(),
+        TWO,
+        "rename(a,b)",
+        &[Case {
+            tree: "{\"a\":{\"1\"},\"c\":{\"2\"}}",
+            view: "{\"b\":{\"1\"},\"c\":{\"2\"}}",
+            changed: "{\"b\":{\"3\"},\"c\":{\"2\"}}",
+            put: "{\"a\":{\"3\"},\"c\":{\"2\"}}",
+            made: "{\"a\":{\"3\"},\"c\":{\"2\"}}",
+        }],
+    )
+}
+
+#[test]
+fn some_names_alone(rt: HostRuntime) -> Result<(), Fail> {
+    expect_main(
+        &rt,
+        rt.alloc(),
+        SPARE,
+        "filter({a},{})",
+        &[
+            Case {
+                tree: "{\"a\":{\"1\"},\"c\":{\"2\"}}",
+                view: "{\"a\":{\"1\"}}",
+                changed: "{\"a\":{\"3\"}}",
+                put: "{\"a\":{\"3\"},\"c\":{\"2\"}}",
+                made: "{\"a\":{\"3\"}}",
+            },
+            Case {
+                tree: "{\"a\":{\"1\"}}",
+                view: "{\"a\":{\"1\"}}",
+                changed: "{\"a\":{\"3\"}}",
+                put: "{\"a\":{\"3\"}}",
+                made: "{\"a\":{\"3\"}}",
+            },
+        ],
+    )
+}
+
+#[test]
+fn what_stands_under_one_name(rt: HostRuntime) -> Result<(), Fail> {
+    expect_main(
+        &rt,
+        rt.alloc(),
+        TWO,
+        "focus(a,{\"c\":{\"9\"}})",
+        &[Case {
+            tree: "{\"a\":{\"1\"},\"c\":{\"2\"}}",
+            view: "{\"1\"}",
+            changed: "{\"3\"}",
+            put: "{\"a\":{\"3\"},\"c\":{\"2\"}}",
+            made: "{\"a\":{\"3\"},\"c\":{\"9\"}}",
+        }],
+    )
+}
+
+#[test]
+fn a_name_more(rt: HostRuntime) -> Result<(), Fail> {
+    expect_main(
+        &rt,
+        rt.alloc(),
+        TWO,
+        "add(n,{\"z\"})",
+        &[Case {
+            tree: "{\"a\":{\"1\"},\"c\":{\"2\"}}",
+            view: "{\"a\":{\"1\"},\"c\":{\"2\"},\"n\":{\"z\"}}",
+            changed: "{\"a\":{\"3\"},\"c\":{\"2\"},\"n\":{\"z\"}}",
+            put: "{\"a\":{\"3\"},\"c\":{\"2\"}}",
+            made: "{\"a\":{\"3\"},\"c\":{\"2\"}}",
+        }],
+    )
+}
+
+// Of the two names the second may be missing.
+const PRUNED: &str = "node R\n  edge a Empty\n  edge b V\n  shape a ? b\n";
+
+#[test]
+fn a_name_less(rt: HostRuntime) -> Result<(), Fail> {
+    expect_main(
+        &rt,
+        rt.alloc(),
+        PRUNED,
+        "prune(b,{\"z\"})",
+        &[
+            Case {
+                tree: "{\"a\"}",
+                view: "{\"a\"}",
+                changed: "{\"a\"}",
+                put: "{\"a\"}",
+                made: "{\"a\",\"b\":{\"z\"}}",
+            },
+            Case {
+                tree: "{\"a\",\"b\":{\"1\"}}",
+                view: "{\"a\"}",
+                changed: "{\"a\"}",
+                put: "{\"a\",\"b\":{\"1\"}}",
+                made: "{\"a\",\"b\":{\"z\"}}",
+            },
+        ],
+    )
+}
+
+// Any names, with a card under each.
+const CARDS: &str =
+    "node R\n  other any Card\n  shape + 0..\nnode Card\n  edge a V\n  edge c V\n  shape a ? c\n";
+
+#[test]
+fn each_child(rt: HostRuntime) -> Result<(), Fail> {
+    expect_main(
+        &rt,
+        rt.alloc(),
+        CARDS,
+        "map(filter({a},{}))",
+        &[Case {
+            tree: "{\"x\":{\"a\":{\"1\"},\"c\":{\"5\"}},\"z\":{\"a\":{\"4\"}}}",
+            view: "{\"x\":{\"a\":{\"1\"}},\"z\":{\"a\":{\"4\"}}}",
+            changed: "{\"x\":{\"a\":{\"2\"}},\"y\":{\"a\":{\"3\"}}}",
+            put: "{\"x\":{\"a\":{\"2\"},\"c\":{\"5\"}},\"y\":{\"a\":{\"3\"}}}",
+            made: "{\"x\":{\"a\":{\"2\"}},\"y\":{\"a\":{\"3\"}}}",
+        }],
+    )
+}
+
+// Both names may be missing.
+const NAMED: &str =
+    "node R\n  edge a In\n  edge c V\n  shape ? a c\nnode In\n  edge v V\n  shape v\n";
+
+#[test]
+fn named_children(rt: HostRuntime) -> Result<(), Fail> {
+    expect_main(
+        &rt,
+        rt.alloc(),
+        NAMED,
+        "wmap(a=hoist(v))",
+        &[
+            Case {
+                tree: "{\"a\":{\"v\":{\"1\"}},\"c\":{\"2\"}}",
+                view: "{\"a\":{\"1\"},\"c\":{\"2\"}}",
+                changed: "{\"a\":{\"3\"}}",
+                put: "{\"a\":{\"v\":{\"3\"}}}",
+                made: "{\"a\":{\"v\":{\"3\"}}}",
+            },
+            Case {
+                tree: "{\"c\":{\"2\"}}",
+                view: "{\"c\":{\"2\"}}",
+                changed: "{\"a\":{\"3\"},\"c\":{\"4\"}}",
+                put: "{\"a\":{\"v\":{\"3\"}},\"c\":{\"4\"}}",
+                made: "{\"a\":{\"v\":{\"3\"}},\"c\":{\"4\"}}",
+            },
+        ],
+    )
+}
+
+// A list.
+const LIST: &str =
+    "node R\n  edge *h Item\n  edge *t R\n  shape\n  shape *h *t\nnode Item\n  edge a V\n  shape a\n";
+
+// A list with an item at least.
+const SOME: &str =
+    "node R\n  edge *h Item\n  edge *t More\n  shape *h *t\nnode More\n  edge *h Item\n  edge *t More\n  shape\n  shape *h *t\nnode Item\n  edge a V\n  edge c V\n  shape a ? c\n";
+
+#[test]
+fn items_are_matched_by_place(rt: HostRuntime) -> Result<(), Fail> {
+    expect_main(
+        &rt,
+        rt.alloc(),
+        LIST,
+        "list(rename(a,b))",
+        &[Case {
+            tree: "{\"*h\":{\"a\":{\"1\"}},\"*t\":{\"*h\":{\"a\":{\"2\"}},\"*t\"}}",
+            view: "{\"*h\":{\"b\":{\"1\"}},\"*t\":{\"*h\":{\"b\":{\"2\"}},\"*t\"}}",
+            changed: "{\"*h\":{\"b\":{\"2\"}},\"*t\"}",
+            put: "{\"*h\":{\"a\":{\"2\"}},\"*t\"}",
+            made: "{\"*h\":{\"a\":{\"2\"}},\"*t\"}",
+        }],
+    )
+}
+
+#[test]
+fn items_behind_the_last_one_are_made(rt: HostRuntime) -> Result<(), Fail> {
+    expect_main(
+        &rt,
+        rt.alloc(),
+        SOME,
+        "list(filter({a},{}))",
+        &[Case {
+            tree: "{\"*h\":{\"a\":{\"1\"},\"c\":{\"5\"}},\"*t\"}",
+            view: "{\"*h\":{\"a\":{\"1\"}},\"*t\"}",
+            changed: "{\"*h\":{\"a\":{\"2\"}},\"*t\":{\"*h\":{\"a\":{\"1\"}},\"*t\"}}",
+            put: "{\"*h\":{\"a\":{\"2\"},\"c\":{\"5\"}},\"*t\":{\"*h\":{\"a\":{\"1\"}},\"*t\"}}",
+            made: "{\"*h\":{\"a\":{\"2\"}},\"*t\":{\"*h\":{\"a\":{\"1\"}},\"*t\"}}",
+        }],
+    )
+}
+
+#[test]
+fn a_copy_that_is_merged(rt: HostRuntime) -> Result<(), Fail> {
+    expect_main(
+        &rt,
+        rt.alloc(),
+        LONE,
+        "copy(a,b);merge(a,b)",
+        &[Case {
+            tree: "{\"a\":{\"1\"}}",
+            view: "{\"a\":{\"1\"}}",
+            changed: "{\"a\":{\"2\"}}",
+            put: "{\"a\":{\"2\"}}",
+            made: "{\"a\":{\"2\"}}",
+        }],
+    )
+}
+
+// Two names, under which the same may stand.
+const PAIR: &str = "node R\n  edge a V\n  edge b V\n  shape a b\n";
+
+#[test]
+fn a_name_that_is_merged(rt: HostRuntime) -> Result<(), Fail> {
+    expect_main(
+        &rt,
+        rt.alloc(),
+        PAIR,
+        "merge(a,b)",
+        &[
+            Case {
+                tree: "{\"a\":{\"1\"},\"b\":{\"1\"}}",
+                view: "{\"a\":{\"1\"}}",
+                changed: "{\"a\":{\"2\"}}",
+                put: "{\"a\":{\"2\"},\"b\":{\"2\"}}",
+                made: "{\"a\":{\"2\"},\"b\":{\"2\"}}",
+            },
+            Case {
+                tree: "{\"a\":{\"1\"},\"b\":{\"3\"}}",
+                view: "{\"a\":{\"1\"}}",
+                changed: "{\"a\":{\"2\"}}",
+                put: "{\"a\":{\"2\"},\"b\":{\"3\"}}",
+                made: "{\"a\":{\"2\"},\"b\":{\"2\"}}",
+            },
+        ],
+    )
+}
+
+// One of two names.
+const EITHER: &str = "node R\n  edge a Empty\n  edge b Empty\n  shape a\n  shape b\n";
+
+#[test]
+fn by_what_is_there(rt: HostRuntime) -> Result<(), Fail> {
+    expect_main(
+        &rt,
+        rt.alloc(),
+        EITHER,
+        "ccond(a,const({},{\"a\"}),const({},{\"b\"}))",
+        &[
+            Case {
+                tree: "{\"a\"}",
+                view: "{}",
+                changed: "{}",
+                put: "{\"a\"}",
+                made: "{\"b\"}",
+            },
+            Case {
+                tree: "{\"b\"}",
+                view: "{}",
+                changed: "{}",
+                put: "{\"b\"}",
+                made: "{\"b\"}",
+            },
+        ],
+    )
+}
+
+// Two names that may both be missing.
+const FREE: &str = "node R\n  edge a V\n  edge c V\n  shape ? a c\n";
+
+#[test]
+fn by_what_is_shown(rt: HostRuntime) -> Result<(), Fail> {
+    expect_main(
+        &rt,
+        rt.alloc(),
+        FREE,
+        "acond(a,b,rename(a,b),id)",
+        &[
+            Case {
+                tree: "{\"a\":{\"1\"},\"c\":{\"2\"}}",
+                view: "{\"b\":{\"1\"},\"c\":{\"2\"}}",
+                changed: "{\"b\":{\"3\"},\"c\":{\"2\"}}",
+                put: "{\"a\":{\"3\"},\"c\":{\"2\"}}",
+                made: "{\"a\":{\"3\"},\"c\":{\"2\"}}",
+            },
+            Case {
+                tree: "{\"a\":{\"1\"}}",
+                view: "{\"b\":{\"1\"}}",
+                changed: "{\"c\":{\"2\"}}",
+                put: "{\"c\":{\"2\"}}",
+                made: "{\"c\":{\"2\"}}",
+            },
+            Case {
+                tree: "{}",
+                view: "{}",
+                changed: "{\"b\":{\"1\"}}",
+                put: "{\"a\":{\"1\"}}",
+                made: "{\"a\":{\"1\"}}",
+            },
+        ],
+    )
+}
+
+// Notes on each level of a tree, which aren't shown.
+const NOTES: &str = "node R\n  edge a R\n  edge x V\n  shape ? a x\n";
+
+const DOWN: &str =
+    "format tree root=R\nnode R\n  edge a R\n  edge x V\n  shape ? a x\nnode V\n  other any Empty\n  shape + 1..1\nnode S\n  edge a S\n  shape ? a\nlens Down R S = xfork({a},{a},map(call(Down)),const({},{}))\nmain = call(Down)";
+
+#[test]
+fn a_definition_that_calls_itself(rt: HostRuntime) -> Result<(), Fail> {
+    expect(
+        &rt,
+        rt.alloc(),
+        NOTES,
+        DOWN,
+        &[Case {
+            tree: "{\"a\":{\"a\",\"x\":{\"1\"}},\"x\":{\"2\"}}",
+            view: "{\"a\":{\"a\"}}",
+            changed: "{\"a\"}",
+            put: "{\"a\":{\"x\":{\"1\"}},\"x\":{\"2\"}}",
+            made: "{\"a\"}",
+        }],
+    )
+}
+
+// An address book, as a table shows it.
+const BOOK: &str =
+    "node R\n  other filled Cards\n  shape + 0..\nnode Cards\n  edge *h Card\n  edge *t More\n  shape *h *t\nnode More\n  edge *h Card\n  edge *t More\n  shape\n  shape *h *t\nnode Card\n  edge Birthday Day\n  edge Email Texts\n  edge Phone Texts\n  shape ? Birthday Email Phone\nnode Day\n  other filled Empty\n  shape + 1..1\nnode Texts\n  other filled Empty\n  shape + 1..\n";
+
+const AS_CARDS: &str =
+    "format csv key=Name show=Birthday many=Phone,Email\nmain = map(list(acond(Birthday,BDAY,rename(Birthday,BDAY),id);acond(Email,EMAIL,rename(Email,EMAIL),id);acond(Phone,TEL,rename(Phone,TEL),id)))";
+
+#[test]
+fn an_address_book(rt: HostRuntime) -> Result<(), Fail> {
+    expect(
+        &rt,
+        rt.alloc(),
+        BOOK,
+        AS_CARDS,
+        &[Case {
+            tree: "{\"Ann Lee\":{\"*h\":{\"Birthday\":{\"19900203\"},\"Email\":{\"ann@example.org\"},\"Phone\":{\"+1 555 0101\"}},\"*t\"},\"Bob Ray\":{\"*h\":{\"Phone\":{\"+1 555 0199\"}},\"*t\"},\"Cy Oz\":{\"*h\":{\"Email\":{\"cy@example.org\"},\"Phone\":{\"+1 555 0103\"}},\"*t\"}}",
+            view: "{\"Ann Lee\":{\"*h\":{\"BDAY\":{\"19900203\"},\"EMAIL\":{\"ann@example.org\"},\"TEL\":{\"+1 555 0101\"}},\"*t\"},\"Bob Ray\":{\"*h\":{\"TEL\":{\"+1 555 0199\"}},\"*t\"},\"Cy Oz\":{\"*h\":{\"EMAIL\":{\"cy@example.org\"},\"TEL\":{\"+1 555 0103\"}},\"*t\"}}",
+            changed: "{\"Ann Lee\":{\"*h\":{\"BDAY\":{\"19900203\"},\"EMAIL\":{\"ann@example.org\"},\"TEL\":{\"+1 555 0101\"}},\"*t\"},\"Bob Ray\":{\"*h\":{\"TEL\":{\"+1 555 0199\"}},\"*t\"},\"Cy Oz\":{\"*h\":{\"EMAIL\":{\"cy@example.org\",\"cy@work.example\"},\"TEL\":{\"+1 555 0103\"}},\"*t\"}}",
+            put: "{\"Ann Lee\":{\"*h\":{\"Birthday\":{\"19900203\"},\"Email\":{\"ann@example.org\"},\"Phone\":{\"+1 555 0101\"}},\"*t\"},\"Bob Ray\":{\"*h\":{\"Phone\":{\"+1 555 0199\"}},\"*t\"},\"Cy Oz\":{\"*h\":{\"Email\":{\"cy@example.org\",\"cy@work.example\"},\"Phone\":{\"+1 555 0103\"}},\"*t\"}}",
+            made: "{\"Ann Lee\":{\"*h\":{\"Birthday\":{\"19900203\"},\"Email\":{\"ann@example.org\"},\"Phone\":{\"+1 555 0101\"}},\"*t\"},\"Bob Ray\":{\"*h\":{\"Phone\":{\"+1 555 0199\"}},\"*t\"},\"Cy Oz\":{\"*h\":{\"Email\":{\"cy@example.org\",\"cy@work.example\"},\"Phone\":{\"+1 555 0103\"}},\"*t\"}}",
+        }],
+    )
+}

@@ -1,0 +1,219 @@
+//! Schemas and lens files from texts, the answer of their check, and runs of what is typed.
+ghost use Rattle.std.specs.Prelude.{IfOk};
+ghost use Rattle.hm_schema.specs.Membership.{HasNoTwins};
+ghost use Rattle.hm_terms.specs.Programs.{program_value};
+ghost use Rattle.hm_terms.specs.WellFormedPrograms.{IsWellFormed};
+ghost use Rattle.hm_types.specs.Checks.{Trees};
+ghost use Rattle.hm_checks.specs.Running.{CanRun};
+
+use hm_eval::{get, put};
+use hm_focal::{LensFault, read_lens};
+use hm_schema::Schema;
+use hm_schema_text::{SchemaFault, read_schema};
+use hm_terms::Program;
+use hm_text_lens::TextLens;
+use hm_tree::{Memory, Tree};
+use hm_tree_text::{TextFault, read_tree, write_tree};
+use hm_types::{TypeFault, Typed, check};
+use std::alloc::Global;
+use std::process::Abort;
+use std::test::Fail;
+
+/// Any tree: the node `R`.
+pub const ANY: &str = "node R\n  other any R\n  shape + 0..\n";
+
+/// One name, with nothing below it: the node `V`.
+pub const VALUE: &str = "node V\n  other any Empty\n  shape + 1..1\n";
+
+fn schema_of(alloc: Global, nodes: &str) -> Result<Schema, Fail>
+    ensures { IfOk result HasNoTwins }
+{
+    let text = format!(in alloc; "harmony schema 1\nroot R\n{nodes}{VALUE}")?;
+    match read_schema(alloc, text.as_bytes()) {
+        Ok(schema) => Ok(schema),
+        Err(SchemaFault::Memory) => Err(Memory.into()),
+        Err(SchemaFault::BadSchema { line }) => {
+            Err(Fail::new(format_args!("line {line} of a schema is bad")))
+        }
+    }
+}
+
+fn program_of(alloc: Global, lines: &str) -> Result<Program, Fail>
+    ensures { IfOk result (λ p. IsWellFormed (program_value p)) }
+{
+    let text = format!(in alloc; "harmony lens 1\n{lines}\n")?;
+    match read_lens(alloc, text.as_bytes()) {
+        Ok(program) => Ok(program),
+        Err(LensFault::Memory) => Err(Memory.into()),
+        Err(LensFault::BadLens { line }) => {
+            Err(Fail::new(format_args!("line {line} of a lens file is bad")))
+        }
+    }
+}
+
+fn tree_of(alloc: Global, text: &str) -> Result<Tree, Fail> {
+    let line = format!(in alloc; "{text}\n")?;
+    match read_tree(alloc, line.as_bytes()) {
+        Ok(tree) => Ok(tree),
+        Err(TextFault::Memory) => Err(Memory.into()),
+        Err(_) => Err("a tree isn't read".into()),
+    }
+}
+
+// What the check of a lens file over a schema answers, without the first lines of both: `R` is the root, and `V` stands
+// behind its nodes.
+fn checked(alloc: Global, nodes: &str, lines: &str) -> Result<Result<Typed, TypeFault>, Fail>
+    ensures { IfOk result (λ answer. IfOk answer CanRun) }
+{
+    let schema = schema_of(alloc, nodes)?;
+    let program = program_of(alloc, lines)?;
+    Ok(check(alloc, program, &schema))
+}
+
+/// The typed program of a lens file that is accepted.
+pub fn typed(alloc: Global, nodes: &str, lines: &str) -> Result<Typed, Fail>
+    ensures { IfOk result CanRun }
+{
+    match checked(alloc, nodes, lines)? {
+        Ok(typed) => Ok(typed),
+        Err(TypeFault::Memory) => Err(Memory.into()),
+        Err(_) => Err("a lens file is refused".into()),
+    }
+}
+
+// A fault in words.
+fn words(alloc: Global, fault: TypeFault) -> Result<String, Fail> {
+    match fault {
+        TypeFault::Mistyped {
+            definition,
+            term,
+            rule,
+        } => Ok(format!(in alloc; "Mistyped {definition} {term} {rule}")?),
+        TypeFault::Unguarded { name } => {
+            let text = name.text();
+            Ok(format!(in alloc; "Unguarded {text}")?)
+        }
+        TypeFault::TwinLeft { definition, term } => {
+            Ok(format!(in alloc; "TwinLeft {definition} {term}")?)
+        }
+        TypeFault::Memory => Err(Memory.into()),
+    }
+}
+
+/// Compares what a check answers; `typed` where the lens file is accepted.
+pub fn expect_answer(
+    rt: &impl Abort,
+    alloc: Global,
+    nodes: &str,
+    lines: &str,
+    want: &str,
+) -> Result<(), Fail> {
+    let found = match checked(alloc, nodes, lines)? {
+        Ok(_) => String::from_str(alloc, "typed")?,
+        Err(fault) => words(alloc, fault)?,
+    };
+    assert_eq!(rt; found.as_str(), want, "{lines}");
+    Ok(())
+}
+
+/// The same of a file that has a main lens alone.
+pub fn expect_main(
+    rt: &impl Abort,
+    alloc: Global,
+    nodes: &str,
+    main: &str,
+    want: &str,
+) -> Result<(), Fail> {
+    let lines = format!(in alloc; "format tree\nmain = {main}")?;
+    expect_answer(rt, alloc, nodes, lines.as_str(), want)
+}
+
+fn source_tree(alloc: Global, typed: &Typed, text: &str) -> Result<Tree, Fail>
+    ensures { IfOk result (Trees typed.now.source) }
+{
+    let tree = tree_of(alloc, text)?;
+    if !typed.source.member(&tree) {
+        return Err(Fail::new(format_args!("{text} is no tree of the source")));
+    }
+    Ok(tree)
+}
+
+fn view_tree(alloc: Global, typed: &Typed, text: &str) -> Result<Tree, Fail>
+    ensures { IfOk result (Trees typed.now.view) }
+{
+    let tree = tree_of(alloc, text)?;
+    if !typed.view.member(&tree) {
+        return Err(Fail::new(format_args!("{text} is no view")));
+    }
+    Ok(tree)
+}
+
+// Compares a tree with the text that it is to have.
+fn expect_tree(rt: &impl Abort, alloc: Global, tree: &Tree, want: &str) -> Result<(), Fail> {
+    let text = write_tree(alloc, tree)?;
+    let line = format!(in alloc; "{want}\n")?;
+    assert_eq!(rt; text.as_slice(), line.as_bytes(), "{want}");
+    Ok(())
+}
+
+/// Compares what is shown of a tree.
+pub fn expect_shown(
+    rt: &impl Abort,
+    alloc: Global,
+    typed: &Typed,
+    tree: &str,
+    view: &str,
+) -> Result<(), Fail>
+    requires { CanRun typed.now }
+{
+    let texts: Vec<Box<dyn TextLens>> = Vec::new(alloc);
+    let tree = source_tree(alloc, typed, tree)?;
+    let shown = get(&typed.program, &texts, &tree)?;
+    expect_tree(rt, alloc, &shown, view)
+}
+
+/// Compares what is put of a view with the tree from before.
+pub fn expect_put(
+    rt: &impl Abort,
+    alloc: Global,
+    typed: &Typed,
+    view: &str,
+    before: &str,
+    want: &str,
+) -> Result<(), Fail>
+    requires { CanRun typed.now }
+{
+    let texts: Vec<Box<dyn TextLens>> = Vec::new(alloc);
+    let view = view_tree(alloc, typed, view)?;
+    let before = source_tree(alloc, typed, before)?;
+    let tree = put(&typed.program, &texts, &view, Some(&before))?;
+    expect_tree(rt, alloc, &tree, want)
+}
+
+/// Compares what is put of a view with no tree from before.
+pub fn expect_made(
+    rt: &impl Abort,
+    alloc: Global,
+    typed: &Typed,
+    view: &str,
+    want: &str,
+) -> Result<(), Fail>
+    requires { CanRun typed.now }
+{
+    let texts: Vec<Box<dyn TextLens>> = Vec::new(alloc);
+    let view = view_tree(alloc, typed, view)?;
+    let tree = put(&typed.program, &texts, &view, None)?;
+    expect_tree(rt, alloc, &tree, want)
+}
+
+/// Compares the answers to main lenses: each case has the nodes of the schema, the lens and the answer.
+pub fn expect_mains(
+    rt: &impl Abort,
+    alloc: Global,
+    cases: &[(&str, &str, &str)],
+) -> Result<(), Fail> {
+    for case in cases {
+        expect_main(rt, alloc, case.0, case.1, case.2)?;
+    }
+    Ok(())
+}
