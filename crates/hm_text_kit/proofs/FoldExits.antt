@@ -1,12 +1,12 @@
 -- What is answered of a folding that is trimmed, and of one that isn't.
-use Rattle.std.proofs.Common.{◌≡◌, Bool, true, false, cond, List, [], ◌∷◌, sym, ap, ◌∙◌, subst, inl, inr}
+use Rattle.std.proofs.Common.{◌≡◌, true, false, cond, [], ◌∷◌, sym, ap, ◌∙◌, subst, inl, inr}
 use Rattle.std.specs.Prelude.{IsUtf8}
 use Rattle.std.proofs.lemmas.Bool.{cases_Bool}
 use Rattle.hm_tree.specs.Names.{Name}
 use Rattle.hm_tree.specs.Classes.{folding, IsTrimmed}
 use Rattle.hm_text_kit.specs.Folding.{folded_or_mark}
 use Rattle.hm_text_kit.specs.Tests.{is_trimmed, is_folded}
-use Rattle.hm_text_kit.specs.FoldLaws.{to_trimmed, trimmed_from}
+use Rattle.hm_text_kit.specs.TestLaws.{to_trimmed, trimmed_from}
 use Rattle.hm_text_kit.proofs.FoldTexts.{folded_where_trimmed}
 
 pub folding_given : (v n : Name) → n ≡ folding v → IsUtf8 n → IsTrimmed n → n ≡ folded_or_mark v

@@ -2,3 +2,4 @@ pub mod DateExits
 pub mod FoldExits
 pub mod FoldTexts
 pub mod Stripped
+pub mod Swaps

@@ -1,8 +1,8 @@
 -- A text is clean exactly where cleaning keeps each of its bytes.
-use Rattle.std.proofs.Common.{◌≡◌, ℕ, suc, Bool, true, false, not, IsTrue, List, [], ◌∷◌, refl, sym, ap, ◌∙◌, subst, arith, inl, inr}
+use Rattle.std.proofs.Common.{◌≡◌, ℕ, suc, true, false, IsTrue, List, [], ◌∷◌, refl, sym, ap, ◌∙◌, subst, arith, inl, inr}
 use Rattle.std.specs.Prelude.{◌==◌, All, filter}
 use Rattle.std.proofs.lemmas.Bool.{eqb-true, cases_Bool, true≢false, cond_both}
-use Rattle.std.proofs.lemmas.List.Elements.{All-cons, All-from_recursion}
+use Rattle.std.proofs.lemmas.List.Elements.{All-cons}
 use Rattle.hm_tree.specs.Names.{Name}
 use Rattle.hm_tree.specs.Cleaned.{is_kept, pairs_made_feeds, returns_made_feeds, cleaned}
 

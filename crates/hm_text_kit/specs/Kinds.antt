@@ -1,5 +1,5 @@
 -- Two ways of going between texts, of which each lens of this crate is one.
-use Rattle.std.specs.Prelude.{List, ℕ, [], cond, Option, Some, None}
+use Rattle.std.specs.Prelude.{[], cond, Option, Some, None}
 use Rattle.std.specs.Str.{bytes_eq}
 use Rattle.hm_tree.specs.declared.class.Class.{Class}
 use Rattle.hm_tree.specs.Names.{Name}

@@ -5,6 +5,9 @@ pub mod FoldLaws
 pub mod Folding
 pub mod KindLaws
 pub mod Kinds
+pub mod TestLaws
 pub mod Tests
 pub mod TrimLaws
 pub mod Trimmed
+pub mod WordLaws
+pub mod WordTables

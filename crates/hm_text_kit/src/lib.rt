@@ -4,10 +4,12 @@
 
 mod fold_case;
 mod swap_date;
+mod swap_words;
 #[cfg(test)]
 mod tests;
 mod trim_ends;
 
 pub use fold_case::FoldCase;
 pub use swap_date::SwapDate;
+pub use swap_words::SwapWords;
 pub use trim_ends::TrimEnds;
