@@ -31,16 +31,14 @@ module _ (name : Name) (first second : TextMeaning) (one : IsLawful first) (two 
   shown_before None h = tt
   shown_before (Some v) h = shown v h
 
-  -- what the second puts may be put by the first
-  middle : (w : Name) (b : Option Name) → IsInto second w → IsBefore first b → IsInto first (second.put_of w (option_map first.get_of b))
-  middle w b hw hb = to_first _ (two.puts w (option_map first.get_of b) hw (shown_before b hb))
-
   pub chain_lawful : IsLawful (chain_of name first second)
   chain_lawful = record {
     gets = λ v h. two.gets (first.get_of v) (shown v h);
-    puts = λ w b hw hb. one.puts _ b (middle w b hw hb) hb;
+    puts = λ w b hw hb. one.puts _ b (to_first _ (two.puts w (option_map first.get_of b) hw (shown_before b hb))) hb;
     get_put = λ v h. ap (λ t. first.put_of t (Some v)) (two.get_put (first.get_of v) (shown v h)) ∙ one.get_put v h;
-    put_get = λ w b hw hb. ap second.get_of (one.put_get _ b (middle w b hw hb) hb) ∙ two.put_get w (option_map first.get_of b) hw (shown_before b hb);
+    put_get = λ w b hw hb.
+        ap second.get_of (one.put_get _ b (to_first _ (two.puts w (option_map first.get_of b) hw (shown_before b hb))) hb)
+        ∙ two.put_get w (option_map first.get_of b) hw (shown_before b hb);
     hides = λ u v hu hv same_shown same_hidden.
         let parts = parts_of (first.hidden_of u) (second.hidden_of (first.get_of u)) (first.hidden_of v) (second.hidden_of (first.get_of v)) same_hidden in
         one.hides u v hu hv (two.hides (first.get_of u) (first.get_of v) (shown u hu) (shown v hv) same_shown parts.1) parts.0;
