@@ -1,6 +1,7 @@
 -- The exchange of words by a table is its own inverse, and stays within the class Filled.
-use Rattle.std.proofs.Common.{◌≡◌, ◌≢◌, suc, Bool, true, false, cond, List, [], ◌∷◌, Some, refl, ap, ◌∙◌, arith, inl, inr}
+use Rattle.std.proofs.Common.{◌≡◌, ◌≢◌, suc, Bool, true, false, cond, List, [], ◌∷◌, Some, refl, sym, ap, ◌∙◌, arith, inl, inr}
 use Rattle.std.specs.Prelude.{All, AllPairs, unwrap_or}
+use Rattle.std.specs.Bool.{Decides}
 use Rattle.std.specs.Cmp.{Equal-is}
 use Rattle.std.specs.Ordering.{is_eq}
 use Rattle.std.proofs.lemmas.Bool.{cases_Bool, cond_both}
@@ -23,8 +24,14 @@ one_word a w e = name_one a w ((Equal-is (name_cmp a w)).0 e)
 same_word : (a : Name) → is_word a a ≡ true
 same_word a = ap is_eq (tied_itself name_total a)
 
+pub is_word-Decides : (a w : Name) → Decides (is_word a w) (a ≡ w)
+is_word-Decides a w = (one_word a w, λ e. ap (is_word a) (sym e) ∙ same_word a)
+
 other_word : (a w : Name) → a ≢ w → is_word a w ≡ false
-other_word a w apart = elim (cases_Bool (is_word a w)) [ inl is ↦ absurd (apart (one_word a w is)) | inr isnt ↦ isnt ]
+other_word a w apart = elim (cases_Bool (is_word a w)) [
+  | inl is ↦ absurd (apart (one_word a w is))
+  | inr isnt ↦ isnt
+]
 
 -- ---- the parts of a table
 

@@ -1,4 +1,6 @@
 //! Texts as people write them, shown and put.
+ghost use Rattle.std.specs.Prelude.{◌≡◌, IfOk, [], ◌∷◌, codes};
+
 use super::*;
 use hm_text_lens::{Chain, TextLens, first_named};
 use hm_tree::{Memory, Name};
@@ -52,8 +54,23 @@ fn expect_put<L: TextLens>(
     Ok(())
 }
 
-fn named(alloc: Global, name: &str) -> Result<Name, Memory> {
+fn named(alloc: Global, name: &str) -> Result<Name, Memory>
+    ensures { IfOk result (λ named. named ≡ name.now) }
+{
     Name::from_text(alloc, name)
+}
+
+fn yes_no_pairs(alloc: Global) -> Result<Vec<(Name, Name)>, Memory>
+    ensures { IfOk result (λ pairs. pairs.items ≡ (codes "Y", codes "yes") ∷ (codes "N", codes "no") ∷ []) }
+{
+    let mut pairs = Vec::new(alloc);
+    pairs.push((named(alloc, "Y")?, named(alloc, "yes")?))?;
+    pairs.push((named(alloc, "N")?, named(alloc, "no")?))?;
+    Ok(pairs)
+}
+
+fn yes_no(alloc: Global) -> Result<SwapWords, Memory> {
+    SwapWords::new(named(alloc, "yesno")?, yes_no_pairs(alloc)?)
 }
 
 #[test]
@@ -155,6 +172,23 @@ fn other_texts_stay_where_dates_are_exchanged(rt: HostRuntime) -> Result<(), Fai
         expect_shown(&rt, alloc, &date, text, text)?;
         expect_new(&rt, alloc, &date, text, text)?;
     }
+    Ok(())
+}
+
+#[test]
+fn words_are_exchanged(rt: HostRuntime) -> Result<(), Fail> {
+    let alloc = rt.alloc();
+    let words = yes_no(alloc)?;
+    expect_shown(&rt, alloc, &words, "Y", "yes")?;
+    expect_shown(&rt, alloc, &words, "yes", "Y")?;
+    expect_shown(&rt, alloc, &words, "N", "no")?;
+    expect_shown(&rt, alloc, &words, "maybe", "maybe")?;
+    expect_shown(&rt, alloc, &words, "y", "y")?;
+    expect_new(&rt, alloc, &words, "yes", "Y")?;
+    expect_new(&rt, alloc, &words, "Y", "yes")?;
+    expect_put(&rt, alloc, &words, "no", "Y", "N")?;
+    expect_put(&rt, alloc, &words, "maybe", "Y", "maybe")?;
+    assert_eq!(rt; words.name().text(), "yesno");
     Ok(())
 }
 
