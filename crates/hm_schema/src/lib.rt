@@ -9,6 +9,7 @@
 #![tactic(auto)]
 
 mod copies;
+mod gathering;
 mod label;
 mod listing;
 mod named;
