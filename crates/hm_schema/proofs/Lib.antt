@@ -12,4 +12,6 @@ mod JointSameness
 pub mod LabelNumbers
 mod Small
 mod Standing
+mod Marks
+mod Passing
 pub mod Decided

@@ -1,10 +1,10 @@
 -- Nodes of a well formed schema are well formed, and refer to nodes that are there.
-use Rattle.std.proofs.Common.{◌≡◌, ◌<◌, ◌≤◌, ◌+◌, ℕ, List, length, get_or, drop, Option, Some, None, IfSome, IsSome, IsSomeAnd, IsTrue, is_some, false, refl, sym, ap, subst, ◌∙◌, arith, option_and_then}
+use Rattle.std.proofs.Common.{◌≡◌, ◌<◌, ◌≤◌, ◌+◌, ℕ, T, All, List, length, map, get_or, slice_get, drop, Option, Some, None, IfSome, IsSome, IsSomeAnd, IsTrue, is_some, false, refl, sym, ap, subst, ◌∙◌, arith, option_and_then}
 use Rattle.std.specs.Option.{option_or, option_map}
-use Rattle.std.specs.FinMap.{find}
+use Rattle.std.specs.FinMap.{find, is_sorted}
 use Rattle.std.specs.FinSet.{contains}
 use Rattle.std.proofs.lemmas.List.{length-map, drop_all}
-use Rattle.std.proofs.lemmas.Option.{same_Some, none-some, slice_get-map, slice_get_read}
+use Rattle.std.proofs.lemmas.Option.{same_Some, none-some, slice_get-map, slice_get-get_or, slice_get_read}
 use Rattle.hm_tree.specs.declared.class.Class.{Class}
 use Rattle.hm_tree.specs.Classes.{IsInClass}
 use Rattle.hm_tree.specs.Names.{Name, name_cmp}
@@ -13,6 +13,8 @@ use Rattle.hm_tree.proofs.Paths.{front_is}
 use Rattle.hm_schema.specs.declared.node.NodeId.{NodeId}
 use Rattle.hm_schema.specs.declared.node.Node.{Node}
 use Rattle.hm_schema.specs.Values.{Names, NodeValue, SchemaValue, node_value, schema_value, node_at, child_of, child_at, reached}
+use Rattle.hm_schema.specs.declared.index.ShapeIndex.{ShapeIndex}
+use Rattle.hm_schema.specs.Indexes.{IsIndexOf, IsKept}
 use Rattle.hm_schema.specs.Permitted.{Permits, PermitsAt, Takes}
 use Rattle.hm_schema.specs.WellFormed.{IsWellFormed, IsWellFormedNode}
 use Rattle.hm_schema.proofs.NamesOf.{found_value}
@@ -80,3 +82,24 @@ node_kept nodes root s i n e lt at =
     let within : i.place < length nodes = omega (arith, ap (λ (s : SchemaValue). length s.nodes) e, length-map nodes node_value) in
     sym (ap (λ s. node_at s i) e) ∙ slice_get-map node_value nodes i.place
     ∙ ap (option_map node_value) (slice_get_read nodes (length nodes) i.place n refl within at)
+
+-- ---- the index that is kept at a place
+
+pub index_kept : (nodes : List Node) (root : NodeId) (indexes : List (Option ShapeIndex)) (s : SchemaValue) (i : NodeId) (o : Option ShapeIndex)
+    (x : ShapeIndex) → IsKept nodes root indexes → schema_value nodes root ≡ s → i.place < length indexes → o ≡ get_or indexes i.place o → o ≡ Some x
+    → (n : NodeValue) → node_at s i ≡ Some n → IsIndexOf x n
+index_kept nodes root indexes s i o x kept e lt at is n here =
+    go (slice_get nodes i.place) refl (sym (slice_get-map node_value nodes i.place) ∙ ap (λ s. node_at s i) e ∙ here)
+  where
+    go : (m : Option Node) → slice_get nodes i.place ≡ m → option_map node_value m ≡ Some n → IsIndexOf x n
+    go None r same = absurd (none-some n same)
+    go (Some m) r same =
+        subst (IsIndexOf x) (same_Some (node_value m) n same)
+        (kept.indexed i.place m x r (slice_get_read indexes (length indexes) i.place o refl lt at ∙ ap Some is))
+
+-- the listed names of each node rise
+pub each_sorted : (nodes : List Node) (root : NodeId) → IsWellFormed (schema_value nodes root) → All (λ n. T (is_sorted name_cmp n.children.items)) nodes
+each_sorted nodes root formed k d lt =
+    let at : slice_get (map node_value nodes) k ≡ Some (node_value (get_or nodes k d)) =
+    slice_get-map node_value nodes k ∙ ap (option_map node_value) (slice_get-get_or nodes k d lt) in
+    (all_read (IsWellFormedNode (length (map node_value nodes))) (map node_value nodes) k (node_value (get_or nodes k d)) at formed.nodes).ascending

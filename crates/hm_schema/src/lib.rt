@@ -10,9 +10,11 @@
 
 mod copies;
 mod gathering;
+mod index;
 mod label;
 mod listing;
 mod named;
+mod narrowed;
 mod node;
 mod numbering;
 mod options;

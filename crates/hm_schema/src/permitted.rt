@@ -26,7 +26,7 @@ pub fn permits<L: Listing, N: Named>(node: &L, names: &N) -> bool
 }
 
 // The number of names that aren't listed, if each of them may stand there.
-fn count_unlisted<L: Listing, N: Named>(node: &L, names: &N) -> Option<u64>
+pub(crate) fn count_unlisted<L: Listing, N: Named>(node: &L, names: &N) -> Option<u64>
     requires { T (is_sorted name_cmp (L.node node.now).children) }
     ensures number { IfSome result (λ number. number ≡ unlisted (L.node node.now) (N.names names.now)) }
     ensures taken { IsSome result ↔ TakesUnlisted (L.node node.now) (N.names names.now) }
@@ -56,7 +56,7 @@ fn takes<L: Listing>(node: &L, name: &Name) -> bool
 }
 
 // Whether a number of unlisted names is within the bounds of a shape.
-fn is_within(shape: &Shape, number: u64) -> bool
+pub(crate) fn is_within(shape: &Shape, number: u64) -> bool
     ensures { IsTrue result ↔ IsWithin shape.now number }
 {
     if number < shape.least {
@@ -70,7 +70,7 @@ fn is_within(shape: &Shape, number: u64) -> bool
 
 // Whether all names that a shape requires are among them, and those of them that are listed are in the shape. Names that
 // are missing end the first loop, so that it takes no more steps than there are names, and one.
-fn fits_listed<L: Listing, N: Named>(node: &L, shape: &Shape, names: &N) -> bool
+pub(crate) fn fits_listed<L: Listing, N: Named>(node: &L, shape: &Shape, names: &N) -> bool
     requires { T (is_sorted name_cmp (L.node node.now).children) }
     ensures { IsTrue result ↔ FitsListed (L.node node.now) shape.now (N.names names.now) }
 {

@@ -1,12 +1,16 @@
 //! Schemas.
-ghost use Rattle.std.specs.Prelude.{◌≡◌, ◌↔◌, ◌<◌, IsTrue, IsSome, Some, [], length, map, IfOk};
+ghost use Rattle.std.specs.Prelude.{◌≡◌, ◌↔◌, ◌<◌, IsTrue, IsSome, Some, [], length, map, IfOk, IfSome};
 ghost use Rattle.hm_tree.specs.States.{state};
-ghost use Rattle.hm_schema.specs.Values.{schema_value, node_value, node_at, child_at, reached};
+ghost use Rattle.hm_schema.specs.Indexes.{IsIndexOf};
+ghost use Rattle.hm_schema.specs.Values.{NodeValue, schema_value, node_value, node_at, child_at, reached};
 ghost use Rattle.hm_schema.specs.Permitted.{PermitsAt, names_of};
 ghost use Rattle.hm_schema.specs.WellFormed.{IsWellFormed, IsWellFormedNode};
 ghost use Rattle.hm_schema.specs.Membership.{IsMember, IsAllowed, HasNoTwins, IsAnswer};
 
 use crate::copies::copy_nodes;
+use crate::index::{ShapeIndex, indexes_of};
+use crate::named::Named;
+use crate::narrowed::permits_by;
 use crate::node::{Node, NodeId};
 use crate::permitted::permits;
 use crate::twins::have_twins;
@@ -19,11 +23,13 @@ use std::marker::Model;
 pub struct Schema {
     nodes: Vec<Node>,
     root: NodeId,
+    // Of the nodes from the first on; of those that are left, and where it is None, there is no index.
+    indexes: Vec<Option<ShapeIndex>>,
 }
 
 impl Model for Schema {
     ghost use Rattle.hm_schema.specs.Values.{SchemaValue, schema_value};
-    ghost use Rattle.hm_schema.specs.WellFormed.{IsWellFormed};
+    ghost use Rattle.hm_schema.specs.Indexes.{IsKept};
     ghost use Rattle.hm_schema.specs.contracts.node.Shape as shape;
     ghost use Rattle.std.specs.Coded.{codes};
 
@@ -33,25 +39,44 @@ impl Model for Schema {
 
     ghost view = { λ s. schema_value s.nodes.items s.root };
 
-    ghost invariant = { λ s. IsWellFormed (schema_value s.nodes.items s.root) };
+    ghost invariant = { λ s. IsKept s.nodes.items s.root s.indexes.items };
 }
 
 impl Schema {
-    /// The schema of these nodes.
+    /// The schema of these nodes, without indexes of their shapes.
     pub fn new(nodes: Vec<Node>, root: NodeId) -> Schema
         requires { IsWellFormed (schema_value nodes.items root) }
         ensures { result ≡ schema_value nodes.items root }
     {
-        Schema { nodes, root }
+        let indexes = Vec::new(*nodes.allocator());
+        Schema {
+            nodes,
+            root,
+            indexes,
+        }
     }
 
-    /// An equal schema.
+    /// The same schema, with indexes of the shapes of nodes that have several: it says sooner whether such a node permits
+    /// names.
+    pub fn indexed(self) -> Result<Schema, Memory>
+        ensures { IfOk result (λ schema. schema ≡ self) }
+    {
+        let indexes = indexes_of(*self.nodes.allocator(), &self.nodes)?;
+        Ok(Schema {
+            nodes: self.nodes,
+            root: self.root,
+            indexes,
+        })
+    }
+
+    /// An equal schema, without indexes.
     pub fn copy(&self, alloc: Global) -> Result<Schema, Memory>
         ensures { IfOk result (λ schema. schema ≡ self.now) }
     {
         Ok(Schema {
             nodes: copy_nodes(alloc, &self.nodes)?,
             root: self.root,
+            indexes: Vec::new(alloc),
         })
     }
 
@@ -85,7 +110,7 @@ impl Schema {
         requires { id.place < length self.now.nodes }
         ensures { IsTrue result ↔ PermitsAt self.now id (names_of tree.now) }
     {
-        permits(self.node(id), tree)
+        self.permits_here(id, tree)
     }
 
     /// Whether a set of names is permitted at a node.
@@ -93,7 +118,32 @@ impl Schema {
         requires { id.place < length self.now.nodes }
         ensures { IsTrue result ↔ PermitsAt self.now id names.now }
     {
-        permits(self.node(id), names)
+        self.permits_here(id, names)
+    }
+
+    // The same of what has names, by the index of the node where there is one.
+    fn permits_here<N: Named>(&self, id: NodeId, names: &N) -> bool
+        requires { id.place < length self.now.nodes }
+        ensures { IsTrue result ↔ PermitsAt self.now id (N.names names.now) }
+    {
+        let node = self.node(id);
+        match self.index(id) {
+            Some(index) => permits_by(index, node, names),
+            None => permits(node, names),
+        }
+    }
+
+    // The index of a node, where there is one.
+    fn index(&self, id: NodeId) -> Option<&ShapeIndex>
+        ensures { IfSome result (λ index. (n : NodeValue) → node_at self.now id ≡ Some n → IsIndexOf index.now n) }
+    {
+        if id.place >= self.indexes.len() {
+            return None;
+        }
+        match &self.indexes[id.place] {
+            Some(index) => Some(index),
+            None => None,
+        }
     }
 
     /// Whether a tree is a member at the root.
@@ -126,7 +176,7 @@ impl Schema {
         ensures { IsTrue result ↔ IsAllowed self.now id (state (Some tree.now)) [] }
     {
         let node = self.node(id);
-        permits(node, tree) && have_twins(&node.twins, tree)
+        self.permits_here(id, tree) && have_twins(&node.twins, tree)
     }
 
     /// The node of a name that may stand at a node.
