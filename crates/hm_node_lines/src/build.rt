@@ -257,5 +257,11 @@ pub fn node_of(entries: &[Entry], declared: &BTreeMap<String, usize>, name: &Nam
     requires node { IsNode (entry_values entries.now) name.now }
     ensures { IsPlaceOf (entry_values entries.now) name.now result.place }
 {
-    node_named(declared, count_nodes(entries), name)
+    match first_place(declared, name) {
+        Some(place) => NodeId { place },
+        // The node lines are counted only here: most names are declared.
+        None => NodeId {
+            place: count_nodes(entries),
+        },
+    }
 }
