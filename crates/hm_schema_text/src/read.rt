@@ -26,5 +26,5 @@ pub fn read_schema(alloc: Global, bytes: &[u8]) -> Result<Schema, SchemaFault>
     let root = node_of(&entries, &declared, &name);
     let own = [name];
     let nodes = build_nodes(alloc, &entries, &declared, &own)?;
-    Ok(Schema::new(nodes, root))
+    Ok(Schema::new(nodes, root).indexed()?)
 }

@@ -42,7 +42,7 @@ new-requires c =
 
 pub returns : goal.returns
 returns c = λ _.
-    rw c.new.ensures
+    rw (c.in_ok-indexed.ensures, c.new.ensures)
     (schema_file _ c.in_ok-entries.entries.items c.in_ok-entries.ensures
     (rw (← c.deref-2.ensures.value) (MatchOption-at_none _ _ c.in_default.is c.in_ok-place.ensures))
     _ c.node_of-root.result c.in-Some-2.name
