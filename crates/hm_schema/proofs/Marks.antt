@@ -1,14 +1,13 @@
 -- Bits that are set in the words of listed names.
-use Rattle.std.proofs.Common.{◌≡◌, ◌≢◌, ℕ, ◌+◌, ◌*◌, ◌<◌, ◌≤◌, ◌%◌, ◌^◌, IsTrue, is_some, List, [], ◌∷◌, ◌++◌, length, get_or, slice_get, take, Option, Some, None, All, refl, sym, ap, subst, ◌∙◌, arith, inl, inr, bit_or}
+use Rattle.std.proofs.Common.{◌≡◌, ℕ, ◌+◌, ◌*◌, ◌<◌, ◌%◌, ◌^◌, IsTrue, List, [], length, get_or, slice_get, Some, None, All, refl, sym, ap, subst, ◌∙◌, arith, inl, inr, bit_or}
 use Rattle.std.proofs.Math.ListN.{set}
 use Rattle.std.specs.Int.{bit_at, w64}
-use Rattle.std.specs.FinMap.{find}
 use Rattle.std.proofs.lemmas.Bool.{cases_lt, cases_eq, or_cases}
 use Rattle.std.proofs.lemmas.List.{get_or_default, length-set, get_or-set_same, get_or-set_other}
 use Rattle.std.proofs.lemmas.Nat.Bits.{bit_at_or, bit_at_set_same, bit_at-lt}
 use Rattle.std.proofs.lemmas.Option.{same_Some, none-some}
 use Rattle.std.specs.FinSet.{contains}
-use Rattle.hm_tree.specs.Names.{Name, name_cmp}
+use Rattle.hm_tree.specs.Names.{Name}
 use Rattle.hm_tree.specs.Edges.{IsPlaceOf, IsGapFor}
 use Rattle.hm_schema.specs.declared.node.NodeId.{NodeId}
 use Rattle.hm_schema.specs.declared.node.Shape.{Shape}

@@ -1,16 +1,13 @@
 -- A shape whose bit isn't left isn't fitted.
-use Rattle.std.proofs.Common.{◌≡◌, ℕ, ◌+◌, ◌*◌, ◌-◌, ◌<◌, ◌≤◌, ◌/◌, ◌^◌, IsTrue, is_some, List, [], length, get_or, slice_get, Option, Some, None, Any, refl, sym, ap, subst, ◌∙◌, arith, inl, inr, bit_and}
+use Rattle.std.proofs.Common.{◌≡◌, ℕ, ◌+◌, ◌*◌, ◌-◌, ◌<◌, ◌≤◌, ◌/◌, ◌^◌, IsTrue, is_some, List, [], length, get_or, slice_get, Some, None, refl, sym, ap, subst, ◌∙◌, arith, inl, inr, bit_and}
 use Rattle.std.specs.Int.{bit_at}
-use Rattle.std.specs.FinMap.{find}
-use Rattle.std.specs.FinSet.{contains}
 use Rattle.std.proofs.lemmas.Bool.{cases_lt}
 use Rattle.std.proofs.lemmas.Nat.Bits.{bit_at_and, bit_at-zero, shr_and_one}
 use Rattle.std.proofs.lemmas.Option.{same_Some, none-some, slice_get_within, slice_get_read, slice_get-get_or}
-use Rattle.hm_tree.specs.Names.{Name, name_cmp}
+use Rattle.hm_tree.specs.Names.{Name}
 use Rattle.hm_tree.specs.Edges.{IsPlaceOf}
 use Rattle.hm_schema.specs.declared.index.Block.{Block}
 use Rattle.hm_schema.specs.declared.index.ShapeIndex.{ShapeIndex}
-use Rattle.hm_schema.specs.declared.node.NodeId.{NodeId}
 use Rattle.hm_schema.specs.declared.node.Shape.{Shape}
 use Rattle.hm_schema.specs.Values.{Names, NodeValue, is_listed}
 use Rattle.hm_schema.specs.Permitted.{FitsListed, Fits, Permits}

@@ -1,5 +1,5 @@
 -- What an index of the shapes of a node says: each listed name has a bit for each shape that has the name.
-use Rattle.std.specs.Prelude.{◌≡◌, ℕ, ◌+◌, ◌*◌, ◌<◌, ◌≤◌, IsTrue, List, Option, Some, IfSome, length, get_or, slice_get, map}
+use Rattle.std.specs.Prelude.{◌≡◌, ℕ, ◌+◌, ◌*◌, ◌<◌, ◌≤◌, IsTrue, List, Option, Some, length, get_or, slice_get}
 use Rattle.std.specs.Int.{bit_at}
 use Rattle.std.specs.FinSet.{contains}
 use Rattle.hm_tree.specs.Names.{Name}

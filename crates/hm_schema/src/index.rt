@@ -1,12 +1,8 @@
 //! Indexes of the shapes of a node, by which those that lack a name that is there are passed over together.
-ghost use Rattle.std.specs.Prelude.{All, ◌≡◌, ◌<◌, IsTrue, T, IfOk, OnOk, IfSome, MatchOption, Some, ℕ, length, slice_get, map};
+ghost use Rattle.std.specs.Prelude.{All, ◌≡◌, ◌<◌, IsTrue, T, IfOk, IfSome, length};
 ghost use Rattle.std.specs.FinMap.{is_sorted};
-ghost use Rattle.std.specs.FinSet.{contains};
-ghost use Rattle.std.specs.Int.{bit_at};
 ghost use Rattle.hm_tree.specs.Names.{Name as NameValue, name_cmp};
-ghost use Rattle.hm_tree.specs.Edges.{IsPlaceOf};
 ghost use Rattle.hm_schema.specs.Values.{node_value};
-ghost use Rattle.hm_schema.specs.WellFormed.{IsWellFormedNode};
 ghost use Rattle.hm_schema.specs.Tidied.{has_name};
 ghost use Rattle.hm_schema.specs.Indexes.{HasMark, HaveMarks, IsKeeping, IsBlockOf, IsIndexOf, AreIndexes};
 

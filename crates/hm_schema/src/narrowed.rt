@@ -1,9 +1,8 @@
 //! Whether a node permits a set of names, by an index of its shapes.
 ghost use Rattle.std.specs.Prelude.{◌≡◌, ◌↔◌, ◌<◌, false, IsTrue, T, IfSome, ℕ, Any, length};
 ghost use Rattle.std.specs.FinMap.{is_sorted};
-ghost use Rattle.std.specs.FinSet.{contains};
 ghost use Rattle.std.specs.Int.{bit_at};
-ghost use Rattle.hm_tree.specs.Names.{Name as NameValue, name_cmp};
+ghost use Rattle.hm_tree.specs.Names.{name_cmp};
 ghost use Rattle.hm_tree.specs.Edges.{IsPlaceOf};
 ghost use Rattle.hm_schema.specs.Values.{node_value};
 ghost use Rattle.hm_schema.specs.Permitted.{Permits, Fits, TakesUnlisted, unlisted};

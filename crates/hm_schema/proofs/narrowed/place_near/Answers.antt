@@ -1,7 +1,5 @@
-use Rattle.std.proofs.Common.{rules, ◌≡◌, sym, ap, ◌∙◌}
-use Rattle.hm_tree.specs.Names.{Name}
+use Rattle.std.proofs.Common.{rules}
 use Rattle.hm_tree.proofs.Sorted.{place_read}
-use Rattle.hm_schema.specs.declared.node.NodeId.{NodeId}
 use Rattle.hm_schema.proofs.narrowed.place_near.Goals as goal
 
 pub returns-then-same : goal.returns-then-same
