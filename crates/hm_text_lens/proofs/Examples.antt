@@ -1,10 +1,14 @@
--- The laws, tried on small meanings: two that meet them and two that don't; a chain, and a list of text lenses.
-use Rattle.std.proofs.Common.{◌≡◌, List, ℕ, [], ◌∷◌, Option, Some, None, refl}
+-- The laws, tried on small meanings: two that meet them and three that don't; a chain, and a list of text lenses.
+use Rattle.std.proofs.Common.{◌≡◌, T, List, ℕ, zero, suc, [], ◌∷◌, Option, Some, None, refl, ap}
 use Rattle.std.specs.Prelude.{codes}
+use Rattle.std.specs.Char.{encode_utf8}
+use Rattle.std.specs.Str.{is_utf8, chars}
+use Rattle.std.proofs.lemmas.Str.{IsUtf8-append, IsUtf8-past_char}
 use Rattle.hm_tree.specs.declared.class.Class.{Class}
 use Rattle.hm_tree.specs.declared.class.Class.TheVariants.{Any, Clean}
 use Rattle.hm_tree.specs.Names.{Name, name_cmp}
 use Rattle.hm_tree.specs.Classes.{IsClean}
+use Rattle.hm_tree.proofs.Texts.{ascii_test, text_test, text_tested}
 use Rattle.hm_text_lens.specs.Chains.{chain_of}
 use Rattle.hm_text_lens.specs.ChainLaws.{chain_lawful}
 use Rattle.hm_text_lens.specs.Meanings.{TextMeaning, IsLawful}
@@ -27,6 +31,8 @@ unfolding same
 same_lawful = record {
   gets = λ v h. h;
   puts = λ w b h g. h;
+  gets_utf8 = λ v h text. text;
+  puts_utf8 = λ w b h g text before. text;
   get_put = λ v h. refl;
   put_get = λ w b h g. refl;
   hides = λ u v h g e f. e;
@@ -37,22 +43,29 @@ same_wider : (w : Name) → ¬ (IsClean w) → ¬ (IsLawful (same Clean Any))
 unfolding same
 same_wider w not_clean law = not_clean (law.puts w None tt tt)
 
--- ---- a lens that hides the first byte of a text, and keeps it
+-- ---- a lens that hides a zero at the front of a text, and keeps it
 
 rest : Name → Name
 rest [] = []
-rest (x ∷ xs) = xs
+rest (zero ∷ xs) = xs
+rest (suc x ∷ xs) = suc x ∷ xs
 
--- the first byte from before, or 0 where there is no text from before
+-- where nothing was hidden, a zero goes before a text that has one at its front, so that this one is shown
+behind_none : Name → Name
+behind_none [] = []
+behind_none (zero ∷ w) = 0 ∷ 0 ∷ w
+behind_none (suc y ∷ w) = suc y ∷ w
+
 behind_first : Name → Option Name → Name
-behind_first w None = 0 ∷ w
-behind_first [] (Some []) = []
-behind_first (y ∷ w) (Some []) = 0 ∷ y ∷ w
-behind_first w (Some (x ∷ xs)) = x ∷ w
+behind_first w None = behind_none w
+behind_first w (Some []) = behind_none w
+behind_first w (Some (zero ∷ xs)) = 0 ∷ w
+behind_first w (Some (suc x ∷ xs)) = behind_none w
 
-first_byte : Name → List ℕ
-first_byte [] = []
-first_byte (x ∷ xs) = x ∷ []
+first_zero : Name → List ℕ
+first_zero [] = []
+first_zero (zero ∷ xs) = 0 ∷ []
+first_zero (suc x ∷ xs) = []
 
 hiding : TextMeaning
 hiding = record {
@@ -61,31 +74,93 @@ hiding = record {
   into_class = Any;
   get_of = rest;
   put_of = behind_first;
-  hidden_of = first_byte;
+  hidden_of = first_zero;
 }
 
 hiding_lawful : IsLawful hiding
-unfolding hiding rest behind_first first_byte
-hiding_lawful = record { gets = λ v h. tt; puts = λ w b h g. tt; get_put = λ v h. back v; put_get = λ w b h g. forth w b; hides = λ u v h g. told u v }
+unfolding hiding rest behind_none behind_first first_zero encode_utf8
+hiding_lawful = record {
+  gets = λ v h. tt;
+  puts = λ w b h g. tt;
+  gets_utf8 = λ v h text. shown_text v text;
+  puts_utf8 = λ w b h g text before. put_text w b text;
+  get_put = λ v h. back v;
+  put_get = λ w b h g. forth w b;
+  hides = λ u v h g e f. told u v e f;
+}
   where
+    -- a zero is a character of its own
+    shown_text : (v : Name) → T (is_utf8 v) → T (is_utf8 (rest v))
+    shown_text [] text = text
+    shown_text (zero ∷ xs) text = text_test xs (IsUtf8-past_char (0 ∷ xs) xs 0 (text_tested (0 ∷ xs) text) refl)
+    shown_text (suc x ∷ xs) text = text
+
+    with_zero : (w : Name) → T (is_utf8 w) → T (is_utf8 (0 ∷ w))
+    with_zero w text = text_test (0 ∷ w) (IsUtf8-append (0 ∷ []) w (text_tested (0 ∷ []) (ascii_test (0 ∷ []) refl)) (text_tested w text))
+
+    none_text : (w : Name) → T (is_utf8 w) → T (is_utf8 (behind_none w))
+    none_text [] text = text
+    none_text (zero ∷ w) text = with_zero (0 ∷ w) text
+    none_text (suc y ∷ w) text = text
+
+    put_text : (w : Name) (b : Option Name) → T (is_utf8 w) → T (is_utf8 (behind_first w b))
+    put_text w None text = none_text w text
+    put_text w (Some []) text = none_text w text
+    put_text w (Some (zero ∷ xs)) text = with_zero w text
+    put_text w (Some (suc x ∷ xs)) text = none_text w text
+
+    none_forth : (w : Name) → rest (behind_none w) ≡ w
+    none_forth [] = refl
+    none_forth (zero ∷ w) = refl
+    none_forth (suc y ∷ w) = refl
+
     back : (v : Name) → behind_first (rest v) (Some v) ≡ v
     back [] = refl
-    back (x ∷ []) = refl
-    back (x ∷ y ∷ xs) = refl
+    back (zero ∷ xs) = refl
+    back (suc x ∷ xs) = refl
 
     forth : (w : Name) (b : Option Name) → rest (behind_first w b) ≡ w
-    forth [] None = refl
-    forth (y ∷ w) None = refl
-    forth [] (Some []) = refl
-    forth (y ∷ w) (Some []) = refl
-    forth [] (Some (x ∷ xs)) = refl
-    forth (y ∷ w) (Some (x ∷ xs)) = refl
+    forth w None = none_forth w
+    forth w (Some []) = none_forth w
+    forth w (Some (zero ∷ xs)) = refl
+    forth w (Some (suc x ∷ xs)) = none_forth w
 
-    told : (u v : Name) → rest u ≡ rest v → first_byte u ≡ first_byte v → u ≡ v
+    told : (u v : Name) → rest u ≡ rest v → first_zero u ≡ first_zero v → u ≡ v
     told [] [] e f = refl
-    told [] (x ∷ xs) e f = let none : ⊥ = cc in absurd none
-    told (x ∷ xs) [] e f = let none : ⊥ = cc in absurd none
-    told (x ∷ xs) (y ∷ ys) e f = let same : x ≡ y = cc in λ i. same i ∷ e i
+    told [] (zero ∷ ys) e f = let none : ⊥ = cc in absurd none
+    told [] (suc y ∷ ys) e f = e
+    told (zero ∷ xs) [] e f = let none : ⊥ = cc in absurd none
+    told (zero ∷ xs) (zero ∷ ys) e f = ap (λ l. 0 ∷ l) e
+    told (zero ∷ xs) (suc y ∷ ys) e f = let none : ⊥ = cc in absurd none
+    told (suc x ∷ xs) [] e f = e
+    told (suc x ∷ xs) (zero ∷ ys) e f = let none : ⊥ = cc in absurd none
+    told (suc x ∷ xs) (suc y ∷ ys) e f = e
+
+-- ---- a lens that hides the first byte of a text: this may cut a character
+
+after_byte : Name → Name
+after_byte [] = []
+after_byte (x ∷ xs) = xs
+
+cutting : TextMeaning
+cutting = record {
+  name = codes "cutting";
+  from_class = Any;
+  into_class = Any;
+  get_of = after_byte;
+  put_of = λ w b. 195 ∷ w;
+  hidden_of = λ v. v;
+}
+
+-- it shows the second byte of a character alone
+cutting_shows_part : ((v : Name) → T (is_utf8 v) → T (is_utf8 (cutting.get_of v))) → ⊥
+unfolding cutting after_byte is_utf8 chars encode_utf8
+cutting_shows_part holds = holds (195 ∷ 169 ∷ []) tt
+
+-- and puts the first byte of one before other characters
+cutting_puts_part : ((w : Name) → T (is_utf8 w) → T (is_utf8 (cutting.put_of w None))) → ⊥
+unfolding cutting is_utf8 chars encode_utf8
+cutting_puts_part holds = holds (97 ∷ []) tt
 
 -- ---- a lens that shows one text of all, and so loses what is put
 
@@ -106,7 +181,7 @@ forgetful_lawless law =
     let lost : none ≡ 97 ∷ [] = law.get_put (97 ∷ []) tt in
     let f : ⊥ = cc in f
 
--- ---- a chain of two lenses that each hide the first byte hides the first two
+-- ---- a chain of two lenses that each hide a zero at the front hides two
 
 twice : TextMeaning
 twice = chain_of (codes "twice") hiding hiding
@@ -115,12 +190,12 @@ twice_lawful : IsLawful twice
 unfolding twice hiding
 twice_lawful = chain_lawful (codes "twice") hiding hiding hiding_lawful hiding_lawful refl
 
-twice_shows : twice.get_of (1 ∷ 2 ∷ 3 ∷ []) ≡ 3 ∷ []
+twice_shows : twice.get_of (0 ∷ 0 ∷ 3 ∷ []) ≡ 3 ∷ []
 unfolding twice hiding rest
 twice_shows = refl
 
--- each of them keeps its own byte
-twice_puts : twice.put_of (4 ∷ []) (Some (1 ∷ 2 ∷ 3 ∷ [])) ≡ 1 ∷ 2 ∷ 4 ∷ []
+-- each of them keeps its own zero
+twice_puts : twice.put_of (4 ∷ []) (Some (0 ∷ 0 ∷ 3 ∷ [])) ≡ 0 ∷ 0 ∷ 4 ∷ []
 unfolding twice hiding rest behind_first
 twice_puts = refl
 

@@ -1,6 +1,7 @@
 -- A chain meets the laws where its two parts do, and the texts that the first shows are those that the second reads.
-use Rattle.std.proofs.Common.{◌≡◌, ℕ, List, ◌∷◌, ◌++◌, length, take, drop, Option, Some, None, sym, ap, ◌∙◌, subst}
+use Rattle.std.proofs.Common.{◌≡◌, ℕ, T, IfSome, List, ◌∷◌, ◌++◌, length, take, drop, Option, Some, None, sym, ap, ◌∙◌, subst}
 use Rattle.std.specs.Option.{option_map}
+use Rattle.std.specs.Str.{is_utf8}
 use Rattle.std.proofs.Math.Seq.{take-append_seam, drop-append_seam}
 use Rattle.hm_tree.specs.declared.class.Class.{Class}
 use Rattle.hm_tree.specs.Names.{Name}
@@ -31,10 +32,22 @@ module _ (name : Name) (first second : TextMeaning) (one : IsLawful first) (two 
   shown_before None h = tt
   shown_before (Some v) h = shown v h
 
+  -- a text from before is UTF-8, and so is what is shown of it
+  abbrev IsText : Option Name → Type 0
+  IsText b = IfSome b (λ u. T (is_utf8 u))
+
+  text_before : (b : Option Name) → IsBefore first b → IsText b → IsText (option_map first.get_of b)
+  text_before None h text = tt
+  text_before (Some v) h text = one.gets_utf8 v h text
+
   pub chain_lawful : IsLawful (chain_of name first second)
   chain_lawful = record {
     gets = λ v h. two.gets (first.get_of v) (shown v h);
     puts = λ w b hw hb. one.puts _ b (to_first _ (two.puts w (option_map first.get_of b) hw (shown_before b hb))) hb;
+    gets_utf8 = λ v h text. two.gets_utf8 (first.get_of v) (shown v h) (one.gets_utf8 v h text);
+    puts_utf8 = λ w b hw hb text before.
+        let middle = two.puts_utf8 w (option_map first.get_of b) hw (shown_before b hb) text (text_before b hb before) in
+        one.puts_utf8 _ b (to_first _ (two.puts w (option_map first.get_of b) hw (shown_before b hb))) hb middle before;
     get_put = λ v h. ap (λ t. first.put_of t (Some v)) (two.get_put (first.get_of v) (shown v h)) ∙ one.get_put v h;
     put_get = λ w b hw hb.
         ap second.get_of (one.put_get _ b (to_first _ (two.puts w (option_map first.get_of b) hw (shown_before b hb))) hb)

@@ -1,5 +1,6 @@
 -- What text lenses mean, and the laws that they meet (TOPLAS 2007, section 3: GetPut and PutGet).
-use Rattle.std.specs.Prelude.{◌≡◌, List, ℕ, Option, Some, IfSome}
+use Rattle.std.specs.Prelude.{◌≡◌, T, List, ℕ, Option, Some, IfSome}
+use Rattle.std.specs.Str.{is_utf8}
 use Rattle.hm_tree.specs.declared.class.Class.{Class}
 use Rattle.hm_tree.specs.Names.{Name}
 use Rattle.hm_tree.specs.Classes.{IsInClass}
@@ -29,6 +30,9 @@ pub record IsLawful (m : TextMeaning) : Type 0 where
   -- both functions stay within the classes
   pub gets : (v : Name) → IsFrom m v → IsInto m (m.get_of v)
   pub puts : (w : Name) (b : Option Name) → IsInto m w → IsBefore m b → IsFrom m (m.put_of w b)
+  -- and of what is UTF-8 they make such
+  pub gets_utf8 : (v : Name) → IsFrom m v → T (is_utf8 v) → T (is_utf8 (m.get_of v))
+  pub puts_utf8 : (w : Name) (b : Option Name) → IsInto m w → IsBefore m b → T (is_utf8 w) → IfSome b (λ u. T (is_utf8 u)) → T (is_utf8 (m.put_of w b))
   -- what is shown of a text and put back gives the text
   pub get_put : (v : Name) → IsFrom m v → m.put_of (m.get_of v) (Some v) ≡ v
   -- what is put is shown again
