@@ -3,3 +3,4 @@ pub mod FoldExits
 pub mod FoldTexts
 pub mod Stripped
 pub mod Swaps
+pub mod YesAndNo

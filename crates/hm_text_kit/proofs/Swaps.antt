@@ -1,13 +1,16 @@
 -- A map of partners grows from the last pair of a table to the first.
-use Rattle.std.proofs.Common.{◌≡◌, Bool, true, false, cond, List, [], ◌∷◌, ◌++◌, length, Option, Some, None, refl, sym, ap, ◌∙◌, subst, arith}
-use Rattle.std.specs.Prelude.{unwrap_or}
-use Rattle.std.specs.BTreeMap.{BTreeMap}
+use Rattle.std.proofs.Common.{◌≡◌, Bool, true, false, cond, List, [], ◌∷◌, ◌++◌, length, Option, Some, None, IfSome, refl, sym, ap, ◌∙◌, subst, arith}
+use Rattle.std.specs.BTreeMap.{BTreeMap, get}
 use Rattle.std.specs.Option.{option_or}
+use Rattle.std.specs.Str.{IsUtf8}
+use Rattle.std.proofs.lemmas.Bool.{cond_both}
 use Rattle.hm_tree.specs.declared.class.Class.TheVariants.{Filled}
-use Rattle.hm_tree.specs.Names.{Name}
+use Rattle.hm_tree.specs.Names.{Name, name_cmp}
+use Rattle.hm_tree.proofs.Texts.{text_test}
 use Rattle.hm_text_kit.specs.Kinds.{exchange}
-use Rattle.hm_text_kit.specs.WordLaws.{swapped-IsSwap}
-use Rattle.hm_text_kit.specs.WordTables.{IsTable, IsSwap, HasPartners, is_word, partner, swapped, swapped_in, swapping_words}
+use Rattle.hm_text_kit.specs.TextLaws.{IsText}
+use Rattle.hm_text_kit.specs.WordLaws.{same_swap}
+use Rattle.hm_text_kit.specs.WordTables.{HasPartners, HasTexts, PutsPartner, is_word, partner, swapped_in, swapping_words}
 
 partner-push : (ps : List (Name × Name)) (p : Name × Name) (q : Name) → partner (ps ++ p ∷ []) q ≡ option_or (partner ps q) (partner (p ∷ []) q)
 partner-push [] p q = refl
@@ -42,13 +45,10 @@ pub no_pair_left : (ps : List (Name × Name)) (q : Name) (found all : Option Nam
 no_pair_left [] q found all none e = e
 no_pair_left (p ∷ ps) q found all none e = absurd (omega arith)
 
--- a map of the partners of a table exchanges as the table does
-
-same_swap : (ps : List (Name × Name)) (m : BTreeMap Name Name) → HasPartners ps m → swapped ps ≡ swapped_in m
-same_swap ps m has = λ i w. unwrap_or (sym (has w) i) w
-
-pub swapped_in-IsSwap : (ps : List (Name × Name)) (m : BTreeMap Name Name) → IsTable ps → HasPartners ps m → IsSwap (swapped_in m)
-swapped_in-IsSwap ps m table has = subst IsSwap (same_swap ps m has) (swapped-IsSwap ps table)
+-- a map to which a word is put stays one of texts
+pub one_text_more : (old new : BTreeMap Name Name) (word other : Name) → PutsPartner old new word other → IsUtf8 other → HasTexts old → HasTexts new
+one_text_more old new word other puts text has = λ q.
+    subst (λ o. IfSome o IsText) (sym (puts q)) (cond_both (is_word word q) (Some other) (get name_cmp old q) (λ o. IfSome o IsText) (λ _. text_test other text) (λ _. has q))
 
 pub same_meaning : (name : Name) (ps : List (Name × Name)) (m : BTreeMap Name Name) → HasPartners ps m → exchange name Filled (swapped_in m) ≡ swapping_words name ps
 same_meaning name ps m has = ap (exchange name Filled) (sym (same_swap ps m has))

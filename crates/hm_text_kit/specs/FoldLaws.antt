@@ -17,6 +17,7 @@ use Rattle.hm_text_kit.specs.Folding.{folded_or_mark, folding_case}
 use Rattle.hm_text_kit.specs.KindLaws.{normal_form_lawful}
 use Rattle.hm_text_kit.specs.TestLaws.{other_not, folded_from, to_folded}
 use Rattle.hm_text_kit.specs.Tests.{is_folded}
+use Rattle.hm_text_kit.specs.TextLaws.{IsText, Low, low_text, folding_text}
 
 question_folds : folding (63 ∷ []) ≡ 63 ∷ []
 unfolding default_case_fold full_folding full_folding_rows value_in chars_of encode_utf8
@@ -43,5 +44,10 @@ pub folded_shown : (v : Name) → IsFolded (folded_or_mark v)
 unfolding folded_or_mark
 folded_shown v = cond_both (is_folded (folding v)) (folding v) (63 ∷ []) IsFolded (folded_from (folding v)) (λ _. question)
 
+folded_text : (v : Name) → IsText v → IsText (folded_or_mark v)
+unfolding folded_or_mark
+folded_text v text =
+    cond_both (is_folded (folding v)) (folding v) (63 ∷ []) IsText (λ _. folding_text v text) (λ _. low_text (63 ∷ []) (All-from_recursion Low (63 ∷ []) (omega arith, tt)))
+
 pub folding_case_lawful : (name : Name) → IsLawful (folding_case name)
-folding_case_lawful name = normal_form_lawful name Trimmed Folded folded_or_mark (λ v h. folded_shown v) (λ w h. h.trimmed) folded_same
+folding_case_lawful name = normal_form_lawful name Trimmed Folded folded_or_mark (λ v h. folded_shown v) folded_text (λ w h. h.trimmed) folded_same

@@ -6,8 +6,10 @@ pub mod Folding
 pub mod KindLaws
 pub mod Kinds
 pub mod TestLaws
+pub mod TextLaws
 pub mod Tests
 pub mod TrimLaws
 pub mod Trimmed
 pub mod WordLaws
 pub mod WordTables
+pub mod YesAndNo

@@ -1,16 +1,22 @@
 -- The laws of trimming.
-use Rattle.std.proofs.Common.{◌≡◌, ◌≢◌, ℕ, zero, suc, ◌-◌, ◌<◌, true, false, List, [], ◌∷◌, ◌++◌, length, get_or, Some, refl, sym, ap, ◌∙◌, subst, arith}
+use Rattle.std.proofs.Common.{◌≡◌, ◌≢◌, ℕ, zero, suc, ◌-◌, ◌<◌, ◌≤◌, true, false, List, [], ◌∷◌, ◌++◌, length, length-append, get_or, take, drop, Some, refl, sym, ap, ◌∙◌, subst, arith}
 use Rattle.std.specs.Prelude.{◌==◌, reverse, slice_get, All, Any}
+use Rattle.std.specs.Str.{IsUtf8}
+use Rattle.std.proofs.Math.Seq.{take-append_seam, drop-append_seam}
 use Rattle.std.proofs.lemmas.Bool.{eqb-true, true≢false, cond_both}
 use Rattle.std.proofs.lemmas.List.{reverse-append, reverse-reverse, length-reverse, get_or-reverse}
-use Rattle.std.proofs.lemmas.List.Elements.{All-from_get_or, All-get_or, All-tail}
+use Rattle.std.proofs.lemmas.List.Elements.{All-nil, All-cons, All-from_get_or, All-get_or, All-tail}
 use Rattle.std.proofs.lemmas.Option.{slice_get-get_or, get_or_from_slice_get}
+use Rattle.std.proofs.lemmas.Str.{IsUtf8-from_ascii, IsUtf8-take, IsUtf8-drop, IsCharBoundary-from_take, IsCharBoundary-at_seam}
+use Rattle.std.proofs.lemmas.Str.Ascii.{IsAscii-from_all}
 use Rattle.hm_tree.specs.declared.class.Class.TheVariants.{Filled, Trimmed}
 use Rattle.hm_tree.specs.Names.{Name}
 use Rattle.hm_tree.specs.Classes.{IsFilled, IsTrimmed}
+use Rattle.hm_tree.proofs.Texts.{text_test, text_tested}
 use Rattle.hm_text_lens.specs.Meanings.{IsLawful}
 use Rattle.hm_text_kit.specs.CleanLaws.{Kept, clean_from_kept, kept_from_clean}
 use Rattle.hm_text_kit.specs.KindLaws.{normal_form_lawful}
+use Rattle.hm_text_kit.specs.TextLaws.{IsText, Low}
 use Rattle.hm_text_kit.specs.Trimmed.{skip_spaces, drop_spaces, trimmed, trimming}
 
 space : (b : ℕ) → (b == 32) ≡ true → b ≡ 32
@@ -27,12 +33,26 @@ pub skip_same : (t : List ℕ) → slice_get t 0 ≢ Some 32 → skip_spaces t �
 skip_same [] h = refl
 skip_same (b ∷ t) h = cond_both (b == 32) (skip_spaces t) (b ∷ t) (λ l. l ≡ b ∷ t) (λ yes. absurd (h (ap Some (space b yes)))) (λ _. refl)
 
--- the spaces that are skipped stand before the rest
-skipped : (t : List ℕ) → (a : List ℕ) × (t ≡ a ++ skip_spaces t)
-skipped [] = ([], refl)
+-- what is skipped stands before the rest, and is of ASCII
+record Skipped (t rest : List ℕ) : Type 0 where
+  front : List ℕ
+  whole : t ≡ front ++ rest
+  low : All Low front
+
+nothing_skipped : (t : List ℕ) → Skipped t t
+nothing_skipped t = record { front = []; whole = refl; low = All-nil Low }
+
+skipped : (t : List ℕ) → Skipped t (skip_spaces t)
+skipped [] = nothing_skipped []
 skipped (b ∷ t) =
     let rest = skipped t in
-    cond_both (b == 32) (skip_spaces t) (b ∷ t) (λ l. (a : List ℕ) × (b ∷ t ≡ a ++ l)) (λ _. (b ∷ rest.0, ap (λ l. b ∷ l) rest.1)) (λ _. ([], refl))
+    cond_both (b == 32) (skip_spaces t) (b ∷ t) (Skipped (b ∷ t))
+    (λ yes. record {
+      front = b ∷ rest.front;
+      whole = ap (λ l. b ∷ l) rest.whole;
+      low = let is = space b yes in All-cons Low b rest.front (omega arith) rest.low;
+    })
+    (λ _. nothing_skipped (b ∷ t))
 
 All_skip : (P : ℕ → Type 0) (t : List ℕ) → All P t → All P (skip_spaces t)
 All_skip P [] h = h
@@ -82,11 +102,13 @@ front_append : (p q : List ℕ) → slice_get (p ++ q) 0 ≢ Some 32 → slice_g
 front_append [] q h = λ e. cc
 front_append (b ∷ p) q h = h
 
+-- what is dropped stands behind the rest
+dropped : (t : List ℕ) → t ≡ drop_spaces t ++ reverse (skipped (reverse t)).front
+dropped t = let s = skipped (reverse t) in sym (reverse-reverse t) ∙ ap reverse s.whole ∙ reverse-append s.front (skip_spaces (reverse t))
+
 front_kept : (t : List ℕ) → slice_get t 0 ≢ Some 32 → slice_get (drop_spaces t) 0 ≢ Some 32
 front_kept t h =
-    let parts = skipped (reverse t) in
-    let split : t ≡ drop_spaces t ++ reverse parts.0 = sym (reverse-reverse t) ∙ ap reverse parts.1 ∙ reverse-append parts.0 (skip_spaces (reverse t)) in
-    front_append (drop_spaces t) (reverse parts.0) (subst (λ (l : List ℕ). slice_get l 0 ≢ Some 32) split h)
+    front_append (drop_spaces t) (reverse (skipped (reverse t)).front) (subst (λ (l : List ℕ). slice_get l 0 ≢ Some 32) (dropped t) h)
 
 last_front : (t : List ℕ) → slice_get t (length t - 1) ≢ Some 32 → slice_get (reverse t) 0 ≢ Some 32
 last_front t h e =
@@ -103,6 +125,29 @@ last_front t h e =
 
 pub drop_same : (t : List ℕ) → slice_get t (length t - 1) ≢ Some 32 → drop_spaces t ≡ t
 drop_same t h = ap reverse (skip_same (reverse t) (last_front t h)) ∙ reverse-reverse t
+
+-- ---- UTF-8
+
+-- a text between ASCII is UTF-8 where the whole is
+skipped_utf8 : (t : List ℕ) → IsUtf8 t → IsUtf8 (skip_spaces t)
+skipped_utf8 t text =
+    let s = skipped t in
+    let front : IsUtf8 (take (length s.front) t) =
+    subst IsUtf8 (sym (ap (take (length s.front)) s.whole ∙ take-append_seam s.front (skip_spaces t))) (IsUtf8-from_ascii s.front (IsAscii-from_all s.front s.low)) in
+    let within : length s.front ≤ length t = omega (arith, ap length s.whole, length-append s.front (skip_spaces t)) in
+    let cut = IsUtf8-drop t (length s.front) text (IsCharBoundary-from_take t (length s.front) text within front) in
+    subst IsUtf8 (ap (drop (length s.front)) s.whole ∙ drop-append_seam s.front (skip_spaces t)) cut
+
+dropped_utf8 : (t : List ℕ) → IsUtf8 t → IsUtf8 (drop_spaces t)
+dropped_utf8 t text =
+    let s = skipped (reverse t) in
+    let back : IsUtf8 (reverse s.front) = IsUtf8-from_ascii (reverse s.front) (IsAscii-from_all (reverse s.front) (All_reverse Low s.front s.low)) in
+    let cut = IsUtf8-take t (length (drop_spaces t)) text (IsCharBoundary-at_seam t (drop_spaces t) (reverse s.front) (dropped t) back) in
+    subst IsUtf8 (ap (take (length (drop_spaces t))) (dropped t) ∙ take-append_seam (drop_spaces t) (reverse s.front)) cut
+
+trimmed_text : (t : Name) → IsText t → IsText (trimmed t)
+unfolding trimmed
+trimmed_text t text = text_test (drop_spaces (skip_spaces t)) (dropped_utf8 (skip_spaces t) (skipped_utf8 t (text_tested t text)))
 
 -- ---- classes
 
@@ -122,4 +167,4 @@ unfolding trimmed
 trimmed_same w h = ap drop_spaces (skip_same w h.front) ∙ drop_same w h.back
 
 pub trimming_lawful : (name : Name) → IsLawful (trimming name)
-trimming_lawful name = normal_form_lawful name Filled Trimmed trimmed trims (λ w h. h.filled) trimmed_same
+trimming_lawful name = normal_form_lawful name Filled Trimmed trimmed trims trimmed_text (λ w h. h.filled) trimmed_same

@@ -1,7 +1,8 @@
 -- The exchange of words by a table is its own inverse, and stays within the class Filled.
-use Rattle.std.proofs.Common.{◌≡◌, ◌≢◌, suc, Bool, true, false, cond, List, [], ◌∷◌, Some, refl, sym, ap, ◌∙◌, arith, inl, inr}
+use Rattle.std.proofs.Common.{◌≡◌, ◌≢◌, suc, Bool, true, false, cond, List, [], ◌∷◌, Option, Some, None, IfSome, refl, sym, ap, ◌∙◌, subst, arith, inl, inr}
 use Rattle.std.specs.Prelude.{All, AllPairs, unwrap_or}
 use Rattle.std.specs.Bool.{Decides}
+use Rattle.std.specs.BTreeMap.{BTreeMap, get}
 use Rattle.std.specs.Cmp.{Equal-is}
 use Rattle.std.specs.Ordering.{is_eq}
 use Rattle.std.proofs.lemmas.Bool.{cases_Bool, cond_both}
@@ -14,7 +15,8 @@ use Rattle.hm_text_lens.specs.Meanings.{IsLawful}
 use Rattle.hm_text_kit.specs.KindLaws.{exchange_lawful}
 use Rattle.hm_text_kit.specs.Kinds.{exchange}
 use Rattle.hm_text_kit.specs.TestLaws.{filled_from, to_filled}
-use Rattle.hm_text_kit.specs.WordTables.{words_of, IsTable, is_word, partner, swapped, IsSwap}
+use Rattle.hm_text_kit.specs.TextLaws.{IsText}
+use Rattle.hm_text_kit.specs.WordTables.{words_of, IsTable, is_word, partner, swapped, HasPartners, HasTexts, swapped_in, IsSwap}
 
 -- ---- words that tie are equal
 
@@ -73,11 +75,23 @@ swapped_twice (p ∷ ps) distinct w = go (swapped_twice ps (rest_apart p ps dist
         (λ i. at (swapped_has (λ x. is_word p.0 x ≡ false) ps w isnt (first_apart p ps distinct) i) (swapped_has (λ x. is_word p.1 x ≡ false) ps w neither (second_apart p ps distinct) i) v)
         ∙ rest
 
-pub swapped-IsSwap : (ps : List (Name × Name)) → IsTable ps → IsSwap (swapped ps)
-swapped-IsSwap ps table = record {
-  stays = λ w h. to_filled (swapped ps w) (swapped_has IsFilled ps w (filled_from w h) table.filled);
-  twice = swapped_twice ps table.distinct;
-}
+-- what a map of words has is UTF-8
+swapped_text : (o : Option Name) (w : Name) → IfSome o IsText → IsText w → IsText (unwrap_or o w)
+swapped_text None w h text = text
+swapped_text (Some v) w h text = h
+
+-- a map of the partners of a table exchanges as the table does
+pub same_swap : (ps : List (Name × Name)) (m : BTreeMap Name Name) → HasPartners ps m → swapped ps ≡ swapped_in m
+same_swap ps m has = λ i w. unwrap_or (sym (has w) i) w
+
+pub swapped_in-IsSwap : (ps : List (Name × Name)) (m : BTreeMap Name Name) → IsTable ps → HasPartners ps m → HasTexts m → IsSwap (swapped_in m)
+swapped_in-IsSwap ps m table has texts =
+    let same = same_swap ps m has in
+    record {
+      stays = λ w h. to_filled (swapped_in m w) (subst (λ (f : Name → Name). IsFilled (f w)) same (swapped_has IsFilled ps w (filled_from w h) table.filled));
+      texts = λ w text. swapped_text (get name_cmp m w) w (texts w) text;
+      twice = subst (λ (f : Name → Name). (w : Name) → f (f w) ≡ w) same (swapped_twice ps table.distinct);
+    }
 
 pub swap_lawful : (name : Name) (other : Name → Name) → IsSwap other → IsLawful (exchange name Filled other)
-swap_lawful name other swap = exchange_lawful name Filled other (λ v h. filled_from (other v) (swap.stays v (to_filled v h))) swap.twice
+swap_lawful name other swap = exchange_lawful name Filled other (λ v h. filled_from (other v) (swap.stays v (to_filled v h))) swap.texts swap.twice

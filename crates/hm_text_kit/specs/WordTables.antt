@@ -1,5 +1,5 @@
 -- Words that a table of pairs exchanges.
-use Rattle.std.specs.Prelude.{◌≡◌, ◌≢◌, Bool, cond, IsTrue, List, [], ◌∷◌, Option, Some, None, unwrap_or, All, AllPairs}
+use Rattle.std.specs.Prelude.{◌≡◌, ◌≢◌, Bool, cond, IsTrue, List, [], ◌∷◌, Option, Some, None, IfSome, unwrap_or, All, AllPairs}
 use Rattle.std.specs.BTreeMap.{BTreeMap, get}
 use Rattle.std.specs.Ordering.{eq_by_cmp}
 use Rattle.hm_tree.specs.declared.class.Class.TheVariants.{Filled}
@@ -8,6 +8,7 @@ use Rattle.hm_tree.specs.Classes.{IsFilled}
 use Rattle.hm_text_lens.specs.Meanings.{TextMeaning}
 use Rattle.hm_text_kit.specs.Kinds.{exchange}
 use Rattle.hm_text_kit.specs.Tests.{is_filled}
+use Rattle.hm_text_kit.specs.TextLaws.{IsText}
 
 abbrev pub words_of : List (Name × Name) → List Name
 words_of [] = []
@@ -38,6 +39,10 @@ swapping_words name ps = exchange name Filled (swapped ps)
 abbrev pub HasPartners : List (Name × Name) → BTreeMap Name Name → Type 0
 HasPartners ps m = (q : Name) → get name_cmp m q ≡ partner ps q
 
+-- each word of a map is UTF-8
+abbrev pub HasTexts : BTreeMap Name Name → Type 0
+HasTexts m = (q : Name) → IfSome (get name_cmp m q) IsText
+
 -- a map gets the partner of one word
 abbrev pub PutsPartner : BTreeMap Name Name → BTreeMap Name Name → Name → Name → Type 0
 PutsPartner old new word other = (q : Name) → get name_cmp new q ≡ cond (is_word word q) (Some other) (get name_cmp old q)
@@ -49,4 +54,5 @@ swapped_in m w = unwrap_or (get name_cmp m w) w
 -- what every exchange of texts of the class Filled does
 pub record IsSwap (other : Name → Name) : Type 0 where
   pub stays : (w : Name) → IsTrue (is_filled w) → IsTrue (is_filled (other w))
+  pub texts : (w : Name) → IsText w → IsText (other w)
   pub twice : (w : Name) → other (other w) ≡ w

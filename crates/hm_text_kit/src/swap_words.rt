@@ -1,6 +1,6 @@
 //! Exchanging the words of a table.
 ghost use Rattle.std.specs.Prelude.{◌≡◌, IfOk, OnOk};
-ghost use Rattle.hm_text_kit.specs.WordTables.{IsTable, IsSwap, HasPartners, PutsPartner, swapped_in};
+ghost use Rattle.hm_text_kit.specs.WordTables.{IsTable, IsSwap, HasPartners, HasTexts, PutsPartner, swapped_in};
 
 use hm_text_lens::TextLens;
 use hm_tree::{Class, Memory, Name};
@@ -73,7 +73,8 @@ impl TextLens for SwapWords {
 
 // The partner of each word.
 fn partners_of(mut pairs: Vec<(Name, Name)>) -> Result<BTreeMap<Name, Name>, Memory>
-    ensures { IfOk result (HasPartners pairs.items) }
+    ensures partners { IfOk result (HasPartners pairs.items) }
+    ensures texts { IfOk result HasTexts }
 {
     let mut partners = BTreeMap::new(*pairs.allocator());
     while let Some((one, other)) = pairs.pop() {

@@ -1,5 +1,6 @@
 //! Texts as people write them, shown and put.
-ghost use Rattle.std.specs.Prelude.{◌≡◌, IfOk, [], ◌∷◌, codes};
+ghost use Rattle.std.specs.Prelude.{◌≡◌, IfOk};
+ghost use Rattle.hm_text_kit.specs.YesAndNo.{yes_and_no};
 
 use super::*;
 use hm_text_lens::{Chain, TextLens, first_named};
@@ -61,7 +62,7 @@ fn named(alloc: Global, name: &str) -> Result<Name, Memory>
 }
 
 fn yes_no_pairs(alloc: Global) -> Result<Vec<(Name, Name)>, Memory>
-    ensures { IfOk result (λ pairs. pairs.items ≡ (codes "Y", codes "yes") ∷ (codes "N", codes "no") ∷ []) }
+    ensures { IfOk result (λ pairs. pairs.items ≡ yes_and_no) }
 {
     let mut pairs = Vec::new(alloc);
     pairs.push((named(alloc, "Y")?, named(alloc, "yes")?))?;
