@@ -1,15 +1,18 @@
 -- A lens fits where its parts do.
-use Rattle.std.proofs.Common.{◌≡◌, [], ◌∷◌, Option, Some, None, IfSome, refl, sym, subst}
+use Rattle.std.proofs.Common.{◌≡◌, [], ◌∷◌, Option, Some, None, IfSome, refl, sym, ap, subst, ◌∙◌}
+use Rattle.std.proofs.lemmas.Option.{same_Some}
 use Rattle.hm_tree.specs.Names.{Name}
 use Rattle.std.specs.Prelude.{T}
 use Rattle.std.specs.Str.{is_utf8}
-use Rattle.hm_tree.specs.Nodes.{Tree, node, edges_from, both}
-use Rattle.hm_tree.specs.NodeLaws.{edges-node}
-use Rattle.hm_terms.specs.Lenses.{Lens, identity, sequence, constant, hoist, plunge, Setting}
-use Rattle.hm_terms.specs.Parts.{IsEdge}
-use Rattle.hm_terms.specs.Shown.{Shows, by_identity, by_sequence, by_constant, by_hoist, by_plunge}
-use Rattle.hm_terms.specs.Put.{ShowsBefore, none_before, shown_before, before_or, Puts, put_identity, put_sequence, put_constant, put_hoist, put_plunge}
-use Rattle.hm_terms.specs.Kept.{Keeps, keeps_identity, keeps_sequence, keeps_constant, keeps_hoist, keeps_plunge}
+use Rattle.hm_tree.specs.Nodes.{Tree, node, empty, edges_from, are_edges, edges_head, both}
+use Rattle.hm_tree.specs.NodeLaws.{edges-node, edges_are}
+use Rattle.hm_text_lens.specs.Meanings.{TextMeaning, IsLawful, IsFrom, IsInto, IsBefore}
+use Rattle.hm_terms.specs.Lenses.{Lens, identity, sequence, constant, hoist, plunge, text, Setting}
+use Rattle.hm_text_lens.specs.Naming.{first_named}
+use Rattle.hm_terms.specs.Parts.{IsEdge, IsValue, ValueIn}
+use Rattle.hm_terms.specs.Shown.{Shows, by_identity, by_sequence, by_constant, by_hoist, by_plunge, by_text}
+use Rattle.hm_terms.specs.Put.{ShowsBefore, none_before, shown_before, before_or, Puts, put_identity, put_sequence, put_constant, put_hoist, put_plunge, ValueBefore, no_value_before, value_before, put_text}
+use Rattle.hm_terms.specs.Kept.{Keeps, keeps_identity, keeps_sequence, keeps_constant, keeps_hoist, keeps_plunge, keeps_text}
 use Rattle.hm_terms.specs.Fitting.{IsOne, Fits}
 use Rattle.hm_terms.proofs.OneShown.{one_shown}
 use Rattle.hm_terms.proofs.OnePut.{one_put}
@@ -111,14 +114,14 @@ module _ (S : Setting) where
   -- ---- one edge
 
   edge_to : (n : Name) (x : Tree) → T (is_utf8 n) → (t : Tree) × IsEdge n x t
-  edge_to n x text = (node ((n, x) ∷ []), edges-node ((n, x) ∷ []) (edges_from ((n, x) ∷ []) tt (both _ _ text tt)))
+  edge_to n x utf8 = (node ((n, x) ∷ []), edges-node ((n, x) ∷ []) (edges_from ((n, x) ∷ []) tt (both _ _ utf8 tt)))
 
-  module _ (n : Name) (text : T (is_utf8 n)) (C A : Tree → Type 0) (down : (c : Tree) → C c → (x : Tree) × IsEdge n x c × A x)
+  module _ (n : Name) (utf8 : T (is_utf8 n)) (C A : Tree → Type 0) (down : (c : Tree) → C c → (x : Tree) × IsEdge n x c × A x)
       (up : (c x : Tree) → IsEdge n x c → A x → C c) where
     pub fits_hoist : Fits S (hoist n) C A
     fits_hoist = record {
       shows = λ c h. let x = down c h in shown_one (hoist n) c x.0 x.2 (by_hoist x.1);
-      puts = λ v b h g. let t = edge_to n v text in put_one (hoist n) v b t.0 (up t.0 v t.1 h) (put_hoist t.1);
+      puts = λ v b h g. let t = edge_to n v utf8 in put_one (hoist n) v b t.0 (up t.0 v t.1 h) (put_hoist t.1);
       get_put = λ c v h s. back c v s;
       put_get = λ v b c h g p. forth v b c p;
       keeps = λ v b c h g p. keeps_hoist;
@@ -130,11 +133,11 @@ module _ (S : Setting) where
         forth : (v : Tree) (b : Option Tree) (c : Tree) → Puts S (hoist n) v b c → Shows S (hoist n) c v
         forth v b c (put_hoist e) = by_hoist e
 
-  module _ (n : Name) (text : T (is_utf8 n)) (C A : Tree → Type 0) (down : (v : Tree) → A v → (x : Tree) × IsEdge n x v × C x)
+  module _ (n : Name) (utf8 : T (is_utf8 n)) (C A : Tree → Type 0) (down : (v : Tree) → A v → (x : Tree) × IsEdge n x v × C x)
       (up : (v x : Tree) → IsEdge n x v → C x → A v) where
     pub fits_plunge : Fits S (plunge n) C A
     fits_plunge = record {
-      shows = λ c h. let t = edge_to n c text in shown_one (plunge n) c t.0 (up t.0 c t.1 h) (by_plunge t.1);
+      shows = λ c h. let t = edge_to n c utf8 in shown_one (plunge n) c t.0 (up t.0 c t.1 h) (by_plunge t.1);
       puts = λ v b h g. let x = down v h in put_one (plunge n) v b x.0 x.2 (put_plunge x.1);
       get_put = λ c v h s. back c v s;
       put_get = λ v b c h g p. forth v b c p;
@@ -146,3 +149,72 @@ module _ (S : Setting) where
 
         forth : (v : Tree) (b : Option Tree) (c : Tree) → Puts S (plunge n) v b c → Shows S (plunge n) c v
         forth v b c (put_plunge e) = by_plunge e
+
+  -- ---- texts
+
+  value_utf8 : (v : Name) (t : Tree) → IsValue v t → T (is_utf8 v)
+  value_utf8 v t e = edges_head {X = Tree} (v, empty) [] (subst (λ es. T (are_edges es)) e (edges_are t))
+
+  module _ (x : Name) (m : TextMeaning) (is : first_named x S.texts ≡ Some m) (law : IsLawful m) where
+    value_to : (v : Name) → T (is_utf8 v) → (t : Tree) × IsValue v t
+    value_to v utf8 = edge_to v empty utf8
+
+    -- what stands before, as a text
+    record Before (b : Option Tree) : Type 0 where
+      text : Option Name
+      stands : ValueBefore m b text
+      inside : IsBefore m text
+      utf8 : IfSome text (λ u. T (is_utf8 u))
+
+    text_before : (b : Option Tree) → IfSome b (ValueIn (IsFrom m)) → Before b
+    text_before None h = record { text = None; stands = no_value_before; inside = tt; utf8 = tt }
+    text_before (Some c) h = record {
+      text = Some h.text;
+      stands = value_before h.is h.inside;
+      inside = h.inside;
+      utf8 = value_utf8 h.text c h.is;
+    }
+
+    inside_before : {b : Option Tree} {u : Option Name} → ValueBefore m b u → IsBefore m u
+    inside_before no_value_before = tt
+    inside_before (value_before e h) = h
+
+    pub fits_text : Fits S (text x) (ValueIn (IsFrom m)) (ValueIn (IsInto m))
+    fits_text = record {
+      shows = λ c h.
+          let v = value_to (m.get_of h.text) (law.gets_utf8 h.text h.inside (value_utf8 h.text c h.is)) in
+          shown_one (text x) c v.0 (record { text = m.get_of h.text; is = v.1; inside = law.gets h.text h.inside }) (by_text is h.inside h.is v.1);
+      puts = λ v b h g.
+          let old = text_before b g in
+          let c = value_to (m.put_of h.text old.text) (law.puts_utf8 h.text old.text h.inside old.inside (value_utf8 h.text v h.is) old.utf8) in
+          put_one (text x) v b c.0 (record { text = m.put_of h.text old.text; is = c.1; inside = law.puts h.text old.text h.inside old.inside })
+          (put_text is h.inside h.is old.stands c.1);
+      get_put = λ c v h s. back c v s;
+      put_get = λ v b c h g p. forth v b c p;
+      keeps = λ v b c h g p. kept v b c p;
+    }
+      where
+        back : (c v : Tree) → Shows S (text x) c v → Puts S (text x) v (Some c) c
+        back c v (by_text {v = t} {m = k} at h e f) =
+            let one : k ≡ m = same_Some k m (sym at ∙ is) in
+            let inside : IsFrom m t = subst (λ k. IsFrom k t) one h in
+            let shown : IsValue (m.get_of t) v = subst (λ k. IsValue (k.get_of t) v) one f in
+            put_text is (law.gets t inside) shown (value_before e inside) (subst (λ u. IsValue u c) (sym (law.get_put t inside)) e)
+
+        forth : (v : Tree) (b : Option Tree) (c : Tree) → Puts S (text x) v b c → Shows S (text x) c v
+        forth v b c (put_text {w = w} {m = k} {u = u} at h e p f) =
+            let one : k ≡ m = same_Some k m (sym at ∙ is) in
+            let inside : IsInto m w = subst (λ k. IsInto k w) one h in
+            let old : IsBefore m u = inside_before (subst (λ k. ValueBefore k b u) one p) in
+            let put : IsValue (m.put_of w u) c = subst (λ k. IsValue (k.put_of w u) c) one f in
+            by_text is (law.puts w u inside old) put (subst (λ t. IsValue t v) (sym (law.put_get w u inside old)) e)
+
+        kept : (v b c : Tree) → Puts S (text x) v (Some b) c → Keeps S (text x) b c
+        kept v b c (put_text {w = w} {m = k} at h e (value_before {u = u} g i) f) =
+            let one : k ≡ m = same_Some k m (sym at ∙ is) in
+            let inside : IsInto m w = subst (λ k. IsInto k w) one h in
+            let old : IsFrom m u = subst (λ k. IsFrom k u) one i in
+            let put : IsValue (m.put_of w (Some u)) c = subst (λ k. IsValue (k.put_of w (Some u)) c) one f in
+            keeps_text is g put (λ same.
+            let shown : m.get_of u ≡ w = same ∙ law.put_get w (Some u) inside old in
+            ap m.hidden_of (sym (law.get_put u old) ∙ ap (λ t. m.put_of t (Some u)) shown))

@@ -1,5 +1,5 @@
 -- Trees as finite maps.
-use Rattle.std.proofs.Common.{◌≡◌, true, false, Option, Some, None, is_some, refl, sym, ap, ◌∙◌}
+use Rattle.std.proofs.Common.{◌≡◌, true, false, List, [], ◌∷◌, Option, Some, None, is_some, refl, sym, ap, ◌∙◌}
 use Rattle.std.specs.List.{list_any}
 use Rattle.std.specs.Ordering.{eq_by_cmp}
 use Rattle.std.proofs.lemmas.Cmp.{tied_itself}
@@ -8,13 +8,13 @@ use Rattle.std.specs.FinMap.{find}
 use Rattle.std.specs.FinMap.Entries.{same_entries, is_some-find}
 use mathlib.Core.Bool.{true≢false}
 use Rattle.hm_tree.specs.Names.{Name, name_cmp}
-use Rattle.hm_tree.specs.Nodes.{Tree, edges, below}
+use Rattle.hm_tree.specs.Nodes.{Tree, edges, below, empty}
 use Rattle.hm_tree.specs.NodeLaws.{edges_sorted, same_edges, tree_unmarked}
 use Rattle.hm_tree.proofs.Sorted.{name_total, name_one}
 pub use Rattle.hm_tree.proofs.Parted.{edges-part, below-part}
 use Rattle.hm_terms.specs.Lenses.{Lens, Lenses, lens_at}
 use Rattle.hm_tree.specs.Parts.{Joins}
-use Rattle.hm_terms.specs.Parts.{names, IsEdge, IsNil, IsItem, head, tail}
+use Rattle.hm_terms.specs.Parts.{names, IsEdge, IsValue, IsNil, IsItem, head, tail}
 
 -- trees with the same children are equal
 pub same_children : (t u : Tree) → ((k : Name) → below k t ≡ below k u) → t ≡ u
@@ -60,6 +60,18 @@ one_edge n x y t e f = same_Some x y (sym (below-edge n x t e) ∙ below-edge n 
 
 pub edge_one : (n : Name) (x t u : Tree) → IsEdge n x t → IsEdge n x u → t ≡ u
 edge_one n x t u e f = same_edges t u (tree_unmarked t) (tree_unmarked u) (e ∙ sym f)
+
+-- the text of a value, and the value of a text
+first_name : List (Name × Tree) → Name
+first_name [] = []
+first_name (e ∷ es) = e.0
+
+pub one_value : (v w : Name) (t : Tree) → IsValue v t → IsValue w t → v ≡ w
+unfolding first_name
+one_value v w t e f = ap first_name (sym e ∙ f)
+
+pub same_value : (v : Name) (t u : Tree) → IsValue v t → IsValue v u → t ≡ u
+same_value v t u e f = edge_one v empty t u e f
 
 pub joined_one : (x y t u : Tree) → Joins x y t → Joins x y u → t ≡ u
 joined_one x y t u j i = same_children t u (λ k. j.all k ∙ sym (i.all k))

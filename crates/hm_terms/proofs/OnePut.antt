@@ -4,11 +4,12 @@ use Rattle.std.proofs.lemmas.Option.{same_Some, none-some}
 use Rattle.hm_tree.specs.Nodes.{Tree, with_edge}
 use Rattle.hm_tree.specs.Archives.{under}
 use Rattle.hm_tree.specs.Names.{Name}
+use Rattle.hm_text_lens.specs.Meanings.{TextMeaning}
 use Rattle.hm_terms.specs.Lenses.{Lens, items, Setting}
 use Rattle.hm_tree.specs.Parts.{Joins}
-use Rattle.hm_terms.specs.Parts.{IsItem, head, tail}
-use Rattle.hm_terms.specs.Put.{ShowsBefore, none_before, shown_before, MergedFrom, of_none, of_same, of_other, Puts, put_identity, put_sequence, put_constant, put_hoist, put_plunge, put_fork, put_each, put_among, put_call, put_copy, put_merge, put_items_none, put_items_more, put_concrete_has, put_concrete_none, put_view_has, put_view_none}
-use Rattle.hm_terms.proofs.Maps.{same_each, same_named, beside, one_edge, edge_one, joined_one, nil_one, item_one, one_head, one_tail, nil_item}
+use Rattle.hm_terms.specs.Parts.{IsItem, IsValue, head, tail}
+use Rattle.hm_terms.specs.Put.{ShowsBefore, none_before, shown_before, MergedFrom, of_none, of_same, of_other, ValueBefore, no_value_before, value_before, Puts, put_identity, put_sequence, put_constant, put_hoist, put_plunge, put_fork, put_each, put_among, put_call, put_copy, put_merge, put_text, put_items_none, put_items_more, put_concrete_has, put_concrete_none, put_view_has, put_view_none}
+use Rattle.hm_terms.proofs.Maps.{same_each, same_named, beside, one_edge, edge_one, joined_one, nil_one, item_one, one_head, one_tail, nil_item, one_value, same_value}
 use Rattle.hm_terms.proofs.OneShown.{one_shown}
 
 -- one tree stands under the second of two merged names
@@ -18,6 +19,11 @@ one_merged (of_same e f) (of_same g h) = refl
 one_merged (of_same {z = z} e f) (of_other {z = p} {w = w} g h d) = absurd (d (same_Some p w (sym g ∙ e ∙ sym f ∙ h)))
 one_merged (of_other {z = p} {w = w} g h d) (of_same {z = z} e f) = absurd (d (same_Some p w (sym g ∙ e ∙ sym f ∙ h)))
 one_merged (of_other {w = w} e f d) (of_other {w = v} g h k) = same_Some w v (sym f ∙ h)
+
+-- one value stands there before, whatever reads it
+one_value_before : {m n : TextMeaning} {b : Option Tree} {u v : Option Name} → ValueBefore m b u → ValueBefore n b v → u ≡ v
+one_value_before no_value_before no_value_before = refl
+one_value_before (value_before {b = b} {u = u} e h) (value_before {u = v} f i) = ap Some (one_value u v b e f)
 
 module _ (S : Setting) where
   pub one_before : {l : Lens} {b m n : Option Tree} → ShowsBefore S l b m → ShowsBefore S l b n → m ≡ n
@@ -59,5 +65,10 @@ module _ (S : Setting) where
   one_put (put_view_has {x = x} e p) (put_view_none f q) = absurd (none-some x (sym f ∙ e))
   one_put (put_view_none e p) (put_view_has {x = x} f q) = absurd (none-some x (sym e ∙ f))
   one_put (put_view_none e p) (put_view_none f q) = one_put p q
+  one_put (put_text {w = w} {m = m} {a = a} {c = c} {u = u} is h e p f) (put_text {w = w2} {m = n} {c = d} {u = u2} is2 i g q k) =
+      let one : m ≡ n = same_Some m n (sym is ∙ is2) in
+      let text : w ≡ w2 = one_value w w2 a e g in
+      let before : u ≡ u2 = one_value_before p q in
+      same_value (m.put_of w u) c d f (subst (λ t. IsValue t d) (sym (λ i. (one i).put_of (text i) (before i))) k)
   one_put (put_call {a = a} {b = b} e p) (put_call {c = d} f q) =
       one_put p (subst (λ l. Puts S l a b d) (same_Some _ _ (sym f ∙ e)) q)

@@ -4,9 +4,9 @@ use Rattle.std.proofs.lemmas.Option.{same_Some, none-some}
 use Rattle.hm_tree.specs.Nodes.{Tree, with_edge}
 use Rattle.hm_terms.specs.Lenses.{Lens, items, Setting}
 use Rattle.hm_tree.specs.Parts.{Joins}
-use Rattle.hm_terms.specs.Parts.{IsItem}
-use Rattle.hm_terms.specs.Shown.{Shows, by_identity, by_sequence, by_constant, by_hoist, by_plunge, by_fork, by_each, by_among, by_call, by_copy, by_merge, by_items_none, by_items_more, by_concrete_has, by_concrete_none, by_view_has, by_view_none}
-use Rattle.hm_terms.proofs.Maps.{same_each, same_named, beside, one_edge, edge_one, joined_one, nil_one, item_one, one_head, one_tail, nil_item}
+use Rattle.hm_terms.specs.Parts.{IsItem, IsValue}
+use Rattle.hm_terms.specs.Shown.{Shows, by_identity, by_sequence, by_constant, by_hoist, by_plunge, by_fork, by_each, by_among, by_call, by_copy, by_merge, by_text, by_items_none, by_items_more, by_concrete_has, by_concrete_none, by_view_has, by_view_none}
+use Rattle.hm_terms.proofs.Maps.{same_each, same_named, beside, one_edge, edge_one, joined_one, nil_one, item_one, one_head, one_tail, nil_item, one_value, same_value}
 
 module _ (S : Setting) where
   -- a lens shows at most one tree
@@ -43,5 +43,9 @@ module _ (S : Setting) where
   one_shown (by_view_has {x = x} e p) (by_view_none f q) = absurd (none-some x (sym f ∙ e))
   one_shown (by_view_none e p) (by_view_has {x = x} f q) = absurd (none-some x (sym e ∙ f))
   one_shown (by_view_none e p) (by_view_none f q) = one_shown p q
+  one_shown (by_text {v = v} {m = m} {c = c} {a = a} is h e f) (by_text {v = w} {m = n} {a = b} is2 i g k) =
+      let one : m ≡ n = same_Some m n (sym is ∙ is2) in
+      let text : v ≡ w = one_value v w c e g in
+      same_value (m.get_of v) a b f (subst (λ t. IsValue t b) (sym ((λ i. (one i).get_of (text i)))) k)
   one_shown (by_call {c = c} {v = v} e p) (by_call {v = w} f q) =
       one_shown p (subst (λ l. Shows S l c w) (same_Some _ _ (sym f ∙ e)) q)

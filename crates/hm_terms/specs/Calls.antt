@@ -2,7 +2,7 @@
 use Rattle.std.specs.Prelude.{◌≡◌, ◌⊎◌, Bool, true, false, ◌||◌, Some}
 use Rattle.hm_tree.specs.Names.{Name}
 use Rattle.hm_schema.specs.Values.{Names}
-use Rattle.hm_terms.specs.Lenses.{Lens, Lenses, sequence, fork, each, among, items, on_concrete, on_view, call, lens_at, Setting, body_of}
+use Rattle.hm_terms.specs.Lenses.{Lens, Lenses, sequence, fork, each, among, items, on_concrete, on_view, call, lens_at, Definitions, body_of}
 
 -- a lens calls a definition: whether the call stands inside a sequence, and whether it stands inside a lens on the children
 -- of a tree or on the items of a list
@@ -23,15 +23,15 @@ pub data Calls : Lens → Bool → Bool → Name → Type 0 where
 
 -- a way of calls from one definition to another, which may pass a definition more than once: whether some call on it stands
 -- inside a sequence, and whether some call stands inside a lens on children or items
-pub data Way (S : Setting) : Name → Name → Bool → Bool → Type 0 where
-  one_call : {n m : Name} {l : Lens} {s c : Bool} → body_of S n ≡ Some l → Calls l s c m → Way S n m s c
-  more_calls : {n m o : Name} {l : Lens} {s c t d : Bool} → body_of S n ≡ Some l → Calls l s c m → Way S m o t d
-      → Way S n o (s || t) (c || d)
+pub data Way (ds : Definitions) : Name → Name → Bool → Bool → Type 0 where
+  one_call : {n m : Name} {l : Lens} {s c : Bool} → body_of ds n ≡ Some l → Calls l s c m → Way ds n m s c
+  more_calls : {n m o : Name} {l : Lens} {s c t d : Bool} → body_of ds n ≡ Some l → Calls l s c m → Way ds m o t d
+      → Way ds n o (s || t) (c || d)
 
 -- a definition is in a bad cycle where it reaches itself with a call inside a sequence on the way, or with none inside a
 -- lens on children or items: then it could go on without coming to a smaller tree
-pub record IsInBadCycle (S : Setting) (n : Name) : Type 0 where
+pub record IsInBadCycle (ds : Definitions) (n : Name) : Type 0 where
   pub sequence : Bool
   pub children : Bool
-  pub way : Way S n n sequence children
+  pub way : Way ds n n sequence children
   pub bad : (sequence ≡ true) ⊎ (children ≡ false)

@@ -4,9 +4,11 @@ use Rattle.std.specs.FinSet.{contains}
 use Rattle.hm_tree.specs.Names.{Name}
 use Rattle.hm_tree.specs.Nodes.{Tree, below}
 use Rattle.hm_schema.specs.Values.{Names}
-use Rattle.hm_terms.specs.Lenses.{Lens, Lenses, identity, sequence, constant, hoist, plunge, fork, each, among, copy, merge, items, on_concrete, on_view, call, lens_at, Setting, body_of}
+use Rattle.hm_text_lens.specs.Meanings.{TextMeaning}
+use Rattle.hm_terms.specs.Lenses.{Lens, Lenses, identity, sequence, constant, hoist, plunge, fork, each, among, copy, merge, items, on_concrete, on_view, text, call, lens_at, Setting, body_of}
+use Rattle.hm_text_lens.specs.Naming.{first_named}
 use Rattle.hm_tree.specs.Parts.{part}
-use Rattle.hm_terms.specs.Parts.{IsNil, IsItem}
+use Rattle.hm_terms.specs.Parts.{IsNil, IsItem, IsValue}
 use Rattle.hm_terms.specs.Shown.{Shows}
 
 pub data Keeps (S : Setting) : Lens → Tree → Tree → Type 0 where
@@ -50,4 +52,7 @@ pub data Keeps (S : Setting) : Lens → Tree → Tree → Type 0 where
       → Keeps S (on_view n m l k) c d
   keeps_view_in : {n m : Name} {l k : Lens} {c d y : Tree} → below n c ≡ None → below n d ≡ Some y → Keeps S (on_view n m l k) c d
   keeps_view_out : {n m : Name} {l k : Lens} {c d x : Tree} → below n c ≡ Some x → below n d ≡ None → Keeps S (on_view n m l k) c d
-  keeps_call : {n : Name} {l : Lens} {c d : Tree} → body_of S n ≡ Some l → Keeps S l c d → Keeps S (call n) c d
+  -- what a text hides, where both show the same
+  keeps_text : {x u v : Name} {m : TextMeaning} {c d : Tree} → first_named x S.texts ≡ Some m → IsValue u c → IsValue v d
+      → (m.get_of u ≡ m.get_of v → m.hidden_of u ≡ m.hidden_of v) → Keeps S (text x) c d
+  keeps_call : {n : Name} {l : Lens} {c d : Tree} → body_of S.definitions n ≡ Some l → Keeps S l c d → Keeps S (call n) c d

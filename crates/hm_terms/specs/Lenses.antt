@@ -5,6 +5,7 @@ use Rattle.std.specs.FinMap.{find}
 use Rattle.std.specs.Ordering.{eq_by_cmp}
 use Rattle.hm_tree.specs.Names.{Name, name_cmp}
 use Rattle.hm_tree.specs.Nodes.{Tree}
+use Rattle.hm_text_lens.specs.Meanings.{TextMeaning}
 use Rattle.hm_schema.specs.Values.{Names}
 use Rattle.hm_schema.specs.declared.node.NodeId.{NodeId}
 
@@ -30,6 +31,8 @@ mutual
     on_concrete : Name → Lens → Lens → Lens
     -- the same, and the view tells by another name which of them showed it
     on_view : Name → Name → Lens → Lens → Lens
+    -- the text of a value through the text lens of this name
+    text : Name → Lens
     -- the body of a definition
     call : Name → Lens
 
@@ -50,9 +53,15 @@ pub record DefinitionValue : Type 0 where
   pub view : NodeId
   pub body : Lens
 
-pub record Setting : Type 0 where
-  pub definitions : List (Name × DefinitionValue)
+-- definitions in file order
+abbrev pub Definitions : Type 0
+Definitions = List (Name × DefinitionValue)
 
 -- the body of a definition, the first of its name
-abbrev pub body_of : Setting → Name → Option Lens
-body_of s n = option_map (λ (d : DefinitionValue). d.body) (find name_cmp n s.definitions)
+abbrev pub body_of : Definitions → Name → Option Lens
+body_of ds n = option_map (λ (d : DefinitionValue). d.body) (find name_cmp n ds)
+
+-- what lenses are read in: the text lenses that they may name, of which the first of a name counts, and the definitions
+pub record Setting : Type 0 where
+  pub texts : List TextMeaning
+  pub definitions : Definitions

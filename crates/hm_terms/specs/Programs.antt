@@ -2,10 +2,11 @@
 use Rattle.std.specs.Prelude.{List, [], ◌∷◌, map}
 use Rattle.hm_tree.specs.Names.{Name}
 use Rattle.hm_schema.specs.Values.{OptionsValue, options_value}
-use Rattle.hm_terms.specs.declared.term.Term.{Term, Id, Seq', Const, Hoist, Plunge, Fork', Map', Each', List', Copy, Merge, ByConcrete', ByView', Call, Row_of-Term-Each-0-2, end_of-Term-Each-0-2, more_of-Term-Each-0-2}
+use Rattle.hm_text_lens.specs.Meanings.{TextMeaning}
+use Rattle.hm_terms.specs.declared.term.Term.{Term, Id, Seq', Const, Hoist, Plunge, Fork', Map', Each', List', Copy, Merge, ByConcrete', ByView', Text, Call, Row_of-Term-Each-0-2, end_of-Term-Each-0-2, more_of-Term-Each-0-2}
 use Rattle.hm_terms.specs.declared.term.Definition.{Definition}
 use Rattle.hm_terms.specs.declared.term.Program.{Program}
-use Rattle.hm_terms.specs.Lenses.{Lens, Lenses, identity, sequence, constant, hoist, plunge, fork, each, among, none, also, items, copy, merge, on_concrete, on_view, call, DefinitionValue, Setting}
+use Rattle.hm_terms.specs.Lenses.{Lens, Lenses, identity, sequence, constant, hoist, plunge, fork, each, among, none, also, items, copy, merge, on_concrete, on_view, text, call, DefinitionValue, Setting}
 
 abbrev mutual
   pub lens_of : Term → Lens
@@ -22,6 +23,7 @@ abbrev mutual
   lens_of (Merge m n) = merge m n
   lens_of (ByConcrete' n p l q k) = on_concrete n (lens_of l) (lens_of k)
   lens_of (ByView' n m p l q k) = on_view n m (lens_of l) (lens_of k)
+  lens_of (Text x) = text x
   lens_of (Call n) = call n
 
   pub row_of : {m : _} → Row_of-Term-Each-0-2 m → Lenses
@@ -53,5 +55,5 @@ program_value p = record {
 }
 
 -- what the lenses of a program are read in
-abbrev pub setting_of : ProgramValue → Setting
-setting_of p = record { definitions = p.definitions }
+abbrev pub setting_of : List TextMeaning → ProgramValue → Setting
+setting_of texts p = record { texts = texts; definitions = p.definitions }

@@ -6,9 +6,11 @@ use Rattle.hm_tree.specs.Names.{Name}
 use Rattle.hm_tree.specs.Nodes.{Tree, below, with_edge, without_edge}
 use Rattle.hm_tree.specs.Archives.{under}
 use Rattle.hm_schema.specs.Values.{Names}
-use Rattle.hm_terms.specs.Lenses.{Lens, Lenses, identity, sequence, constant, hoist, plunge, fork, each, among, copy, merge, items, on_concrete, on_view, call, lens_at, Setting, body_of}
+use Rattle.hm_text_lens.specs.Meanings.{TextMeaning, IsFrom, IsInto}
+use Rattle.hm_terms.specs.Lenses.{Lens, Lenses, identity, sequence, constant, hoist, plunge, fork, each, among, copy, merge, items, on_concrete, on_view, text, call, lens_at, Setting, body_of}
+use Rattle.hm_text_lens.specs.Naming.{first_named}
 use Rattle.hm_tree.specs.Parts.{part, Joins}
-use Rattle.hm_terms.specs.Parts.{names, IsEdge, IsNil, IsItem, IsList, head, tail, with_name, without_name}
+use Rattle.hm_terms.specs.Parts.{names, IsEdge, IsNil, IsItem, IsList, IsValue, head, tail, with_name, without_name}
 use Rattle.hm_terms.specs.Shown.{Shows}
 
 -- what a lens shows of the tree from before, where there is one
@@ -26,6 +28,11 @@ pub data MergedFrom (m n : Name) (x : Tree) : Option Tree → Tree → Type 0 wh
   of_none : MergedFrom m n x None x
   of_same : {b z : Tree} → below m b ≡ Some z → below n b ≡ Some z → MergedFrom m n x (Some b) x
   of_other : {b z w : Tree} → below m b ≡ Some z → below n b ≡ Some w → ¬ (z ≡ w) → MergedFrom m n x (Some b) w
+
+-- the text of the value from before, where there is one: it may be read by a text lens
+pub data ValueBefore (m : TextMeaning) : Option Tree → Option Name → Type 0 where
+  no_value_before : ValueBefore m None None
+  value_before : {b : Tree} {u : Name} → IsValue u b → IsFrom m u → ValueBefore m (Some b) (Some u)
 
 -- a lens puts a view a, with a tree b from before or with none, as a tree c
 pub data Puts (S : Setting) : Lens → Tree → Option Tree → Tree → Type 0 where
@@ -65,4 +72,7 @@ pub data Puts (S : Setting) : Lens → Tree → Option Tree → Tree → Type 0 
       → Puts S (on_view n m l k) a b c
   put_view_none : {n m : Name} {l k : Lens} {a c : Tree} {b : Option Tree} → below m a ≡ None → Puts S k a (without_name n b) c
       → Puts S (on_view n m l k) a b c
-  put_call : {n : Name} {l : Lens} {a c : Tree} {b : Option Tree} → body_of S n ≡ Some l → Puts S l a b c → Puts S (call n) a b c
+  -- the value through the text lens, with the value from before
+  put_text : {x w : Name} {m : TextMeaning} {a c : Tree} {b : Option Tree} {u : Option Name} → first_named x S.texts ≡ Some m → IsInto m w → IsValue w a
+      → ValueBefore m b u → IsValue (m.put_of w u) c → Puts S (text x) a b c
+  put_call : {n : Name} {l : Lens} {a c : Tree} {b : Option Tree} → body_of S.definitions n ≡ Some l → Puts S l a b c → Puts S (call n) a b c

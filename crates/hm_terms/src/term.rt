@@ -45,6 +45,8 @@ pub enum Term {
         yes: Box<Term>,
         no: Box<Term>,
     },
+    /// The text of a value through the text lens of this name.
+    Text(Name),
     /// The body of the definition of this name.
     Call(Name),
 }
