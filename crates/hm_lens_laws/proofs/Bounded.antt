@@ -58,7 +58,7 @@ module _ (S : Setting) where
     }
 
   -- ---- a call fits where the body does
-  module _ (n : Name) (l : Lens) (is : body_of S n ≡ Some l) (d : ℕ) (C A : Tree → Type 0) (f : FitsTo d S l C A) where
+  module _ (n : Name) (l : Lens) (is : body_of S.definitions n ≡ Some l) (d : ℕ) (C A : Tree → Type 0) (f : FitsTo d S l C A) where
     pub fits_call : FitsTo d S (call n) C A
     fits_call = record {
       shows = λ c low h. let one = f.shows c low h in shown_one S (call n) c one.tree one.inside (by_call is one.is);

@@ -8,7 +8,7 @@ use Rattle.std.proofs.lemmas.Cmp.{tied_itself}
 use Rattle.hm_tree.specs.Names.{Name, name_cmp}
 use Rattle.hm_tree.proofs.Sorted.{name_total}
 use Rattle.hm_schema.proofs.NamesOf.{tie_one}
-use Rattle.hm_terms.specs.Lenses.{Lens, Lenses, identity, sequence, constant, hoist, plunge, fork, each, among, items, copy, merge, on_concrete, on_view, call, none, also, lens_at}
+use Rattle.hm_terms.specs.Lenses.{Lens, Lenses, identity, sequence, constant, hoist, plunge, fork, each, among, items, copy, merge, on_concrete, on_view, text, call, none, also, lens_at}
 use Rattle.hm_terms.specs.Calls.{Calls, calls_itself, calls_first, calls_second, calls_inside, calls_outside, calls_each, calls_among, calls_items, calls_where_it_has, calls_where_it_lacks, calls_where_it_showed, calls_where_it_did_not}
 
 -- ---- an element of a list
@@ -80,6 +80,7 @@ abbrev mutual
   calls_of (items l) = map in_children (calls_of l)
   calls_of (copy m n) = []
   calls_of (merge m n) = []
+  calls_of (text x) = []
   calls_of (on_concrete m l k) = calls_of l ++ calls_of k
   calls_of (on_view m n l k) = calls_of l ++ calls_of k
   calls_of (call n) = call_of n ∷ []
@@ -176,6 +177,7 @@ mutual
   is_call (items l) c h = moved (items l) in_children c (calls_of l) h (λ x i. calls_items (is_call l x i))
   is_call (copy m n) c h = elim h [ ]
   is_call (merge m n) c h = elim h [ ]
+  is_call (text x) c h = elim h [ ]
   is_call (on_concrete m l k) c h =
       elim (in_either (calls_of l) h) [ inl a ↦ calls_where_it_has (is_call l c a) | inr b ↦ calls_where_it_lacks (is_call k c b) ]
   is_call (on_view m n l k) c h =

@@ -7,7 +7,7 @@ use Rattle.std.specs.FinMap.{find}
 use Rattle.std.proofs.lemmas.Option.{none-some}
 use Rattle.hm_tree.specs.Names.{Name, name_cmp}
 use Rattle.hm_schema.proofs.NamesOf.{tie_one}
-use Rattle.hm_terms.specs.Lenses.{Lens, Setting, DefinitionValue, body_of}
+use Rattle.hm_terms.specs.Lenses.{Lens, Definitions, DefinitionValue, body_of}
 use Rattle.hm_terms.specs.Calls.{Calls}
 use Rattle.hm_lens_laws.proofs.CallLists.{IsIn, at_head, in_rest, head_or_rest, in_map, from_map, Call, call_of, calls_of, listed, is_call}
 
@@ -21,9 +21,9 @@ abbrev pub is_open : Call → Bool
 is_open c = not c.sequence && not c.children
 
 -- a definition has a body, and this calls another one
-pub record HasCall (S : Setting) (n : Name) (s c : Bool) (m : Name) : Type 0 where
+pub record HasCall (ds : Definitions) (n : Name) (s c : Bool) (m : Name) : Type 0 where
   pub body : Lens
-  pub is : body_of S n ≡ Some body
+  pub is : body_of ds n ≡ Some body
   pub calls : Calls body s c m
 
 module _ {X : Type 0} (p : X → Bool) where
@@ -47,24 +47,24 @@ module _ {X : Type 0} (p : X → Bool) where
       go true h = in_rest h
       go false h = h
 
-module _ (S : Setting) where
+module _ (ds : Definitions) where
   abbrev pub defined : List Name
-  defined = map (λ d. d.0) S.definitions
+  defined = map (λ d. d.0) ds
 
   abbrev pub next : Name → List Name
-  next n = map (λ c. c.name) (calls_if (body_of S n))
+  next n = map (λ c. c.name) (calls_if (body_of ds n))
 
   abbrev pub open_next : Name → List Name
-  open_next n = map (λ c. c.name) (filter is_open (calls_if (body_of S n)))
+  open_next n = map (λ c. c.name) (filter is_open (calls_if (body_of ds n)))
 
-  pub call_there : (n : Name) (c : Call) → IsIn c (calls_if (body_of S n)) → HasCall S n c.sequence c.children c.name
-  call_there n c h = go (body_of S n) refl h
+  pub call_there : (n : Name) (c : Call) → IsIn c (calls_if (body_of ds n)) → HasCall ds n c.sequence c.children c.name
+  call_there n c h = go (body_of ds n) refl h
     where
-      go : (b : Option Lens) → body_of S n ≡ b → IsIn c (calls_if b) → HasCall S n c.sequence c.children c.name
+      go : (b : Option Lens) → body_of ds n ≡ b → IsIn c (calls_if b) → HasCall ds n c.sequence c.children c.name
       go None e h = elim h [ ]
       go (Some l) e h = record { body = l; is = e; calls = is_call l c h }
 
-  pub there_call : (n m : Name) (s c : Bool) → HasCall S n s c m → IsIn (record { sequence = s; children = c; name = m }) (calls_if (body_of S n))
+  pub there_call : (n m : Name) (s c : Bool) → HasCall ds n s c m → IsIn (record { sequence = s; children = c; name = m }) (calls_if (body_of ds n))
   there_call n m s c h = subst (λ b. IsIn (record { sequence = s; children = c; name = m }) (calls_if b)) (sym h.is) (listed h.calls)
 
   is_defined : (es : List (Name × DefinitionValue)) (n : Name) (d : DefinitionValue) → find name_cmp n es ≡ Some d → IsIn n (map (λ d. d.0) es)
@@ -76,40 +76,40 @@ module _ (S : Setting) where
       go true t e rest = subst (λ k. IsIn k (f.0 ∷ map (λ d. d.0) es)) (sym (tie_one n f.0 t)) at_head
       go false t e rest = in_rest (rest e)
 
-  pub has_body : (n : Name) (l : Lens) → body_of S n ≡ Some l → IsIn n defined
-  has_body n l e = go (find name_cmp n S.definitions) refl e
+  pub has_body : (n : Name) (l : Lens) → body_of ds n ≡ Some l → IsIn n defined
+  has_body n l e = go (find name_cmp n ds) refl e
     where
-      go : (d : Option DefinitionValue) → find name_cmp n S.definitions ≡ d → option_map (λ (d : DefinitionValue). d.body) d ≡ Some l
-          → IsIn n (map (λ d. d.0) S.definitions)
+      go : (d : Option DefinitionValue) → find name_cmp n ds ≡ d → option_map (λ (d : DefinitionValue). d.body) d ≡ Some l
+          → IsIn n (map (λ d. d.0) ds)
       go None f e = absurd (none-some l e)
-      go (Some d) f e = is_defined S.definitions n d f
+      go (Some d) f e = is_defined ds n d f
 
   -- what a list of called definitions says
-  pub called : (n m : Name) → IsIn m (next n) → (s : Bool) × (c : Bool) × HasCall S n s c m
+  pub called : (n m : Name) → IsIn m (next n) → (s : Bool) × (c : Bool) × HasCall ds n s c m
   called n m h =
-      let x = from_map (λ (c : Call). c.name) (calls_if (body_of S n)) h in
-      (x.0.sequence, x.0.children, subst (λ m. HasCall S n x.0.sequence x.0.children m) (sym x.1) (call_there n x.0 x.2))
+      let x = from_map (λ (c : Call). c.name) (calls_if (body_of ds n)) h in
+      (x.0.sequence, x.0.children, subst (λ m. HasCall ds n x.0.sequence x.0.children m) (sym x.1) (call_there n x.0 x.2))
 
-  pub calls_next : (n m : Name) (s c : Bool) → HasCall S n s c m → IsIn m (next n)
+  pub calls_next : (n m : Name) (s c : Bool) → HasCall ds n s c m → IsIn m (next n)
   calls_next n m s c h = in_map (λ (c : Call). c.name) (there_call n m s c h)
 
-  pub called_open : (n m : Name) → IsIn m (open_next n) → HasCall S n false false m
+  pub called_open : (n m : Name) → IsIn m (open_next n) → HasCall ds n false false m
   called_open n m h =
-      let x = from_map (λ (c : Call). c.name) (filter is_open (calls_if (body_of S n))) h in
-      go x.0 x.1 (from_filter is_open x.0 (calls_if (body_of S n)) x.2)
+      let x = from_map (λ (c : Call). c.name) (filter is_open (calls_if (body_of ds n))) h in
+      go x.0 x.1 (from_filter is_open x.0 (calls_if (body_of ds n)) x.2)
     where
       neither : (a b : Bool) → (not a && not b) ≡ true → (a ≡ false) × (b ≡ false)
       neither false false e = (refl, refl)
       neither true b e = absurd (true≢false (sym e))
       neither false true e = absurd (true≢false (sym e))
 
-      go : (c : Call) → m ≡ c.name → IsIn c (calls_if (body_of S n)) × (is_open c ≡ true) → HasCall S n false false m
+      go : (c : Call) → m ≡ c.name → IsIn c (calls_if (body_of ds n)) × (is_open c ≡ true) → HasCall ds n false false m
       go c e h =
           let f = neither c.sequence c.children h.1 in
-          subst (λ m. HasCall S n false false m) (sym e) (subst (λ s. HasCall S n s false c.name) f.0
-          (subst (λ b. HasCall S n c.sequence b c.name) f.1 (call_there n c h.0)))
+          subst (λ m. HasCall ds n false false m) (sym e) (subst (λ s. HasCall ds n s false c.name) f.0
+          (subst (λ b. HasCall ds n c.sequence b c.name) f.1 (call_there n c h.0)))
 
-  pub calls_open : (n m : Name) → HasCall S n false false m → IsIn m (open_next n)
+  pub calls_open : (n m : Name) → HasCall ds n false false m → IsIn m (open_next n)
   calls_open n m h = in_map (λ (c : Call). c.name) (in_filter is_open (call_of m) (there_call n m false false h) refl)
 
   pub next_known : (n m : Name) → IsIn m (next n) → IsIn n defined
