@@ -23,3 +23,4 @@ pub mod Tidied
 pub mod Same
 pub mod Plain
 pub mod SameSchemas
+pub mod Values

@@ -7,3 +7,4 @@ pub mod Merging
 pub mod Copying
 pub mod ListNodes
 pub mod Plain
+pub mod Values
