@@ -3,7 +3,8 @@ use Rattle.std.proofs.Common.{◌≡◌, ◌<◌, ◌||◌, ℕ, Bool, true, fal
 use Rattle.std.specs.Ordering.{eq_by_cmp}
 use Rattle.std.proofs.lemmas.Option.{none-some, same_Some}
 use Rattle.hm_tree.specs.Names.{Name, name_cmp}
-use Rattle.hm_terms.specs.Lenses.{Lens, Lenses, none, also, identity, sequence, constant, plunge, fork, each, among, items, copy, merge, on_concrete, on_view, call, lens_at, Setting}
+use Rattle.hm_terms.specs.Lenses.{Lens, Lenses, none, also, identity, sequence, constant, plunge, fork, each, among, items, copy, merge, on_concrete, on_view, text, call, lens_at, Setting}
+use Rattle.hm_tree.specs.declared.class.Class.{Class}
 use Rattle.hm_terms.specs.Calls.{Calls, calls_itself, calls_first, calls_second, calls_inside, calls_outside, calls_each, calls_among, calls_items, calls_where_it_has, calls_where_it_lacks, calls_where_it_showed, calls_where_it_did_not}
 use Rattle.hm_terms.proofs.Laws.{fits_identity, fits_sequence}
 use Rattle.hm_lens_laws.specs.Bounded.{FitsTo}
@@ -13,13 +14,14 @@ use Rattle.hm_typing.specs.Forms.{Form, named}
 use Rattle.hm_typing.specs.Members.{Member}
 use Rattle.hm_typing.specs.Texts.{HasTexts, HaveTexts}
 use Rattle.hm_typing.specs.Sound.{IsSound}
-use Rattle.hm_typing.specs.Typing.{Types, Goes, goes_identity, goes_sequence, goes_constant, goes_hoist, goes_plunge, goes_fork, goes_each, goes_among, goes_list, goes_items, goes_copy, goes_merge, goes_concrete, goes_view, goes_call}
+use Rattle.hm_typing.specs.Typing.{Types, Goes, goes_identity, goes_sequence, goes_constant, goes_hoist, goes_plunge, goes_fork, goes_each, goes_among, goes_list, goes_items, goes_copy, goes_merge, goes_concrete, goes_view, goes_text, goes_call}
 use Rattle.hm_typing.proofs.SameMembers.{sound_same}
 use Rattle.hm_typing.proofs.SoundForms.{under_sound}
 use Rattle.hm_typing.proofs.SoundViews.{inside_sound, outside_sound, with_sound, without_sound}
 use Rattle.hm_typing.proofs.ListForms.{list_first_sound, items_first_sound}
 use Rattle.hm_typing.proofs.SoundGoes.{AreSoundTypes, goes_sound}
 use Rattle.hm_typing.proofs.ForkFits.{fits_alike, fork_fits, concrete_fits, view_fits, constant_fits, hoist_fits, plunge_fits, copied_fits, hidden_fits}
+use Rattle.hm_typing.proofs.TextFits.{IsTextBetween, text_fits}
 use Rattle.hm_typing.proofs.ChildrenFits.{each_fits, among_fits, list_fits, some_items_fits}
 
 -- a named lens has texts where all of them do
@@ -63,10 +65,10 @@ module _ (steps rank : Name → ℕ) (most low : ℕ) (s c : Bool) where
   falls_itself n a = subst (λ b. Falls steps rank most low b c n) (or_false s)
       (subst (λ b. Falls steps rank most low (s || false) b n) (or_false c) (a.each false false n calls_itself))
 
-module _ (T : Types) (S : Setting) (types : AreSoundTypes T) where
+module _ (T : Types) (S : Setting) (types : AreSoundTypes T) (texts : (x : Name) (c d : Class) → T.texts x ≡ Some (c, d) → IsTextBetween S x c d) where
   -- a call fits up to a depth, wherever it is declared
   abbrev pub CallFits : Name → ℕ → Type 0
-  CallFits n m = (x v : Form) → T n ≡ Some (x, v) → FitsTo m S (call n) (Member x) (Member v)
+  CallFits n m = (x v : Form) → T.declared n ≡ Some (x, v) → FitsTo m S (call n) (Member x) (Member v)
 
   module _ (steps rank : Name → ℕ) (most low d : ℕ)
       (calls : (s c : Bool) (m : ℕ) (k : Name) → IsAsked s c d m → Falls steps rank most low s c k → CallFits k m) where
@@ -118,6 +120,8 @@ module _ (T : Types) (S : Setting) (types : AreSoundTypes T) where
         (view_fits S m k u n b h o l j x y one two w i is (goes_sound T types f (with_sound k u n b h)) (goes_sound T types g (without_sound k u n b h))
         (body_fits f (with_sound k u n b h) t.0 s c (falls_inside steps rank most low s c (on_view k o l j) l (λ t e n i. calls_where_it_showed i) a) m r)
         (body_fits g (without_sound k u n b h) t.1 s c (falls_inside steps rank most low s c (on_view k o l j) j (λ t e n i. calls_where_it_did_not i) a) m r))
+    body_fits (goes_text {x = x} {c = i} {d = o} {u = u} {n = n} is a e) h t s c b m r =
+        subst (λ v. FitsTo m S (text x) (Member u) (Member v)) (sym e) (text_fits S m x i o (texts x i o is) u n a h)
     body_fits (goes_call {n = n} {u = u} {v = v} {x = x} is same) h t s c a m r =
         fits_alike S m (call n) (Member x) (Member v) (Member u) (Member v)
         (sound_same u x (record { same = same; first = h; second = (types n x v is).0 })) (record { into = λ t h. h; from = λ t h. h })

@@ -47,8 +47,8 @@ use Rattle.hm_typing.proofs.TreeForms.{exactly_member}
 pub fits_alike : (S : Setting) (d : ℕ) (l : Lens) (C A C2 A2 : Tree → Type 0) → Alike C2 C → Alike A2 A → FitsTo d S l C A → FitsTo d S l C2 A2
 fits_alike S d l C A C2 A2 c a f = fits_same S d l C A C2 A2 c.into c.from a.into a.from f
 
-split_alike : (p : Name → Bool) (C C1 C2 D D1 D2 : Tree → Type 0) → IsSplitSet p C C1 C2 → Alike D C → Alike D1 C1 → Alike D2 C2 → IsSplitSet p D D1 D2
-split_alike p C C1 C2 D D1 D2 s c c1 c2 = record {
+split_alike : (p : Name → Bool) (C C1 C2 B B1 B2 : Tree → Type 0) → IsSplitSet p C C1 C2 → Alike B C → Alike B1 C1 → Alike B2 C2 → IsSplitSet p B B1 B2
+split_alike p C C1 C2 B B1 B2 s c c1 c2 = record {
   inside = λ t h. c1.from (part p t) (s.inside t (c.into t h));
   outside = λ t h. c2.from (part (λ n. not (p n)) t) (s.outside t (c.into t h));
   whole = λ t h g. c.from t (s.whole t (c1.into (part p t) h) (c2.into (part (λ n. not (p n)) t) g));
@@ -56,8 +56,8 @@ split_alike p C C1 C2 D D1 D2 s c c1 c2 = record {
   in_two = λ t h. s.in_two t (c2.into t h);
 }
 
-branch_alike : (m : Name) (C C1 C2 D D1 D2 : Tree → Type 0) → IsBranched m C C1 C2 → Alike D C → Alike D1 C1 → Alike D2 C2 → IsBranched m D D1 D2
-branch_alike m C C1 C2 D D1 D2 b c c1 c2 = record {
+branch_alike : (m : Name) (C C1 C2 B B1 B2 : Tree → Type 0) → IsBranched m C C1 C2 → Alike B C → Alike B1 C1 → Alike B2 C2 → IsBranched m B B1 B2
+branch_alike m C C1 C2 B B1 B2 b c c1 c2 = record {
   side = λ t h. side t (b.side t (c.into t h));
   one = λ t h. c.from t (b.one t (c1.into t h));
   two = λ t h. c.from t (b.two t (c2.into t h));
@@ -65,7 +65,7 @@ branch_alike m C C1 C2 D D1 D2 b c c1 c2 = record {
   two_lacks = λ t h. b.two_lacks t (c2.into t h);
 }
   where
-    side : (t : Tree) → Side m C C1 C2 t → Side m D D1 D2 t
+    side : (t : Tree) → Side m C C1 C2 t → Side m B B1 B2 t
     side t (with_it e h) = with_it e (c1.from t h)
     side t (without_it e h) = without_it e (c2.from t h)
 

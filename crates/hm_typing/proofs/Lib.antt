@@ -8,6 +8,7 @@ pub mod ListForms
 pub mod SoundGoes
 mod ForkFits
 mod ChildrenFits
+pub mod TextFits
 pub mod BodyFits
 pub mod TypedFits
 pub mod Determined

@@ -3,11 +3,11 @@ use Rattle.std.proofs.Common.{◌≡◌, ℕ, Bool, true, false, cond, Some, sub
 use Rattle.std.specs.Ordering.{eq_by_cmp}
 use Rattle.std.proofs.lemmas.Option.{same_Some, none-some}
 use Rattle.hm_tree.specs.Names.{Name, name_cmp}
-use Rattle.hm_terms.specs.Lenses.{Lens, Lenses, identity, sequence, constant, hoist, plunge, fork, each, among, items, copy, merge, on_concrete, on_view, call, none, also, lens_at}
+use Rattle.hm_terms.specs.Lenses.{Lens, Lenses, identity, sequence, constant, hoist, plunge, fork, each, among, items, copy, merge, on_concrete, on_view, text, call, none, also, lens_at}
 use Rattle.hm_typing.specs.Forms.{Form}
 use Rattle.hm_typing.specs.Typing.{Types, Goes}
 use Rattle.hm_typing.specs.Faults.{At, Faults}
-use Rattle.hm_typing.proofs.OneFault.{Single, identity_single, plunge_single, constant_single, hoist_single, copy_single, merge_single, call_single, each_single, items_single, sequence_single, fork_single, concrete_single, view_single}
+use Rattle.hm_typing.proofs.OneFault.{Single, identity_single, plunge_single, constant_single, hoist_single, copy_single, merge_single, text_single, call_single, each_single, items_single, sequence_single, fork_single, concrete_single, view_single}
 use Rattle.hm_typing.proofs.OneAmong.{among_single}
 
 module _ (T : Types) where
@@ -31,6 +31,7 @@ module _ (T : Types) where
     single (merge m o) = merge_single T m o
     single (on_concrete m l k) = concrete_single T l (single l) k (single k) m
     single (on_view m o l k) = view_single T l (single l) k (single k) m o
+    single (text x) = text_single T x
     single (call m) = call_single T m
 
     singles : (ls : Lenses) (k : Name) (l : Lens) → lens_at k ls ≡ Some l → Single T l

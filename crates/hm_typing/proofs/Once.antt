@@ -8,11 +8,12 @@ use Rattle.hm_schema.specs.Values.{NodeOver}
 use Rattle.hm_terms.specs.Lenses.{Lens, Lenses, lens_at}
 use Rattle.hm_node_laws.specs.Branching.{node_with, node_without}
 use Rattle.hm_node_laws.specs.Copying.{hidden_node}
+use Rattle.hm_node_laws.specs.Values.{with_class}
 use Rattle.hm_node_laws.specs.Joining.{IsJoined}
 use Rattle.hm_node_laws.specs.Merging.{IsMerged}
 use Rattle.hm_node_laws.specs.Copying.{IsCopied}
 use Rattle.hm_typing.specs.Forms.{Form, Label, Step, named, others, under, node_of, formed, can_be}
-use Rattle.hm_typing.specs.Typing.{Types, Goes, goes_identity, goes_sequence, goes_constant, goes_hoist, goes_plunge, goes_fork, goes_each, goes_among, goes_list, goes_items, goes_copy, goes_merge, goes_concrete, goes_view, goes_call, list_form, items_form, IsPlain, inside_form, outside_form}
+use Rattle.hm_typing.specs.Typing.{Types, Goes, goes_identity, goes_sequence, goes_constant, goes_hoist, goes_plunge, goes_fork, goes_each, goes_among, goes_list, goes_items, goes_copy, goes_merge, goes_text, goes_concrete, goes_view, goes_call, list_form, items_form, IsPlain, inside_form, outside_form}
 use Rattle.hm_typing.proofs.Determined.{same_form, node_one, joined_one, merged_one, copied_one, forked_one, list_one, items_one, list_or_items}
 
 pub label_one : (u : Form) (a b : Label) → IsPlain u a → IsPlain u b → a ≡ b
@@ -117,4 +118,8 @@ module _ (T : Types) where
       (one_under y y2 two two2 (goes_once g (from (formed (node_without m n)) (formed (node_without m n2)) y2
       (ap (λ n. formed (node_without m n)) same) g2)) c.node_two c2.node_two)
       is is2 ∙ sym e2
+  goes_once (goes_text {c = c} {d = d} {u = u} {n = n} is a e) (goes_text {c = c2} {d = d2} {n = n2} is2 b e2) =
+      let one : (c, d) ≡ (c2, d2) = same_Some (c, d) (c2, d2) (sym is ∙ is2) in
+      let node : n ≡ n2 = node_one u n n2 a.node b.node in
+      e ∙ (λ i. formed (with_class (one i).1 (node i))) ∙ sym e2
   goes_once (goes_call {v = v} {x = x} is s) (goes_call {v = w} {x = x2} is2 s2) = ap (λ (p : Form × Form). p.1) (same_Some (x, v) (x2, w) (sym is ∙ is2))

@@ -5,11 +5,11 @@ use Rattle.std.specs.declared.cmp.Ordering.TheVariants.{Less, Equal, Greater}
 use Rattle.hm_tree.specs.Names.{Name, name_cmp}
 use Rattle.hm_tree.proofs.Sorted.{name_one, back_greater}
 use Rattle.hm_schema.specs.Values.{Names}
-use Rattle.hm_terms.specs.Lenses.{Lens, identity, sequence, constant, hoist, plunge, fork, each, items, copy, merge, on_concrete, on_view, call}
+use Rattle.hm_terms.specs.Lenses.{Lens, identity, sequence, constant, hoist, plunge, fork, each, items, copy, merge, on_concrete, on_view, text, call}
 use Rattle.hm_typing.specs.Forms.{Form, Label, Step, named, others, under, can_be}
 use Rattle.hm_typing.specs.SameForms.{IsSame}
-use Rattle.hm_typing.specs.Typing.{Types, Goes, goes_sequence, goes_constant, goes_hoist, goes_fork, goes_each, goes_list, goes_items, goes_copy, goes_merge, goes_concrete, goes_view, goes_call, IsPlain}
-use Rattle.hm_typing.specs.Faults.{At, at, Before, size_of, Faults, fault_first, fault_second, fault_constant, fault_hoist, fault_each, fault_child, fault_items, fault_list_item, fault_some_item, fault_copy, fault_merge, fault_call}
+use Rattle.hm_typing.specs.Typing.{Types, Goes, goes_sequence, goes_constant, goes_hoist, goes_fork, goes_each, goes_list, goes_items, goes_copy, goes_merge, goes_concrete, goes_view, goes_text, goes_call, IsPlain}
+use Rattle.hm_typing.specs.Faults.{At, at, Before, size_of, Faults, fault_first, fault_second, fault_constant, fault_hoist, fault_each, fault_child, fault_items, fault_list_item, fault_some_item, fault_copy, fault_merge, fault_text, fault_call}
 use Rattle.hm_typing.proofs.Determined.{list_one, items_one, list_or_items}
 use Rattle.hm_typing.proofs.Once.{goes_once, label_one}
 use Rattle.hm_typing.proofs.TwoFaults.{IsSingle, two_once, two_never}
@@ -83,6 +83,15 @@ module _ (T : Types) where
 
       one : (u : Form) (f g : At) → Faults T (merge m o) n u f → Faults T (merge m o) n u g → f ≡ g
       one u f g (fault_merge a) (fault_merge b) = refl
+
+  pub text_single : (x : Name) → Single (text x)
+  text_single x n = alone (text x) n never one
+    where
+      never : (u v : Form) (f : At) → Goes T (text x) u v → Faults T (text x) n u f → ⊥
+      never u v f (goes_text {c = c} {d = d} {n = w} is a e) (fault_text fails) = fails c d w is a
+
+      one : (u : Form) (f g : At) → Faults T (text x) n u f → Faults T (text x) n u g → f ≡ g
+      one u f g (fault_text a) (fault_text b) = refl
 
   pub call_single : (m : Name) → Single (call m)
   call_single m n = alone (call m) n never one

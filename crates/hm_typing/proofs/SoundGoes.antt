@@ -4,10 +4,10 @@ use Rattle.std.specs.FinSet.{contains}
 use Rattle.hm_tree.specs.Names.{Name}
 use Rattle.hm_terms.specs.Lenses.{Lens, Lenses, lens_at}
 use Rattle.hm_typing.specs.Forms.{Form, Label, Step, Way, named, others, under, can_be}
-use Rattle.hm_typing.specs.Typing.{Types, Goes, goes_identity, goes_sequence, goes_constant, goes_hoist, goes_plunge, goes_fork, goes_each, goes_among, goes_list, goes_items, goes_copy, goes_merge, goes_concrete, goes_view, goes_call}
+use Rattle.hm_typing.specs.Typing.{Types, Goes, goes_identity, goes_sequence, goes_constant, goes_hoist, goes_plunge, goes_fork, goes_each, goes_among, goes_list, goes_items, goes_copy, goes_merge, goes_concrete, goes_view, goes_text, goes_call}
 use Rattle.hm_typing.specs.Sound.{IsSoundNode, IsSound}
 use Rattle.hm_typing.proofs.SoundForms.{under_sound, leads_sound}
-use Rattle.hm_typing.proofs.SoundViews.{inside_sound, outside_sound, with_sound, without_sound, joined_sound, merged_sound, copied_sound, hidden_sound, edge_sound}
+use Rattle.hm_typing.proofs.SoundViews.{inside_sound, outside_sound, with_sound, without_sound, joined_sound, merged_sound, classed_sound, copied_sound, hidden_sound, edge_sound}
 use Rattle.hm_typing.proofs.TreeForms.{exactly_sound}
 use Rattle.hm_typing.proofs.ListForms.{list_first_sound, items_first_sound, list_sound, items_sound}
 
@@ -35,7 +35,7 @@ among_sound u v ls f g r h = go
 
 -- the declared views of definitions
 abbrev pub AreSoundTypes : Types → Type 0
-AreSoundTypes T = (n : Name) (x v : Form) → T n ≡ Some (x, v) → IsSound x × IsSound v
+AreSoundTypes T = (n : Name) (x v : Form) → T.declared n ≡ Some (x, v) → IsSound x × IsSound v
 
 module _ (T : Types) (types : AreSoundTypes T) where
   pub goes_sound : {l : Lens} {u v : Form} → Goes T l u v → IsSound u → IsSound v
@@ -66,4 +66,5 @@ module _ (T : Types) (types : AreSoundTypes T) where
   goes_sound (goes_view {m = m} {o = o} {u = u} {x = x} {y = y} {n = n} {one = one} {two = two} {w = w} b f g c is e) h =
       subst IsSound (sym e) (merged_sound o x y one two w c.node_one c.node_two c.can is
       (goes_sound f (with_sound m u n b h)) (goes_sound g (without_sound m u n b h)))
+  goes_sound (goes_text {c = c} {d = d} {u = u} {n = n} is a e) h = subst IsSound (sym e) (classed_sound c d u n a h)
   goes_sound (goes_call {n = n} {v = v} {x = x} is s) h = (types n x v is).1

@@ -17,6 +17,7 @@ use Rattle.hm_node_laws.specs.Branching.{node_with, node_without}
 use Rattle.hm_node_laws.specs.Merging.{CanMerge, IsMerged}
 use Rattle.hm_node_laws.specs.Copying.{CanCopy, IsCopied, CanHide, hidden_node}
 use Rattle.hm_node_laws.specs.Plain.{edge_node}
+use Rattle.hm_node_laws.specs.Values.{with_class}
 use Rattle.hm_node_laws.proofs.Parting.{part_nodes_require, part_nodes_well}
 use Rattle.hm_node_laws.proofs.JoinedNodes.{join_child, join_some, join_requires, join_well}
 use Rattle.hm_node_laws.proofs.Branching.{with_well, without_well}
@@ -28,7 +29,7 @@ use Rattle.hm_node_laws.proofs.Plain.{edge_node_of}
 use Rattle.hm_typing.specs.Forms.{Form, named, others, node_of, formed}
 use Rattle.hm_typing.specs.SameForms.{IsSame}
 use Rattle.hm_typing.specs.Sound.{IsSoundNode, IsSound}
-use Rattle.hm_typing.specs.Typing.{IsForked, inside_form, outside_form, IsBranched}
+use Rattle.hm_typing.specs.Typing.{IsForked, inside_form, outside_form, IsBranched, AreValues}
 use Rattle.hm_typing.specs.Members.{Member}
 use Rattle.hm_typing.proofs.SameMembers.{AreSoundSame, sound_same}
 use Rattle.hm_typing.proofs.SoundForms.{LeadsToSound, formed_sound, node_sound, leads_sound}
@@ -185,6 +186,33 @@ module _ (m o : Name) (u : Form) (n : NodeOver Form) (is : node_of u ≡ Some n)
       let a = node_sound u n is h in
       shaped_sound u n is h (hidden_node o n).shapes [] (hidden_some IsSame m o n c a.well a.some) (hidden_well IsSame m o n c a.well a.some)
       (plain_requires (hidden_node o n) refl)
+
+module _ (c d : Class) (u : Form) (n : NodeOver Form) (a : AreValues c u n) (h : IsSound u) where
+  pub classed_sound : IsSound (formed (with_class d n))
+  classed_sound = formed_sound (with_class d n) (record { ascending = s.ascending; some = s.some; well = well; own = s.own }) leads
+    where
+      s : IsSoundNode n
+      s = node_sound u n a.node h
+
+      classed : Class × Form → Class × Form
+      classed o = (d, o.1)
+
+      well : All (IsWellFormedShape (with_class d n)) n.shapes
+      well i z lt =
+          let w = s.well i z lt in
+          record { listed = w.listed; apart = w.apart; ordered = w.ordered; none = λ e. w.none (no_other n.other e) }
+        where
+          no_other : (o : Option (Class × Form)) → option_map classed o ≡ None → o ≡ None
+          no_other None e = refl
+          no_other (Some o) e = absurd (none-some (classed o) (sym e))
+
+      same_other : (o : Option (Class × Form)) → option_map (λ (o : Class × Form). o.1) (option_map classed o) ≡ option_map (λ (o : Class × Form). o.1) o
+      same_other None = refl
+      same_other (Some o) = refl
+
+      leads : LeadsToSound (with_class d n)
+      leads (named k) v e = leads_sound u n a.node h (named k) v e
+      leads others v e = leads_sound u n a.node h others v (sym (same_other n.other) ∙ e)
 
 module _ (m : Name) (u : Form) (h : IsSound u) where
   pub edge_sound : IsSound (formed (edge_node m u))

@@ -1,13 +1,12 @@
 -- What the two lenses of a fork and of a conditional are checked at is one, and their faults are those of two lenses.
 use Rattle.std.proofs.Common.{◌≡◌, ℕ, ◌+◌, refl, sym, ap, ◌∙◌}
 use Rattle.hm_tree.specs.Names.{Name}
-use Rattle.hm_schema.specs.declared.node.Shape.{Shape}
 use Rattle.hm_schema.specs.Values.{Names, NodeOver}
 use Rattle.hm_terms.specs.Lenses.{Lens, fork, on_concrete, on_view}
 use Rattle.hm_node_laws.specs.Branching.{node_with, node_without}
 use Rattle.hm_typing.specs.Forms.{Form, formed}
 use Rattle.hm_typing.specs.SameForms.{IsSame}
-use Rattle.hm_typing.specs.Typing.{Types, Goes, IsForked, inside_form, outside_form, AreJoinable, AreMergeable, IsBranched}
+use Rattle.hm_typing.specs.Typing.{Types, Goes, inside_form, outside_form, AreJoinable, AreMergeable}
 use Rattle.hm_typing.specs.Sources.{ForkSource, BranchSource}
 use Rattle.hm_typing.specs.Faults.{At, at, size_of, Faults, fault_fork, fault_inside, fault_outside, fault_joined, fault_concrete, fault_where_it_has, fault_where_it_lacks, fault_apart, fault_view, fault_where_it_showed, fault_where_it_did_not, fault_merged}
 use Rattle.hm_typing.proofs.Determined.{node_one, forked_one}

@@ -9,6 +9,7 @@ use Rattle.hm_schema.specs.Values.{NodeValue}
 use Rattle.hm_schema.specs.WellFormed.{IsWellFormedNode}
 use Rattle.hm_schema.proofs.Lists.{all_read}
 use Rattle.hm_terms.specs.Lenses.{DefinitionValue, Setting, body_of}
+use Rattle.hm_text_lens.specs.Meanings.{TextMeaning, IsLawful}
 use Rattle.hm_terms.specs.Fitting.{Fits}
 use Rattle.hm_terms.specs.Programs.{ProgramValue, setting_of}
 use Rattle.hm_lens_laws.specs.Falling.{Falls, IsAsked}
@@ -23,11 +24,12 @@ use Rattle.hm_typing.specs.Sound.{IsSoundNode, IsSound}
 use Rattle.hm_typing.specs.Texts.{HasTexts}
 use Rattle.hm_typing.specs.SameForms.{IsSame}
 use Rattle.hm_typing.specs.Typing.{Types, Goes}
-use Rattle.hm_typing.specs.Programs.{types_of, IsTyped}
+use Rattle.hm_typing.specs.Programs.{classes_in, types_of, IsTyped}
 use Rattle.hm_typing.proofs.Nodes.{sound_over}
 use Rattle.hm_typing.proofs.SameMembers.{sound_same}
 use Rattle.hm_typing.proofs.SoundGoes.{AreSoundTypes, goes_sound}
 use Rattle.hm_typing.proofs.ForkFits.{fits_alike}
+use Rattle.hm_typing.proofs.TextFits.{text_between}
 use Rattle.hm_typing.proofs.BodyFits.{CallFits, body_fits}
 
 -- ---- the forms of nodes without twins
@@ -60,13 +62,13 @@ module _ (nodes : List NodeValue) (well : All (λ n. IsWellFormedNode (length no
 
 -- ---- typed programs
 
-module _ (p : ProgramValue) (types : All (λ n. IsWellFormedNode (length p.options.types) n × (n.twins ≡ [])) p.options.types)
-    (texts : (n : Name) (d : DefinitionValue) → find name_cmp n p.definitions ≡ Some d → HasTexts d.body) where
+module _ (texts : List TextMeaning) (lawful : All IsLawful texts) (p : ProgramValue) (types : All (λ n. IsWellFormedNode (length p.options.types) n × (n.twins ≡ [])) p.options.types)
+    (named : (n : Name) (d : DefinitionValue) → find name_cmp n p.definitions ≡ Some d → HasTexts d.body) where
   abbrev T : Types
-  T = types_of p
+  T = types_of (classes_in texts) p
 
   abbrev S : Setting
-  S = setting_of p
+  S = setting_of texts p
 
   abbrev declaration : DefinitionValue → Form × Form
   declaration d = (form p.options.types d.source, form p.options.types d.view)
@@ -78,7 +80,7 @@ module _ (p : ProgramValue) (types : All (λ n. IsWellFormedNode (length p.optio
     source : x ≡ form p.options.types definition.source
     view : v ≡ form p.options.types definition.view
 
-  declared : (n : Name) (x v : Form) → T n ≡ Some (x, v) → IsDeclared n x v
+  declared : (n : Name) (x v : Form) → T.declared n ≡ Some (x, v) → IsDeclared n x v
   declared n x v e = go (find name_cmp n p.definitions) refl e
     where
       go : (o : Option DefinitionValue) → find name_cmp n p.definitions ≡ o
@@ -95,28 +97,28 @@ module _ (p : ProgramValue) (types : All (λ n. IsWellFormedNode (length p.optio
         subst IsSound (sym d.view) (form_sound p.options.types types d.definition.view),
       )
 
-  module _ (source view : Form) (typed : IsTyped p source view) where
+  module _ (source view : Form) (typed : IsTyped (classes_in texts) p source view) where
     one_call : (n : Name) (d : ℕ)
-        → ((s c : Bool) (m : ℕ) (k : Name) → IsAsked s c d m → Falls (steps S) (rank S) (steps S n) (rank S n) s c k → CallFits T S sound_types k m)
-        → CallFits T S sound_types n d
+        → ((s c : Bool) (m : ℕ) (k : Name) → IsAsked s c d m → Falls (steps p.definitions) (rank p.definitions) (steps p.definitions n) (rank p.definitions n) s c k → CallFits T S sound_types (text_between texts lawful) k m)
+        → CallFits T S sound_types (text_between texts lawful) n d
     one_call n d calls x v e =
         let c = declared n x v e in
         let body = c.definition.body in
         let t = typed.definitions n c.definition c.is in
-        let is : body_of S n ≡ Some body = ap (option_map (λ (d : DefinitionValue). d.body)) c.is in
+        let is : body_of S.definitions n ≡ Some body = ap (option_map (λ (d : DefinitionValue). d.body)) c.is in
         let s = sound_types n x v e in
         let goes = subst (λ x. Goes T body x t.view) (sym c.source) t.goes in
-        let inner = body_fits T S sound_types (steps S) (rank S) (steps S n) (rank S n) d calls goes s.0 (texts n c.definition c.is) false false
-        (body_falls S typed.guarded n body is) d refl in
+        let inner = body_fits T S sound_types (text_between texts lawful) (steps p.definitions) (rank p.definitions) (steps p.definitions n) (rank p.definitions n) d calls goes s.0 (named n c.definition c.is) false false
+        (body_falls p.definitions typed.guarded n body is) d refl in
         let same = subst (λ v. IsSame t.view v) (sym c.view) t.same in
         fits_call S n body is d (Member x) (Member v) (fits_alike S d body (Member x) (Member t.view) (Member x) (Member v)
         (record { into = λ t h. h; from = λ t h. h })
         (alike_back (sound_same t.view v (record { same = same; first = goes_sound T sound_types goes s.0; second = s.1 }))) inner)
 
-    calls_fit : (n : Name) (d : ℕ) → CallFits T S sound_types n d
-    calls_fit = by_falling (steps S) (rank S) (CallFits T S sound_types) one_call
+    calls_fit : (n : Name) (d : ℕ) → CallFits T S sound_types (text_between texts lawful) n d
+    calls_fit = by_falling (steps p.definitions) (rank p.definitions) (CallFits T S sound_types (text_between texts lawful)) one_call
 
     pub typed_fits : IsSound source → HasTexts p.main → Fits S p.main (Member source) (Member view)
     typed_fits h text = fits_all S p.main (Member source) (Member view) (λ d.
-        body_fits T S sound_types (λ n. 0) (λ n. 0) 1 1 d (λ s c m k asked f. calls_fit k m) typed.main h text true true
+        body_fits T S sound_types (text_between texts lawful) (λ n. 0) (λ n. 0) 1 1 d (λ s c m k asked f. calls_fit k m) typed.main h text true true
         (record { each = λ s c n i. omega arith }) d tt)

@@ -6,14 +6,15 @@ use Rattle.hm_tree.specs.Names.{Name, name_cmp}
 use Rattle.hm_tree.specs.Nodes.{Tree}
 use Rattle.hm_schema.specs.declared.node.Shape.{Shape}
 use Rattle.hm_schema.specs.Values.{Names, NodeOver}
-use Rattle.hm_terms.specs.Lenses.{Lens, Lenses, none, also, identity, sequence, constant, hoist, plunge, fork, each, among, items, copy, merge, on_concrete, on_view, call, lens_at}
+use Rattle.hm_terms.specs.Lenses.{Lens, Lenses, none, also, identity, sequence, constant, hoist, plunge, fork, each, among, items, copy, merge, on_concrete, on_view, text, call, lens_at}
+use Rattle.hm_tree.specs.declared.class.Class.{Class}
 use Rattle.hm_terms.specs.WellFormedPrograms.{IsAmong}
 use Rattle.hm_node_laws.specs.Branching.{node_with, node_without}
 use Rattle.hm_node_laws.specs.Copying.{CanCopy, CanHide}
 use Rattle.hm_typing.specs.Forms.{Form, Label, Step, named, others, under, node_of, formed, can_be}
 use Rattle.hm_typing.specs.Members.{Member}
 use Rattle.hm_typing.specs.SameForms.{IsSame}
-use Rattle.hm_typing.specs.Typing.{Types, Goes, IsAlone, IsForked, inside_form, outside_form, AreJoinable, IsPlain, AreListed, IsList, IsItems, IsBranched, AreMergeable}
+use Rattle.hm_typing.specs.Typing.{Types, Goes, IsAlone, IsForked, inside_form, outside_form, AreJoinable, IsPlain, AreListed, IsList, IsItems, IsBranched, AreMergeable, AreValues}
 
 -- how many lenses a lens has, itself among them: these are numbered, a lens before its inner ones, from left to right
 abbrev mutual
@@ -29,6 +30,7 @@ abbrev mutual
   size_of (items l) = 1 + size_of l
   size_of (copy m n) = 1
   size_of (merge m n) = 1
+  size_of (text x) = 1
   size_of (on_concrete m l k) = 1 + (size_of l + size_of k)
   size_of (on_view m n l k) = 1 + (size_of l + size_of k)
   size_of (call n) = 1
@@ -120,5 +122,8 @@ pub data Faults (T : Types) : Lens → ℕ → Form → At → Type 0 where
   fault_merged : {m o : Name} {l k : Lens} {n : ℕ} {u x y : Form} {w : NodeOver Form} → IsBranched m u w
       → Goes T l (formed (node_with m w)) x → Goes T k (formed (node_without m w)) y
       → ((one two : NodeOver Form) → ¬ (AreMergeable o x y one two)) → Faults T (on_view m o l k) n u (at n 13)
+  -- there is no text lens of this name, or the source doesn't have values of the class that it reads
+  fault_text : {x : Name} {n : ℕ} {u : Form} → ((c d : Class) (w : NodeOver Form) → T.texts x ≡ Some (c, d) → ¬ (AreValues c u w))
+      → Faults T (text x) n u (at n 14)
   -- there is no definition of this name, or its source is another
-  fault_call : {m : Name} {n : ℕ} {u : Form} → ((x v : Form) → T m ≡ Some (x, v) → ¬ (IsSame u x)) → Faults T (call m) n u (at n 15)
+  fault_call : {m : Name} {n : ℕ} {u : Form} → ((x v : Form) → T.declared m ≡ Some (x, v) → ¬ (IsSame u x)) → Faults T (call m) n u (at n 15)

@@ -6,5 +6,6 @@ pub mod Sources
 pub mod Faults
 pub mod Sound
 pub mod Texts
+pub mod TextNames
 pub mod Programs
 pub mod Numbering

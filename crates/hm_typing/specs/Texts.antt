@@ -1,6 +1,6 @@
 -- The names under which a lens puts trees are texts.
 use Rattle.std.specs.Str.{IsUtf8}
-use Rattle.hm_terms.specs.Lenses.{Lens, Lenses, identity, sequence, constant, hoist, plunge, fork, each, among, items, copy, merge, on_concrete, on_view, call, none, also}
+use Rattle.hm_terms.specs.Lenses.{Lens, Lenses, identity, sequence, constant, hoist, plunge, fork, each, among, items, copy, merge, on_concrete, on_view, text, call, none, also}
 
 abbrev mutual
   pub HasTexts : Lens → Type 0
@@ -15,6 +15,7 @@ abbrev mutual
   HasTexts (items l) = HasTexts l
   HasTexts (copy m n) = IsUtf8 n
   HasTexts (merge m n) = IsUtf8 n
+  HasTexts (text x) = Unit {0}
   HasTexts (on_concrete m l k) = HasTexts l × HasTexts k
   HasTexts (on_view m n l k) = HasTexts l × HasTexts k
   HasTexts (call n) = Unit {0}

@@ -8,8 +8,9 @@ use Rattle.hm_tree.specs.Nodes.{Tree, edges, below}
 use Rattle.hm_schema.specs.declared.node.Shape.{Shape}
 use Rattle.hm_schema.specs.Values.{Names, NodeOver, is_listed}
 use Rattle.hm_schema.specs.Permitted.{names_of}
-use Rattle.hm_terms.specs.Lenses.{Lens, Lenses, identity, sequence, constant, hoist, plunge, fork, each, among, items, copy, merge, on_concrete, on_view, call, lens_at}
+use Rattle.hm_terms.specs.Lenses.{Lens, Lenses, identity, sequence, constant, hoist, plunge, fork, each, among, items, copy, merge, on_concrete, on_view, text, call, lens_at}
 use Rattle.hm_terms.specs.Parts.{head, tail}
+use Rattle.hm_tree.specs.declared.class.Class.{Class}
 use Rattle.hm_node_laws.specs.Parting.{IsParted, part_node, shape_in, shape_out}
 use Rattle.hm_node_laws.specs.Joining.{CanJoin, IsJoined}
 use Rattle.hm_node_laws.specs.Branching.{node_with, node_without, shapes_with, shapes_without}
@@ -17,6 +18,7 @@ use Rattle.hm_node_laws.specs.Merging.{CanMerge, IsMerged}
 use Rattle.hm_node_laws.specs.Copying.{CanCopy, IsCopied, CanHide, hidden_node}
 use Rattle.hm_node_laws.specs.ListNodes.{IsListNode, empty_shape, item_shape}
 use Rattle.hm_node_laws.specs.Plain.{exact_shape, edge_node}
+use Rattle.hm_node_laws.specs.Values.{IsValueNode, IsEmptyNode, with_class}
 use Rattle.hm_lens_laws.specs.Sets.{alone}
 use Rattle.hm_typing.specs.Forms.{Form, Label, Step, named, others, under, node_of, formed, can_be}
 use Rattle.hm_typing.specs.Members.{Member}
@@ -128,11 +130,27 @@ pub record IsPlain (u : Form) (a : Label) : Type 0 where
 abbrev pub AreListed : Label → Lenses → Type 0
 AreListed a ls = (k : Name) → IsSome (lens_at k ls) → IsTrue (is_listed a k)
 
+-- ---- texts
+
+-- all members of a source are values of a class: its node is one of values, and what is below them permits no names
+pub record AreValues (c : Class) (u : Form) (n : NodeOver Form) : Type 0 where
+  pub node : node_of u ≡ Some n
+  pub value : Form
+  pub values : IsValueNode c value n
+  pub below : NodeOver Form
+  pub is_below : node_of value ≡ Some below
+  pub empty : IsEmptyNode below
+
 -- ---- all lenses
 
--- the source and the view that each definition is declared with
-abbrev pub Types : Type 0
-Types = Name → Option (Form × Form)
+-- the class that each text lens reads and the one that it shows, by its name
+abbrev pub Classes : Type 0
+Classes = Name → Option (Class × Class)
+
+-- these, and the source and the view that each definition is declared with
+pub record Types : Type 0 where
+  pub texts : Classes
+  pub declared : Name → Option (Form × Form)
 
 pub data Goes (T : Types) : Lens → Form → Form → Type 0 where
   goes_identity : {u : Form} → Goes T identity u u
@@ -167,5 +185,8 @@ pub data Goes (T : Types) : Lens → Form → Form → Type 0 where
   goes_view : {m o : Name} {l k : Lens} {u v x y : Form} {n one two w : NodeOver Form} → IsBranched m u n
       → Goes T l (formed (node_with m n)) x → Goes T k (formed (node_without m n)) y → AreMergeable o x y one two
       → IsMerged o one two w → v ≡ formed w → Goes T (on_view m o l k) u v
+  -- values of the class that a text lens reads become such of the class that it shows
+  goes_text : {x : Name} {c d : Class} {u v : Form} {n : NodeOver Form} → T.texts x ≡ Some (c, d) → AreValues c u n → v ≡ formed (with_class d n)
+      → Goes T (text x) u v
   -- a definition is called where the source is the same as its own
-  goes_call : {n : Name} {u v x : Form} → T n ≡ Some (x, v) → IsSame u x → Goes T (call n) u v
+  goes_call : {n : Name} {u v x : Form} → T.declared n ≡ Some (x, v) → IsSame u x → Goes T (call n) u v
