@@ -1,5 +1,5 @@
 -- The node without the name of a copy, and where hiding the copy goes.
-use Rattle.std.proofs.Common.{◌≡◌, ℕ, ◌<◌, IsTrue, List, [], ◌∷◌, ◌++◌, length, map, slice_get, Option, Some, None, refl, sym, ap, subst, ◌∙◌}
+use Rattle.std.proofs.Common.{◌≡◌, ℕ, IsTrue, [], ◌∷◌, ◌++◌, length, map, slice_get, Option, Some, None, refl, sym, ap, subst, ◌∙◌}
 use Rattle.std.proofs.lemmas.Option.{same_Some, none-some}
 use Rattle.std.proofs.lemmas.List.Elements.{All-nil}
 use Rattle.std.specs.Option.{option_map}
@@ -12,7 +12,7 @@ use Rattle.hm_terms.specs.Lenses.{merge}
 use Rattle.hm_node_laws.specs.Merging.{unrequired}
 use Rattle.hm_node_laws.specs.Copying.{CanHide, hidden_node}
 use Rattle.hm_node_laws.proofs.Hiding.{hidden_well, hidden_some}
-use Rattle.hm_typing.specs.Forms.{Form, form, named}
+use Rattle.hm_typing.specs.Forms.{Form, form}
 use Rattle.hm_typing.specs.SameForms.{IsSame}
 use Rattle.hm_typing.specs.Typing.{Types, Goes, goes_merge}
 use Rattle.hm_typing.specs.Faults.{Faults, fault_merge, at}

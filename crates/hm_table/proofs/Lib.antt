@@ -30,3 +30,4 @@ mod MergedNode
 mod TreeNode
 mod MemberNode
 pub mod Shifted
+mod ValueNode

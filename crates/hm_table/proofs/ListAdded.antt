@@ -1,5 +1,5 @@
 -- Nodes of lists that are added, of which the second name leads to the node itself or to another such node.
-use Rattle.std.proofs.Common.{◌≡◌, ℕ, ◌+◌, ◌<◌, ◌||◌, Bool, true, false, cond, IsTrue, List, [], ◌∷◌, ◌++◌, length, slice_get, Option, Some, None, All, refl, sym, ap, subst, ◌∙◌, arith, option_and_then}
+use Rattle.std.proofs.Common.{◌≡◌, ℕ, ◌<◌, ◌||◌, Bool, true, false, cond, IsTrue, List, [], ◌∷◌, ◌++◌, length, slice_get, Option, Some, None, All, refl, sym, ap, subst, ◌∙◌, arith, option_and_then}
 use Rattle.std.proofs.lemmas.Bool.{or_left, or_right}
 use Rattle.std.proofs.lemmas.List.Elements.{All-nil, All-cons}
 use Rattle.std.specs.List.{zip, list_any}
@@ -15,11 +15,11 @@ use Rattle.hm_terms.specs.Parts.{head, tail}
 use Rattle.hm_node_laws.specs.ListNodes.{item_names, empty_shape, item_shape}
 use Rattle.hm_node_laws.proofs.Elements.{all_one}
 use Rattle.hm_node_laws.proofs.Shapes.{required_has}
-use Rattle.hm_typing.specs.Forms.{Form, Way, named, others, form, formed}
+use Rattle.hm_typing.specs.Forms.{Form, Way, named, others, form}
 use Rattle.hm_typing.specs.Typing.{list_shapes, list_form, items_form}
 use Rattle.hm_typing.proofs.ListForms.{rises, both_well, item_well, some_shapes}
 use Rattle.hm_table.specs.declared.kind.Kind.{Kind}
-use Rattle.hm_table.specs.Tables.{Nodes, AreFormed, Extends, opened, seated}
+use Rattle.hm_table.specs.Tables.{Nodes, AreFormed, Extends, seated}
 use Rattle.hm_table.proofs.Places.{at_last}
 use Rattle.hm_table.proofs.Grown.{form_extends, extends_then}
 use Rattle.hm_table.proofs.Forms.{form_is, label_is}

@@ -1,5 +1,5 @@
 -- What is told of the nodes of lists.
-use Rattle.std.proofs.Common.{◌≡◌, ◌↔◌, ℕ, ◌<◌, ◌||◌, Bool, true, false, cond, IsTrue, is_some, List, [], ◌∷◌, length, get_or, slice_get, Option, Some, None, All, Any, refl, sym, ap, subst, ◌∙◌, arith, inl, inr}
+use Rattle.std.proofs.Common.{◌≡◌, ◌↔◌, ◌<◌, ◌||◌, Bool, true, false, IsTrue, is_some, List, [], ◌∷◌, length, get_or, slice_get, Option, Some, None, All, Any, refl, sym, ap, subst, ◌∙◌, arith, inl, inr}
 use mathlib.Core.Bool.{true≢false}
 use Rattle.std.specs.Option.{option_map, MatchOption}
 use Rattle.std.specs.List.Sorted.{IsStrictlySortedBy}
@@ -14,7 +14,7 @@ use Rattle.hm_tree.proofs.NameSets.{tied_self}
 use Rattle.hm_tree.proofs.Ascending.{ascending_is}
 use Rattle.hm_schema.specs.declared.node.NodeId.{NodeId}
 use Rattle.hm_schema.specs.declared.node.Shape.{Shape}
-use Rattle.hm_schema.specs.Values.{NodeOver, NodeValue, is_listed, child_of}
+use Rattle.hm_schema.specs.Values.{NodeOver, NodeValue, child_of}
 use Rattle.hm_schema.specs.WellFormed.{IsWellFormedShape}
 use Rattle.hm_terms.specs.Parts.{head, tail}
 use Rattle.hm_node_laws.specs.ListNodes.{item_names, empty_shape, item_shape}

@@ -1,6 +1,6 @@
 -- Where a name stands among the names that a node lists.
 use Rattle.std.proofs.Common.{◌≡◌, ℕ, false, length, MatchOption, Option, Some, None, slice_get, sym, ap, ◌∙◌, arith}
-use Rattle.std.specs.List.{zip, list_any}
+use Rattle.std.specs.List.{list_any}
 use Rattle.std.specs.Ordering.{eq_by_cmp}
 use Rattle.std.proofs.lemmas.Option.{slice_get_within}
 use Rattle.hm_tree.specs.Names.{Name, name_cmp}

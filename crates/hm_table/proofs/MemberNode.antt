@@ -1,22 +1,21 @@
 -- Members of the form of a node of a table: what the node asks of the root of a tree, and the members below its names.
-use Rattle.std.proofs.Common.{◌≡◌, ℕ, is_some, slice_get, get_or, Option, Some, None, All, Any, IsSome, refl, sym, ap, subst, ◌∙◌}
+use Rattle.std.proofs.Common.{◌≡◌, ℕ, is_some, slice_get, Option, Some, None, All, IsSome, refl, sym, ap, subst, ◌∙◌}
 use mathlib.Core.Bool.{true≢false}
 use Rattle.std.specs.Option.{option_map}
-use Rattle.std.proofs.lemmas.Option.{same_Some, none-some}
+use Rattle.std.proofs.lemmas.Option.{same_Some}
 use Rattle.hm_tree.specs.Names.{Name}
 use Rattle.hm_tree.specs.Nodes.{Tree, edges, below}
 use Rattle.hm_tree.proofs.Sorted.{below_edge}
 use Rattle.hm_schema.specs.declared.node.NodeId.{NodeId}
-use Rattle.hm_schema.specs.declared.node.Shape.{Shape}
 use Rattle.hm_schema.specs.Values.{NodeOver, NodeValue, child_of}
 use Rattle.hm_schema.specs.Permitted.{Fits, Permits, names_of}
 use Rattle.hm_schema.proofs.NamesOf.{found_value}
 use Rattle.hm_node_laws.specs.Standing.{HasTwin}
 use Rattle.hm_node_laws.proofs.Elements.{any_weaker}
 use Rattle.hm_node_laws.proofs.Shapes.{fits_across, sits_back}
-use Rattle.hm_typing.specs.Forms.{Form, form, node_of}
+use Rattle.hm_typing.specs.Forms.{Form, form}
 use Rattle.hm_typing.specs.Members.{Member, member}
-use Rattle.hm_typing.proofs.Nodes.{sits_over, child_over, step_to}
+use Rattle.hm_typing.proofs.Nodes.{sits_over, child_over}
 use Rattle.hm_table.specs.Members.{Allows}
 use Rattle.hm_table.specs.Tables.{Nodes, AreFormed, opened}
 use Rattle.hm_table.proofs.Forms.{node_is}

@@ -1,5 +1,5 @@
 -- The node of the shapes of two nodes, merged on a name, and the view of a conditional that is told apart by it.
-use Rattle.std.proofs.Common.{◌≡◌, ◌⊎◌, ℕ, ◌<◌, ◌≤◌, ◌||◌, Bool, true, false, cond, IsTrue, IfSome, is_some, List, [], ◌∷◌, ◌++◌, length, slice_get, Option, Some, None, All, refl, sym, ap, subst, ◌∙◌, arith, inl, inr}
+use Rattle.std.proofs.Common.{◌≡◌, ◌⊎◌, ◌<◌, ◌≤◌, Bool, true, false, cond, IsTrue, IfSome, is_some, List, [], ◌∷◌, ◌++◌, length, slice_get, Option, Some, None, All, refl, sym, ap, subst, ◌∙◌, inl, inr}
 use mathlib.Core.Bool.{true≢false}
 use Rattle.std.specs.List.{zip, list_any}
 use Rattle.std.specs.List.Sorted.{IsStrictlySortedBy}
@@ -19,12 +19,11 @@ use Rattle.hm_tree.proofs.Sorted.{name_total}
 use Rattle.hm_tree.proofs.NameSets.{tied_one, tied_self}
 use Rattle.hm_schema.specs.declared.node.NodeId.{NodeId}
 use Rattle.hm_schema.specs.declared.node.Shape.{Shape}
-use Rattle.hm_schema.specs.Values.{Names, NodeOver, NodeValue, is_listed}
-use Rattle.hm_schema.specs.Tidied.{has_name}
-use Rattle.hm_schema.specs.WellFormed.{IsWellFormedNode, IsWellFormedShape}
+use Rattle.hm_schema.specs.Values.{NodeOver, NodeValue, is_listed}
+use Rattle.hm_schema.specs.WellFormed.{IsWellFormedNode}
 use Rattle.hm_node_laws.specs.Shapes.{IsShut}
 use Rattle.hm_node_laws.specs.Standing.{Alike}
-use Rattle.hm_node_laws.specs.Merging.{AgreeBelow, CanMerge, IsMerged, merged_shapes}
+use Rattle.hm_node_laws.specs.Merging.{CanMerge, IsMerged, merged_shapes}
 use Rattle.hm_node_laws.proofs.Elements.{any_some}
 use Rattle.hm_node_laws.proofs.MergedNodes.{merged_well, merged_some}
 use Rattle.hm_typing.specs.Forms.{Form, form, named}
@@ -35,7 +34,7 @@ use Rattle.hm_table.specs.declared.kind.Kind.{Kind}
 use Rattle.hm_table.specs.declared.vertex.Vertex.{Vertex}
 use Rattle.hm_table.specs.Conditions.{IsIn}
 use Rattle.hm_table.specs.Hiding.{StandForSame, LeadToSame}
-use Rattle.hm_table.specs.Merging.{AreAmong, ListAlike, AreShut, CanMergeKinds, OthersAgree, NodesAgree}
+use Rattle.hm_table.specs.Merging.{CanMergeKinds, OthersAgree, NodesAgree}
 use Rattle.hm_table.specs.Overlays.{overlay}
 use Rattle.hm_table.specs.Tables.{Nodes, AreFormed, opened, seat}
 use Rattle.hm_table.proofs.Beside.{listed_beside}

@@ -1,12 +1,11 @@
 -- The node of just one tree, over those of its children.
-use Rattle.std.proofs.Common.{◌≡◌, ℕ, ◌+◌, ◌<◌, IsTrue, is_some, List, [], ◌∷◌, ◌++◌, length, map, take, slice_get, Option, Some, None, All, refl, sym, ap, subst, ◌∙◌, arith, option_and_then}
+use Rattle.std.proofs.Common.{◌≡◌, ◌<◌, IsTrue, List, [], ◌∷◌, ◌++◌, length, map, Option, Some, None, All, refl, sym, ap, ◌∙◌, arith, option_and_then}
 use Rattle.std.proofs.lemmas.List.{length-map, map-append}
 use Rattle.std.proofs.lemmas.List.Elements.{All-nil, All-weaker, All-append, All-head, All-tail}
 use Rattle.std.specs.List.{zip}
 use Rattle.std.specs.Option.{option_map}
-use Rattle.std.specs.FinMap.{find}
 use Rattle.std.specs.FinSet.{contains, contains-from_list}
-use Rattle.hm_tree.specs.Names.{Name, name_cmp}
+use Rattle.hm_tree.specs.Names.{Name}
 use Rattle.hm_tree.specs.Nodes.{Tree, edges, below}
 use Rattle.hm_tree.specs.NodeLaws.{edges_sorted}
 use Rattle.hm_tree.proofs.Sorted.{name_total}
@@ -16,11 +15,11 @@ use Rattle.hm_schema.specs.Permitted.{names_of}
 use Rattle.hm_schema.specs.WellFormed.{IsWellFormedNode, IsWellFormedShape}
 use Rattle.hm_node_laws.specs.Plain.{exact_shape}
 use Rattle.hm_node_laws.proofs.Elements.{all_one}
-use Rattle.hm_typing.specs.Forms.{Form, Step, Way, named, others, over, label_of, form, formed}
+use Rattle.hm_typing.specs.Forms.{Form, Way, named, others, over, form, formed}
 use Rattle.hm_typing.specs.Typing.{exactly}
 use Rattle.hm_typing.proofs.ListForms.{shape_well}
 use Rattle.hm_table.specs.declared.kind.Kind.{Kind}
-use Rattle.hm_table.specs.Tables.{Nodes, AreFormed, Extends, keys, opened, seated}
+use Rattle.hm_table.specs.Tables.{Nodes, AreFormed, Extends, keys, seated}
 use Rattle.hm_table.proofs.Beside.{listed_beside}
 use Rattle.hm_table.proofs.Grown.{extends_self, extends_then, extends_length, form_extends}
 use Rattle.hm_table.proofs.Keys.{keys_size, all_zip, rising, zip_sorted}

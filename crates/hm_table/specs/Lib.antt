@@ -6,3 +6,4 @@ pub mod Hiding
 pub mod Lists
 pub mod Merging
 pub mod Members
+pub mod Values

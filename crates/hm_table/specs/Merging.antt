@@ -1,7 +1,5 @@
 -- What a conditional that its view tells apart asks of two views, as it is read off the nodes of a table.
-use Rattle.std.specs.Prelude.{◌≡◌, ◌⊎◌, false, IsTrue, List, [], Option, Some, All}
-use Rattle.std.specs.List.{list_any}
-use Rattle.std.specs.Ordering.{eq_by_cmp}
+use Rattle.std.specs.Prelude.{◌≡◌, ◌⊎◌, false, List, [], Option, Some, All}
 use Rattle.std.specs.FinMap.{find}
 use Rattle.hm_tree.specs.declared.class.Class.{Class}
 use Rattle.hm_tree.specs.Names.{Name, name_cmp}

@@ -32,6 +32,7 @@ mod shapes;
 mod sides;
 mod table;
 mod twins;
+mod values;
 mod vertex;
 
 pub use branching::branched;
@@ -49,4 +50,5 @@ pub use parting::parted;
 pub use plunging::plunged;
 pub use sameness::same;
 pub use table::Table;
+pub use values::valued;
 pub use vertex::Vertex;

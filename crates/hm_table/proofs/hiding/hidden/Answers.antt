@@ -1,13 +1,10 @@
-use Rattle.std.proofs.Common.{◌≡◌, ◌<◌, ◌++◌, ◌∷◌, [], length, map, sym, ap, subst, ◌∙◌, arith}
+use Rattle.std.proofs.Common.{◌++◌, ◌∷◌, [], map, sym, ap, subst, ◌∙◌, arith}
 use mathlib.Core.Bool.{true≢false}
-use Rattle.std.specs.FinMap.{find}
 use Rattle.std.proofs.lemmas.Option.{same_Some}
-use Rattle.hm_tree.specs.Names.{name_cmp}
 use Rattle.hm_schema.specs.WellFormed.{IsWellFormedNode}
 use Rattle.hm_node_laws.specs.Merging.{unrequired}
-use Rattle.hm_node_laws.specs.Copying.{hidden_node}
 use Rattle.hm_node_laws.specs.Shapes.{shaped}
-use Rattle.hm_table.specs.Hiding.{LeadToSame, CanHideKind}
+use Rattle.hm_table.specs.Hiding.{CanHideKind}
 use Rattle.hm_table.specs.Tables.{seat}
 use Rattle.hm_table.proofs.TwoAdded.{shaped_is, add_grows, add_length}
 use Rattle.hm_table.proofs.HiddenNode.{cannot_hide, hidden_seat, hide_goes}

@@ -1,4 +1,4 @@
-use Rattle.std.proofs.Common.{◌≡◌, ◌↔◌, IsTrue, sym, subst, ◌∙◌}
+use Rattle.std.proofs.Common.{◌↔◌, IsTrue, subst}
 use Rattle.std.specs.FinMap.{find}
 use Rattle.hm_tree.specs.Names.{name_cmp}
 use Rattle.hm_table.specs.Hiding.{LeadToSame}

@@ -1,4 +1,4 @@
-use Rattle.std.proofs.Common.{rules, ◌≡◌, ◌<◌, Bool, All, Any, length, sym, subst, ◌∙◌}
+use Rattle.std.proofs.Common.{◌<◌, Bool, All, length, sym, subst, ◌∙◌}
 use mathlib.Core.Bool.{true≢false}
 use Rattle.hm_typing.specs.Forms.{Form, form}
 use Rattle.hm_typing.specs.Typing.{IsList, BeginsWith}

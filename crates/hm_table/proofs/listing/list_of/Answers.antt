@@ -1,10 +1,10 @@
-use Rattle.std.proofs.Common.{◌≡◌, ◌+◌, ◌<◌, ◌++◌, ◌∷◌, [], true, false, cond, None, length, sym, ap, subst, ◌∙◌, arith, length-append}
+use Rattle.std.proofs.Common.{◌+◌, ◌++◌, ◌∷◌, [], cond, None, length, sym, ap, subst, ◌∙◌, arith}
 use Rattle.hm_schema.specs.WellFormed.{IsWellFormedNode}
 use Rattle.hm_typing.specs.Forms.{form}
 use Rattle.hm_typing.specs.Typing.{list_shapes, list_form, items_form}
 use Rattle.hm_node_laws.specs.ListNodes.{item_shape}
 use Rattle.hm_table.specs.Tables.{seated}
-use Rattle.hm_table.proofs.ListAdded.{pair_node, pair_is, list_well, some_well, both_stand, list_added, items_added}
+use Rattle.hm_table.proofs.ListAdded.{pair_is, list_well, some_well, both_stand, list_added, items_added}
 use Rattle.hm_table.proofs.TwoAdded.{add_length}
 use Rattle.hm_table.proofs.listing.list_of.Goals as goal
 

@@ -1,8 +1,7 @@
-use Rattle.std.proofs.Common.{◌≡◌, Bool, sym, ◌∙◌}
+use Rattle.std.proofs.Common.{Bool, sym, ◌∙◌}
 use mathlib.Core.Bool.{true≢false}
 use Rattle.hm_typing.specs.Forms.{Form, form}
 use Rattle.hm_typing.specs.Typing.{IsItems}
-use Rattle.hm_table.specs.Lists.{IsItemKind}
 use Rattle.hm_table.specs.Tables.{seat}
 use Rattle.hm_table.proofs.ListRead.{at_none, items_kind, kind_item, items_list, items_same, is_items}
 use Rattle.hm_table.proofs.listing.some_at.Goals as goal

@@ -1,4 +1,4 @@
-use Rattle.std.proofs.Common.{◌≡◌, true, sym, subst, ◌∙◌}
+use Rattle.std.proofs.Common.{sym, subst, ◌∙◌}
 use mathlib.Core.Bool.{true≢false}
 use Rattle.hm_table.specs.Merging.{OthersAgree}
 use Rattle.hm_table.proofs.merging.agree.Goals as goal

@@ -1,10 +1,9 @@
-use Rattle.std.proofs.Common.{rules, ◌≡◌, ◌↔◌, true, false, IsTrue, Some, All, length, slice_get, take, refl, sym, ap, subst, ◌∙◌}
+use Rattle.std.proofs.Common.{rules, ◌≡◌, true, All, refl, sym, subst, ◌∙◌}
 use mathlib.Core.Bool.{true≢false}
 use Rattle.std.specs.FinMap.{find}
-use Rattle.std.proofs.lemmas.Option.{same_Some, slice_get_read}
+use Rattle.std.proofs.lemmas.Option.{same_Some}
 use Rattle.hm_tree.specs.Names.{Name, name_cmp}
 use Rattle.hm_schema.proofs.Lists.{all_next, all_done}
-use Rattle.hm_schema.specs.Values.{NodeValue}
 use Rattle.hm_table.specs.Hiding.{LeadToSame}
 use Rattle.hm_table.specs.Tables.{seat}
 use Rattle.hm_table.proofs.OneName.{child_in_range}
