@@ -8,22 +8,22 @@ use Rattle.std.proofs.lemmas.Option.{same_Some, none-some, slice_get_within}
 use Rattle.hm_tree.specs.Names.{Name, name_cmp}
 use Rattle.hm_schema.proofs.NamesOf.{tie_one}
 use Rattle.hm_terms.specs.declared.term.Definition.{Definition}
-use Rattle.hm_terms.specs.Lenses.{Lens, DefinitionValue, Setting, body_of}
+use Rattle.hm_terms.specs.Lenses.{Lens, DefinitionValue, Definitions, body_of}
 use Rattle.hm_terms.specs.Programs.{lens_of, definition_value}
 use Rattle.hm_lens_laws.proofs.CallLists.{tied}
 use Rattle.hm_cycles.specs.Places.{names_by, place_in, ArePlaces}
 use Rattle.hm_cycles.specs.Callees.{AreBelow}
 
--- what lenses are read in, by the definitions of a program
-abbrev pub setting_by : List Definition → Setting
-setting_by ds = record { definitions = map definition_value ds }
+-- what contracts see of definitions
+abbrev pub values_of : List Definition → Definitions
+values_of ds = map definition_value ds
 
 -- a definition stands at a place, the first one of its name
 pub record IsDefined (ds : List Definition) (n : Name) (i : ℕ) : Type 0 where
   pub definition : Definition
   pub there : slice_get ds i ≡ Some definition
   pub named : definition.name ≡ n
-  pub body : body_of (setting_by ds) n ≡ Some (lens_of definition.body)
+  pub body : body_of (values_of ds) n ≡ Some (lens_of definition.body)
 
 -- what holds of a definition holds of it behind another one
 module _ (e : Definition) (ds : List Definition) (n : Name) where
@@ -57,12 +57,12 @@ defined_at (d ∷ ds) n i e = go (eq_by_cmp name_cmp n d.name) refl (place_in (n
         subst (IsDefined (d ∷ ds) n) (same_Some (suc j) i (sym (ap (option_map suc) f) ∙ e)) (later_defined d ds n t j (rest j f))
 
 -- a name with a body has a place
-pub has_place : (ds : List Definition) (n : Name) (l : Lens) → body_of (setting_by ds) n ≡ Some l → (i : ℕ) × (place_in (names_by ds) n ≡ Some i)
+pub has_place : (ds : List Definition) (n : Name) (l : Lens) → body_of (values_of ds) n ≡ Some l → (i : ℕ) × (place_in (names_by ds) n ≡ Some i)
 has_place [] n l e = absurd (none-some l e)
 has_place (d ∷ ds) n l e = go (eq_by_cmp name_cmp n d.name) e (has_place ds n l)
   where
     go : (b : Bool) → option_map (λ (d : DefinitionValue). d.body) (cond b (Some (definition_value d).1) (find name_cmp n (map definition_value ds))) ≡ Some l
-        → (body_of (setting_by ds) n ≡ Some l → (i : ℕ) × (place_in (names_by ds) n ≡ Some i))
+        → (body_of (values_of ds) n ≡ Some l → (i : ℕ) × (place_in (names_by ds) n ≡ Some i))
         → (i : ℕ) × (cond b (Some 0) (option_map suc (place_in (names_by ds) n)) ≡ Some i)
     go true e rest = (0, refl)
     go false e rest = let r = rest e in (suc r.0, ap (option_map suc) r.1)
@@ -90,5 +90,5 @@ module _ (ds : List Definition) (places : List (Name × ℕ)) (so : ArePlaces (n
   pub found_below : AreBelow (length ds) places
   found_below n i e = let d = found_defined n i e in slice_get_within ds i d.definition d.there
 
-  pub body_found : (n : Name) (l : Lens) → body_of (setting_by ds) n ≡ Some l → (i : ℕ) × (find name_cmp n places ≡ Some i)
+  pub body_found : (n : Name) (l : Lens) → body_of (values_of ds) n ≡ Some l → (i : ℕ) × (find name_cmp n places ≡ Some i)
   body_found n l e = let p = has_place ds n l e in (p.0, so.all n ∙ p.1)

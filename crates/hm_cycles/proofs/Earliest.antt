@@ -7,7 +7,7 @@ use Rattle.hm_tree.specs.Names.{Name, name_cmp}
 use Rattle.hm_terms.specs.declared.term.Definition.{Definition}
 use Rattle.hm_terms.specs.declared.term.Program.{Program}
 use Rattle.hm_terms.specs.Lenses.{DefinitionValue}
-use Rattle.hm_terms.specs.Programs.{definition_value, program_value, setting_of}
+use Rattle.hm_terms.specs.Programs.{definition_value, program_value}
 use Rattle.hm_terms.specs.Calls.{IsInBadCycle}
 use Rattle.hm_cycles.specs.Calls.{Callees, IsClosed, ComesBackBadly}
 use Rattle.hm_cycles.specs.Places.{names_by, ArePlaces}
@@ -41,8 +41,8 @@ module _ (p : Program) (places : List (Name × ℕ)) (g : Callees) (k : IsKnown 
   pub known_closed : (calls : Callees) → calls ≡ g → IsClosed calls
   known_closed calls is = subst IsClosed (sym is) (closed p.definitions.items places g k.named k.called)
 
-  place_of_bad : (n : Name) → IsInBadCycle (setting_of (program_value p)) n → (i : ℕ) × (find name_cmp n places ≡ Some i)
-  place_of_bad n h = let b = way_body (setting_of (program_value p)) h.way in body_found p.definitions.items places k.named n b.0 b.1
+  place_of_bad : (n : Name) → IsInBadCycle (program_value p).definitions n → (i : ℕ) × (find name_cmp n places ≡ Some i)
+  place_of_bad n h = let b = way_body (program_value p).definitions h.way in body_found p.definitions.items places k.named n b.0 b.1
 
   -- the names of the definitions are the names of their values
   named_alike : (i : ℕ) → slice_get (map (λ (d : Name × DefinitionValue). d.0) (program_value p).definitions) i ≡ slice_get (names_by p.definitions.items) i
@@ -56,7 +56,7 @@ module _ (p : Program) (places : List (Name × ℕ)) (g : Callees) (k : IsKnown 
       both None = refl
       both (Some d) = refl
 
-  pub none_bad : (i : ℕ) → length g ≤ i → NoneBefore g i → (n : Name) → ¬ (IsInBadCycle (setting_of (program_value p)) n)
+  pub none_bad : (i : ℕ) → length g ≤ i → NoneBefore g i → (n : Name) → ¬ (IsInBadCycle (program_value p).definitions n)
   none_bad i le none n h =
       let at = place_of_bad n h in
       none at.0 (omega (arith, found_below p.definitions.items places k.named n at.0 at.1, k.called.size, le))

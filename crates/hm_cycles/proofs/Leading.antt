@@ -8,7 +8,7 @@ use Rattle.std.proofs.lemmas.Option.{same_Some, slice_get-get_or, slice_get_with
 use Rattle.std.proofs.lemmas.List.Elements.{Contains-get_or}
 use Rattle.hm_tree.specs.Names.{Name, name_cmp}
 use Rattle.hm_terms.specs.declared.term.Definition.{Definition}
-use Rattle.hm_terms.specs.Lenses.{Lens, Setting, body_of}
+use Rattle.hm_terms.specs.Lenses.{Lens, Definitions, body_of}
 use Rattle.hm_terms.specs.Programs.{lens_of}
 use Rattle.hm_terms.specs.Calls.{Calls, Way, one_call, more_calls, IsInBadCycle}
 use Rattle.hm_cycles.specs.declared.call.Call.{Call}
@@ -16,19 +16,19 @@ use Rattle.hm_cycles.specs.Calls.{behind, Callees, items_of, calls_from, IsClose
 use Rattle.hm_cycles.specs.Places.{names_by, ArePlaces}
 use Rattle.hm_cycles.specs.Callees.{IsCallIn, AreCallees}
 use Rattle.hm_cycles.proofs.Elements.{some_within}
-use Rattle.hm_cycles.proofs.Defined.{setting_by, IsDefined, found_defined, found_below, body_found}
+use Rattle.hm_cycles.proofs.Defined.{values_of, IsDefined, found_defined, found_below, body_found}
 
 -- ---- ways by names
 
-module _ (S : Setting) where
+module _ (ds : Definitions) where
   -- one call more, at the end
-  way_and : {n m o : Name} {s c : Bool} (l : Lens) (t d : Bool) → Way S n m s c → body_of S m ≡ Some l → Calls l t d o → Way S n o (s || t) (c || d)
+  way_and : {n m o : Name} {s c : Bool} (l : Lens) (t d : Bool) → Way ds n m s c → body_of ds m ≡ Some l → Calls l t d o → Way ds n o (s || t) (c || d)
   way_and l t d (one_call e h) f j = more_calls e h (one_call f j)
   way_and {n} {o = o} l t d (more_calls {s = s} {c = c} {t = u} {d = v} e h w) f j =
-      subst (λ s. Way S n o s ((c || v) || d)) (sym (or_assoc s u t))
-      (subst (λ c. Way S n o (s || (u || t)) c) (sym (or_assoc c v d)) (more_calls e h (way_and l t d w f j)))
+      subst (λ s. Way ds n o s ((c || v) || d)) (sym (or_assoc s u t))
+      (subst (λ c. Way ds n o (s || (u || t)) c) (sym (or_assoc c v d)) (more_calls e h (way_and l t d w f j)))
 
-  pub way_body : {n o : Name} {s c : Bool} → Way S n o s c → (l : Lens) × (body_of S n ≡ Some l)
+  pub way_body : {n o : Name} {s c : Bool} → Way ds n o s c → (l : Lens) × (body_of ds n ≡ Some l)
   way_body (one_call {l = l} e h) = (l, e)
   way_body (more_calls {l = l} e h w) = (l, e)
 
@@ -41,7 +41,7 @@ module _ (ds : List Definition) (places : List (Name × ℕ)) (g : Callees) (so 
     calls_of_body : (x : Call) → Contains (calls_from g i) x ↔ IsCallIn places false false (lens_of is_defined.definition.body) x
     calls_of_body x = are.each i is_defined.definition is_defined.there x
 
-    has_call : (l : Lens) (s c : Bool) (m : Name) (j : ℕ) → body_of (setting_by ds) n ≡ Some l → Calls l s c m → find name_cmp m places ≡ Some j
+    has_call : (l : Lens) (s c : Bool) (m : Name) (j : ℕ) → body_of (values_of ds) n ≡ Some l → Calls l s c m → find name_cmp m places ≡ Some j
         → Contains (calls_from g i) (record { place = j; sequence = s; children = c })
     has_call l s c m j e h to = (calls_of_body (record { place = j; sequence = s; children = c })).1 (record {
       name = m;
@@ -85,7 +85,7 @@ module _ (ds : List Definition) (places : List (Name × ℕ)) (g : Callees) (so 
   record LeadsTo (n : Name) (x : Call) : Type 0 where
     name : Name
     there : find name_cmp name places ≡ Some x.place
-    way : Way (setting_by ds) n name x.sequence x.children
+    way : Way (values_of ds) n name x.sequence x.children
 
   leads_to : (n : Name) (i : ℕ) → find name_cmp n places ≡ Some i → {x : Call} → Leads g i x → LeadsTo n x
   leads_to n i at (by_one {x = x} h) =
@@ -94,18 +94,18 @@ module _ (ds : List Definition) (places : List (Name × ℕ)) (g : Callees) (so 
       record {
         name = c.name;
         there = c.there;
-        way = subst (λ s. Way (setting_by ds) n c.name s x.children) (sym c.is_sequence)
-            (subst (λ d. Way (setting_by ds) n c.name c.in_sequence d) (sym c.is_children) way);
+        way = subst (λ s. Way (values_of ds) n c.name s x.children) (sym c.is_sequence)
+            (subst (λ d. Way (values_of ds) n c.name c.in_sequence d) (sym c.is_children) way);
       }
   leads_to n i at (by_more {x = x} {y = y} w h) =
       let to = leads_to n i at w in
       let c = (calls_of_body to.name x.place to.there y).0 h in
-      let way = way_and (setting_by ds) _ c.in_sequence c.in_children to.way (is_defined to.name x.place to.there).body c.calls in
+      let way = way_and (values_of ds) _ c.in_sequence c.in_children to.way (is_defined to.name x.place to.there).body c.calls in
       record {
         name = c.name;
         there = c.there;
-        way = subst (λ s. Way (setting_by ds) n c.name (x.sequence || s) (x.children || y.children)) (sym c.is_sequence)
-            (subst (λ d. Way (setting_by ds) n c.name (x.sequence || c.in_sequence) (x.children || d)) (sym c.is_children) way);
+        way = subst (λ s. Way (values_of ds) n c.name (x.sequence || s) (x.children || y.children)) (sym c.is_sequence)
+            (subst (λ d. Way (values_of ds) n c.name (x.sequence || c.in_sequence) (x.children || d)) (sym c.is_children) way);
       }
 
   -- ---- from names to places
@@ -114,13 +114,13 @@ module _ (ds : List Definition) (places : List (Name × ℕ)) (g : Callees) (so 
   GoesOn : ℕ → Call → Type 0
   GoesOn i x = (y : Call) → Contains (calls_from g x.place) y → Leads g i (behind x y)
 
-  way_leads : (i : ℕ) {n o : Name} {s c : Bool} → Way (setting_by ds) n o s c → (x : Call) → GoesOn i x → find name_cmp n places ≡ Some x.place
+  way_leads : (i : ℕ) {n o : Name} {s c : Bool} → Way (values_of ds) n o s c → (x : Call) → GoesOn i x → find name_cmp n places ≡ Some x.place
       → (j : ℕ) → find name_cmp o places ≡ Some j → Leads g i (record { place = j; sequence = x.sequence || s; children = x.children || c })
   unfolding GoesOn
   way_leads i {n} {o} (one_call {l = l} {s = s} {c = c} e h) x on at j to =
       on (record { place = j; sequence = s; children = c }) (has_call n x.place at l s c o j e h to)
   way_leads i {n} {o} (more_calls {m = m} {l = l} {s = s} {c = c} {t = t} {d = d} e h w) x on at j to =
-      let b = way_body (setting_by ds) w in
+      let b = way_body (values_of ds) w in
       let k = body_found ds places so m b.0 b.1 in
       let y = behind x (record { place = k.0; sequence = s; children = c }) in
       let lead = on (record { place = k.0; sequence = s; children = c }) (has_call n x.place at l s c m k.0 e h k.1) in
@@ -137,7 +137,7 @@ module _ (ds : List Definition) (places : List (Name × ℕ)) (g : Callees) (so 
       let b = is_defined m i f in
       sym d.named ∙ ap (λ (d : Definition). d.name) (same_Some _ _ (sym d.there ∙ b.there)) ∙ b.named
 
-  pub bad_back : (n : Name) (i : ℕ) → find name_cmp n places ≡ Some i → IsInBadCycle (setting_by ds) n → ComesBackBadly g i
+  pub bad_back : (n : Name) (i : ℕ) → find name_cmp n places ≡ Some i → IsInBadCycle (values_of ds) n → ComesBackBadly g i
   unfolding GoesOn
   bad_back n i at h = record {
     way = record { place = i; sequence = h.sequence; children = h.children };
@@ -149,7 +149,7 @@ module _ (ds : List Definition) (places : List (Name × ℕ)) (g : Callees) (so 
   pub record IsBadPlace (i : ℕ) : Type 0 where
     pub name : Name
     pub there : find name_cmp name places ≡ Some i
-    pub bad : IsInBadCycle (setting_by ds) name
+    pub bad : IsInBadCycle (values_of ds) name
 
   pub back_bad : (i : ℕ) → ComesBackBadly g i → IsBadPlace i
   back_bad i b =
@@ -163,7 +163,7 @@ module _ (ds : List Definition) (places : List (Name × ℕ)) (g : Callees) (so 
         bad = record {
           sequence = b.way.sequence;
           children = b.way.children;
-          way = subst (λ m. Way (setting_by ds) c.0 m b.way.sequence b.way.children) same to.way;
+          way = subst (λ m. Way (values_of ds) c.0 m b.way.sequence b.way.children) same to.way;
           bad = b.bad.1;
         };
       }

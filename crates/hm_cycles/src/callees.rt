@@ -56,6 +56,7 @@ fn add_calls(
         Term::Plunge(_) => {}
         Term::Copy(_, _) => {}
         Term::Merge(_, _) => {}
+        Term::Text(_) => {}
         Term::Call(name) => add_call(set, places, sequence, children, name)?,
         Term::Map(inner) => add_calls(alloc, set, places, sequence, true, inner)?,
         Term::List(inner) => add_calls(alloc, set, places, sequence, true, inner)?,

@@ -59,6 +59,11 @@ returns-in-Merge-clause-adds t c =
     adds_none c.args.places.now c.args.sequence c.args.children (lens_of c.args.term.now) _
     (λ s d n h. elim (subst (λ l. Calls l s d n) (ap lens_of c.in-Merge.is) h) [ ])
 
+pub returns-in-Text-clause-adds : goal.returns-in-Text-clause-adds
+returns-in-Text-clause-adds t c =
+    adds_none c.args.places.now c.args.sequence c.args.children (lens_of c.args.term.now) _
+    (λ s d n h. elim (subst (λ l. Calls l s d n) (ap lens_of c.in-Text.is) h) [ ])
+
 pub returns-in_ok-add_calls-in-Map-clause-adds : goal.returns-in_ok-add_calls-in-Map-clause-adds
 returns-in_ok-add_calls-in-Map-clause-adds t c =
     adds_below c.args.places.now c.args.sequence c.args.children each split_each (λ l s d n h. calls_each h) _ _
