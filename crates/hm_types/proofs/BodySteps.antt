@@ -6,14 +6,14 @@ use Rattle.hm_typing.specs.Forms.{form}
 use Rattle.hm_typing.specs.SameForms.{IsSame}
 use Rattle.hm_typing.specs.Faults.{at}
 use Rattle.hm_table.specs.Tables.{Nodes, AreFormed, Extends}
-use Rattle.hm_types.specs.Courses.{Declared, IsView}
+use Rattle.hm_types.specs.Courses.{Scope, IsView}
 use Rattle.hm_types.specs.Bodies.{IsTypedBody, IsMistypedBody, elsewhere}
 use Rattle.hm_types.proofs.Growing.{same_form}
 
-module _ (old new : Nodes) (h : AreFormed old) (e : Extends old new) (ds : Declared) (l : Lens) (i j : NodeId) (lt : j.place < length old) (found : NodeId)
-    (v : IsView ds old new l i found) where
-  pub typed_body : IsSame (form new found) (form new j) → IsTypedBody ds old l i j
+module _ (old new : Nodes) (h : AreFormed old) (e : Extends old new) (scope : Scope) (l : Lens) (i j : NodeId) (lt : j.place < length old) (found : NodeId)
+    (v : IsView scope old new l i found) where
+  pub typed_body : IsSame (form new found) (form new j) → IsTypedBody scope old l i j
   typed_body s types t = record { view = form new found; goes = v.goes types t; same = subst (IsSame (form new found)) (same_form old new h e j lt) s }
 
-  pub astray_body : (IsSame (form new found) (form new j) → ⊥) → IsMistypedBody ds old l i j (at 1 15)
+  pub astray_body : (IsSame (form new found) (form new j) → ⊥) → IsMistypedBody scope old l i j (at 1 15)
   astray_body f types t = elsewhere (v.goes types t) (λ s. f (subst (IsSame (form new found)) (sym (same_form old new h e j lt)) s))

@@ -1,5 +1,5 @@
 -- The check of a program, step by step.
-use Rattle.std.proofs.Common.{◌≡◌, ◌<◌, ◌+◌, ℕ, ◌++◌, length, map, get_or, slice_get, Option, Some, None, inl, inr, refl, sym, ap, subst, ◌∙◌, arith, length-append}
+use Rattle.std.proofs.Common.{◌≡◌, ◌<◌, ◌+◌, ℕ, List, ◌++◌, length, map, get_or, slice_get, Option, Some, None, All, inl, inr, refl, sym, ap, subst, ◌∙◌, arith, length-append}
 use Rattle.std.specs.Option.{option_map}
 use Rattle.std.specs.FinMap.{find}
 use Rattle.std.proofs.lemmas.List.{length-map}
@@ -11,6 +11,7 @@ use Rattle.hm_schema.specs.Values.{SchemaValue}
 use Rattle.hm_schema.specs.WellFormed.{IsWellFormed}
 use Rattle.hm_schema.specs.Membership.{HasNoTwins as HasNoTwinsThere}
 use Rattle.hm_schema.proofs.Lists.{all_read}
+use Rattle.hm_text_lens.specs.Meanings.{TextMeaning, IsLawful}
 use Rattle.hm_terms.specs.Lenses.{DefinitionValue}
 use Rattle.hm_terms.specs.Programs.{ProgramValue, setting_of}
 use Rattle.hm_terms.specs.WellFormedPrograms.{a_body, the_main}
@@ -19,23 +20,22 @@ use Rattle.hm_typing.specs.Forms.{Form, form}
 use Rattle.hm_typing.specs.Sound.{IsSound}
 use Rattle.hm_typing.specs.SameForms.{IsSame, HasNoTwins}
 use Rattle.hm_typing.specs.Members.{Member}
-use Rattle.hm_typing.specs.Typing.{Goes}
+use Rattle.hm_typing.specs.Typing.{Classes, Goes}
 use Rattle.hm_typing.specs.Faults.{At, at, Faults}
 use Rattle.hm_typing.specs.Texts.{HasTexts}
-use Rattle.hm_typing.specs.Programs.{types_of, IsTypedDefinition, IsTyped}
+use Rattle.hm_typing.specs.Programs.{classes_in, types_of, IsTypedDefinition, IsTyped}
 use Rattle.hm_typing.specs.Numbering.{IsNumbered}
 use Rattle.hm_terms.specs.Fitting.{Fits}
-use Rattle.hm_cycles.specs.BadCycles.{HasNoBadCycle}
 use Rattle.hm_node_laws.proofs.Standing.{alike_back}
 use Rattle.hm_typing.proofs.NumberedMembers.{numbered_members}
 use Rattle.hm_typing.proofs.TypedFits.{form_sound, typed_fits}
 use Rattle.hm_table.specs.Tables.{Nodes, AreFormed, Extends, shift, shifted}
 use Rattle.hm_table.proofs.Grown.{extends_self, extends_then, extends_length, form_extends}
 use Rattle.hm_table.proofs.Shifted.{form_shifted}
-use Rattle.hm_types.specs.Courses.{Declared, AreTypes, AreDeclared, IsStart, IsView, IsAt}
+use Rattle.hm_types.specs.Courses.{Declared, Scope, AreTypes, AreDeclared, IsStart, IsView, IsAt}
 use Rattle.hm_types.specs.DeclaredNodes.{DeclaresAll}
 use Rattle.hm_types.specs.Bodies.{GoesAstray, nowhere, elsewhere, IsTypedBody, IsMistypedBody}
-use Rattle.hm_types.specs.Checks.{Trees, HasDistinctRows, HasTwinsLeft, AreTyped, IsMistypedDefinition, no_view, other_view, IsMistyped, in_definition}
+use Rattle.hm_types.specs.Checks.{Trees, HasDistinctRows, HasTwinsLeft, IsGuarded, AreTyped, IsMistypedDefinition, no_view, other_view, IsMistyped, in_definition}
 use Rattle.hm_types.proofs.Entries.{found_at, at_found}
 use Rattle.hm_types.proofs.Growing.{types_grown, declared_grown, view_sound}
 use Rattle.hm_types.proofs.SourceTrees.{root_trees}
@@ -46,10 +46,10 @@ abbrev pub base : ProgramValue → SchemaValue → Nodes
 base p s = s.nodes ++ map (shifted (length s.nodes)) p.options.types
 
 -- so many definitions are typed, over a table that has grown from these nodes
-pub record IsChecked (p : ProgramValue) (s : SchemaValue) (nodes : Nodes) (i : ℕ) : Type 0 where
+pub record IsChecked (classes : Classes) (p : ProgramValue) (s : SchemaValue) (nodes : Nodes) (i : ℕ) : Type 0 where
   pub formed : AreFormed nodes
   pub extends : Extends (base p s) nodes
-  pub typed : AreTyped p i
+  pub typed : AreTyped classes p i
   pub texts : (j : ℕ) (n : Name) (d : DefinitionValue) → j < i → slice_get p.definitions j ≡ Some (n, d) → HasTexts d.body
 
 -- what the check has before the first definition
@@ -59,13 +59,16 @@ pub record IsBegun (p : ProgramValue) (s : SchemaValue) (by : ℕ) (ds : Declare
   pub formed : AreFormed (base p s)
   pub declares : DeclaresAll p.definitions (length s.nodes) ds
 
-module _ (p : ProgramValue) (s : SchemaValue) (well : IsWellFormedProgram p) (plain : HasNoTwinsThere s) (source : IsWellFormed s)
+module _ (classes : Classes) (p : ProgramValue) (s : SchemaValue) (well : IsWellFormedProgram p) (plain : HasNoTwinsThere s) (source : IsWellFormed s)
     (formed : AreFormed (base p s)) (ds : Declared) (declares : DeclaresAll p.definitions (length s.nodes) ds) where
   abbrev pub types : Nodes
   types = p.options.types
 
   abbrev pub by : ℕ
   by = length s.nodes
+
+  abbrev scope : Scope
+  scope = record { texts = classes; declared = ds }
 
   -- ---- forms in the first table
 
@@ -117,7 +120,7 @@ module _ (p : ProgramValue) (s : SchemaValue) (well : IsWellFormedProgram p) (pl
   element_is : (i : ℕ) (x : Name × (NodeId × NodeId)) (lt : i < length ds) → IsDeclared (get_or ds i x).0 (get_or ds i x).1
   element_is i x lt = declared_is (get_or ds i x).0 (get_or ds i x).1 (at_found ds declares.sorted i (get_or ds i x).0 (get_or ds i x).1 (slice_get-get_or ds i x lt))
 
-  pub base_declared : AreDeclared (base p s) ds
+  pub base_declared : AreDeclared (base p s) scope
   base_declared = record {
     sorted = declares.sorted;
     sources = λ i x lt. let d = element_is i x lt in
@@ -130,8 +133,8 @@ module _ (p : ProgramValue) (s : SchemaValue) (well : IsWellFormedProgram p) (pl
         subst (λ (v : NodeId × NodeId). IsSound (form (base p s) v.1)) (sym d.is) (type_sound d.definition.view);
   }
 
-  base_types : AreTypes (base p s) ds (types_of p)
-  base_types = record { is = λ n. go n (find name_cmp n p.definitions) ∙ ap (option_map (λ (d : NodeId × NodeId). (form (base p s) d.0, form (base p s) d.1))) (sym (declares.all n)) }
+  base_types : AreTypes (base p s) scope (types_of classes p)
+  base_types = record { texts = λ x. refl; is = λ n. go n (find name_cmp n p.definitions) ∙ ap (option_map (λ (d : NodeId × NodeId). (form (base p s) d.0, form (base p s) d.1))) (sym (declares.all n)) }
     where
       go : (n : Name) (o : Option DefinitionValue)
           → option_map {U = Form × Form} (λ (d : DefinitionValue). (form types d.source, form types d.view)) o
@@ -142,12 +145,12 @@ module _ (p : ProgramValue) (s : SchemaValue) (well : IsWellFormedProgram p) (pl
 
   -- ---- one definition after another
 
-  module _ (nodes : Nodes) (i : ℕ) (h : IsChecked p s nodes i) where
-    now_types : AreTypes nodes ds (types_of p)
-    now_types = types_grown (base p s) nodes formed h.extends ds base_declared (types_of p) base_types
+  module _ (nodes : Nodes) (i : ℕ) (h : IsChecked classes p s nodes i) where
+    now_types : AreTypes nodes scope (types_of classes p)
+    now_types = types_grown (base p s) nodes formed h.extends scope base_declared (types_of classes p) base_types
 
-    now_declared : AreDeclared nodes ds
-    now_declared = declared_grown (base p s) nodes formed h.extends ds base_declared
+    now_declared : AreDeclared nodes scope
+    now_declared = declared_grown (base p s) nodes formed h.extends scope base_declared
 
     base_form : (j : NodeId) → j.place < length (base p s) → form nodes j ≡ form (base p s) j
     base_form j lt = form_extends (base p s) nodes formed h.extends j lt
@@ -164,7 +167,7 @@ module _ (p : ProgramValue) (s : SchemaValue) (well : IsWellFormedProgram p) (pl
     root_form : form nodes s.root ≡ form s.nodes s.root
     root_form = base_form s.root root_inside ∙ source_form s.root source.root
 
-    pub main_start : IsStart nodes ds s.root
+    pub main_start : IsStart nodes scope s.root
     main_start = record {
       formed = h.formed;
       in_range = omega (arith, root_inside, extends_length (base p s) nodes h.extends);
@@ -172,20 +175,20 @@ module _ (p : ProgramValue) (s : SchemaValue) (well : IsWellFormedProgram p) (pl
       declared = now_declared;
     }
 
-    pub main_view : (new : Nodes) (j : NodeId) → IsView ds nodes new p.main s.root j → Goes (types_of p) p.main (form s.nodes s.root) (form new j)
-    main_view new j v = subst (λ u. Goes (types_of p) p.main u (form new j)) root_form (v.goes (types_of p) now_types)
+    pub main_view : (new : Nodes) (j : NodeId) → IsView scope nodes new p.main s.root j → Goes (types_of classes p) p.main (form s.nodes s.root) (form new j)
+    main_view new j v = subst (λ u. Goes (types_of classes p) p.main u (form new j)) root_form (v.goes (types_of classes p) now_types)
 
-    pub main_sound : (new : Nodes) (j : NodeId) → IsView ds nodes new p.main s.root j → IsSound (form new j)
-    main_sound new j v = view_sound nodes ds now_declared new p.main s.root j main_start.sound v
+    pub main_sound : (new : Nodes) (j : NodeId) → IsView scope nodes new p.main s.root j → IsSound (form new j)
+    main_sound new j v = view_sound nodes scope now_declared new p.main s.root j main_start.sound v
 
-    pub main_fault : (a : At) → IsAt ds nodes p.main 1 s.root a → Faults (types_of p) p.main 1 (form s.nodes s.root) a
-    main_fault a f = subst (λ u. Faults (types_of p) p.main 1 u a) root_form (f (types_of p) now_types)
+    pub main_fault : (a : At) → IsAt scope nodes p.main 1 s.root a → Faults (types_of classes p) p.main 1 (form s.nodes s.root) a
+    main_fault a f = subst (λ u. Faults (types_of classes p) p.main 1 u a) root_form (f (types_of classes p) now_types)
 
     module _ (n : Name) (d : DefinitionValue) (at : slice_get p.definitions i ≡ Some (n, d)) where
       inside : (d.source.place < length types) × (d.view.place < length types)
       inside = definition_inside i n d at
 
-      pub body_start : IsStart nodes ds (shift by d.source)
+      pub body_start : IsStart nodes scope (shift by d.source)
       body_start = record {
         formed = h.formed;
         in_range = now_inside d.source inside.0;
@@ -199,24 +202,24 @@ module _ (p : ProgramValue) (s : SchemaValue) (well : IsWellFormedProgram p) (pl
       pub body_rows : HasDistinctRows d.body
       body_rows ls stands = (well.rows d.body ls (a_body i at) stands).once
 
-      pub body_typed : IsTypedBody ds nodes d.body (shift by d.source) (shift by d.view) → IsTypedDefinition p d
+      pub body_typed : IsTypedBody scope nodes d.body (shift by d.source) (shift by d.view) → IsTypedDefinition classes p d
       body_typed f =
-          let g = f (types_of p) now_types in
+          let g = f (types_of classes p) now_types in
           record {
             view = g.view;
-            goes = subst (λ u. Goes (types_of p) d.body u g.view) (now_form d.source inside.0) g.goes;
+            goes = subst (λ u. Goes (types_of classes p) d.body u g.view) (now_form d.source inside.0) g.goes;
             same = subst (IsSame g.view) (now_form d.view inside.1) g.same;
           }
 
-      pub body_mistyped : (a : At) → IsMistypedBody ds nodes d.body (shift by d.source) (shift by d.view) a → IsMistyped p s (i + 1) a
-      body_mistyped a f = in_definition h.typed at (go (f (types_of p) now_types))
+      pub body_mistyped : (a : At) → IsMistypedBody scope nodes d.body (shift by d.source) (shift by d.view) a → IsMistyped classes p s (i + 1) a
+      body_mistyped a f = in_definition h.typed at (go (f (types_of classes p) now_types))
         where
-          go : {a : At} → GoesAstray (types_of p) d.body (form nodes (shift by d.source)) (form nodes (shift by d.view)) a → IsMistypedDefinition p d a
-          go {a} (nowhere g) = no_view (subst (λ u. Faults (types_of p) d.body 1 u a) (now_form d.source inside.0) g)
-          go (elsewhere {x = x} g f) = other_view (subst (λ u. Goes (types_of p) d.body u x) (now_form d.source inside.0) g)
+          go : {a : At} → GoesAstray (types_of classes p) d.body (form nodes (shift by d.source)) (form nodes (shift by d.view)) a → IsMistypedDefinition classes p d a
+          go {a} (nowhere g) = no_view (subst (λ u. Faults (types_of classes p) d.body 1 u a) (now_form d.source inside.0) g)
+          go (elsewhere {x = x} g f) = other_view (subst (λ u. Goes (types_of classes p) d.body u x) (now_form d.source inside.0) g)
               (λ s. f (subst (IsSame x) (sym (now_form d.view inside.1)) s))
 
-      pub checked_next : (new : Nodes) → AreFormed new → Extends nodes new → IsTypedDefinition p d → HasTexts d.body → IsChecked p s new (i + 1)
+      pub checked_next : (new : Nodes) → AreFormed new → Extends nodes new → IsTypedDefinition classes p d → HasTexts d.body → IsChecked classes p s new (i + 1)
       checked_next new g e t texts = record {
         formed = g;
         extends = extends_then (base p s) nodes new h.extends e;
@@ -225,7 +228,7 @@ module _ (p : ProgramValue) (s : SchemaValue) (well : IsWellFormedProgram p) (pl
             | inl less ↦ h.typed.each j m c less q
             | inr ge ↦
                 let same : j ≡ i = omega (arith, lt, ge) in
-                subst (IsTypedDefinition p) (ap (λ (x : Name × DefinitionValue). x.1) (same_Some (n, d) (m, c) (sym at ∙ ap (slice_get p.definitions) (sym same) ∙ q))) t
+                subst (IsTypedDefinition classes p) (ap (λ (x : Name × DefinitionValue). x.1) (same_Some (n, d) (m, c) (sym at ∙ ap (slice_get p.definitions) (sym same) ∙ q))) t
           ];
         };
         texts = λ j m c lt q. elim (cases_lt j i) [
@@ -236,7 +239,7 @@ module _ (p : ProgramValue) (s : SchemaValue) (well : IsWellFormedProgram p) (pl
         ];
       }
 
-  pub checked_none : IsChecked p s (base p s) 0
+  pub checked_none : IsChecked classes p s (base p s) 0
   checked_none = record {
     formed = formed;
     extends = extends_self (base p s);
@@ -249,25 +252,26 @@ module _ (p : ProgramValue) (s : SchemaValue) (well : IsWellFormedProgram p) (pl
   pub main_rows : HasDistinctRows p.main
   main_rows ls stands = (well.rows p.main ls the_main stands).once
 
-  module _ (nodes : Nodes) (h : IsChecked p s nodes (length p.definitions)) (new : Nodes) (j : NodeId) (v : IsView ds nodes new p.main s.root j) where
-    pub twins_left : (HasNoTwins (form new j) → ⊥) → HasTwinsLeft p s
+  module _ (nodes : Nodes) (h : IsChecked classes p s nodes (length p.definitions)) (new : Nodes) (j : NodeId) (v : IsView scope nodes new p.main s.root j) where
+    pub twins_left : (HasNoTwins (form new j) → ⊥) → HasTwinsLeft classes p s
     twins_left f = record { definitions = h.typed; shown = form new j; main = main_view nodes (length p.definitions) h new j v; twins = f }
 
-    module _ (guarded : HasNoBadCycle p) (bare : HasNoTwins (form new j)) where
-      pub program_typed : IsTyped p (form s.nodes s.root) (form new j)
+    module _ (guarded : IsGuarded classes p) (bare : HasNoTwins (form new j)) where
+      pub program_typed : IsTyped classes p (form s.nodes s.root) (form new j)
       program_typed = record {
-        guarded = guarded;
+        known = guarded.known;
+        guarded = guarded.guarded;
         definitions = λ n d e. let a = found_at n d p.definitions e in
             h.typed.each a.place n d (slice_get_within p.definitions a.place (n, d) a.is) a.is;
         main = main_view nodes (length p.definitions) h new j v;
         plain = bare;
       }
 
-      pub program_fits : (view : SchemaValue) → IsWellFormed view → IsNumbered (form new j) view → HasTexts p.main
-          → Fits (setting_of p) p.main (Trees s) (Trees view)
-      program_fits view well_view numbered text =
-          fits_over (setting_of p) p.main (Member (form s.nodes s.root)) (Member (form new j)) (Trees s) (Trees view)
+      pub program_fits : (view : SchemaValue) → IsWellFormed view → IsNumbered (form new j) view → HasTexts p.main → (ms : List TextMeaning)
+          → classes ≡ classes_in ms → All IsLawful ms → Fits (setting_of ms p) p.main (Trees s) (Trees view)
+      program_fits view well_view numbered text ms same lawful =
+          fits_over (setting_of ms p) p.main (Member (form s.nodes s.root)) (Member (form new j)) (Trees s) (Trees view)
           (root_trees s source source_sounds) (alike_back (numbered_members (form new j) view well_view (main_sound nodes (length p.definitions) h new j v) numbered))
-          (typed_fits p well.types
+          (typed_fits ms lawful p well.types
           (λ n d e. let a = found_at n d p.definitions e in h.texts a.place n d (slice_get_within p.definitions a.place (n, d) a.is) a.is)
-          (form s.nodes s.root) (form new j) program_typed source_sound text)
+          (form s.nodes s.root) (form new j) (subst (λ c. IsTyped c p (form s.nodes s.root) (form new j)) same program_typed) source_sound text)

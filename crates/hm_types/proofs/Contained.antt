@@ -2,7 +2,7 @@
 use Rattle.std.proofs.Common.{◌≡◌, ◌⊎◌, List, [], ◌∷◌, ◌++◌, Contains, inl, inr, subst, zero, suc, arith}
 use Rattle.std.proofs.lemmas.List.Elements.{Contains-append_cases}
 use Rattle.hm_tree.specs.Names.{Name}
-use Rattle.hm_terms.specs.Lenses.{Lens, Lenses, none, also, identity, sequence, constant, hoist, plunge, fork, each, among, items, copy, merge, on_concrete, on_view, call}
+use Rattle.hm_terms.specs.Lenses.{Lens, Lenses, none, also, identity, sequence, constant, hoist, plunge, fork, each, among, items, copy, merge, on_concrete, on_view, text, call}
 use Rattle.hm_terms.specs.WellFormedPrograms.{StandsIn, itself, in_first, in_second, inside, outside, in_each, in_among, in_items, where_it_has, where_it_lacks, where_it_showed, where_it_did_not, IsAmong, here, further}
 use Rattle.hm_types.specs.Numbers.{parts_of, parts_of_all}
 
@@ -49,6 +49,7 @@ mutual
   ]
   contained_stands (copy m n) l c = one_only (copy m n) l c
   contained_stands (merge m n) l c = one_only (merge m n) l c
+  contained_stands (text x) l c = one_only (text x) l c
   contained_stands (on_concrete m a b) l c = elim (head_or (on_concrete m a b) l (parts_of a ++ parts_of b) c) [
     | inl e ↦ subst (λ y. StandsIn y (on_concrete m a b)) e itself
     | inr d ↦ elim (Contains-append_cases (parts_of a) (parts_of b) l d) [ inl f ↦ where_it_has (contained_stands a l f) | inr f ↦ where_it_lacks (contained_stands b l f) ]

@@ -19,7 +19,7 @@ use Rattle.hm_table.proofs.Grown.{extends_self, formed_at, next_in_range}
 use Rattle.hm_types.specs.declared.course.Course.{Course}
 use Rattle.hm_types.specs.declared.memo.Memo.{Memo}
 use Rattle.hm_types.specs.Numbers.{parts_of}
-use Rattle.hm_types.specs.Courses.{Declared, AreDeclared, lenses_in, IsView, IsReady, IsAt}
+use Rattle.hm_types.specs.Courses.{scope_of, Scope, AreDeclared, lenses_in, IsView, IsReady, IsAt}
 use Rattle.hm_types.specs.Below.{IsLed, AreLed, AreOthersLed, where_it_can, IsListedBelow, IsOtherBelow, IsListedAt, IsOtherAt}
 use Rattle.hm_types.proofs.Standing.{stand_inside}
 use Rattle.hm_types.proofs.Growing.{same_form, view_before, types_grown, ready_at, grown_by}
@@ -29,23 +29,23 @@ use Rattle.hm_types.proofs.Possible.{can_next}
 
 -- ---- lenses where something can be
 
-module _ (ds : Declared) (old new : Nodes) (l : Lens) (i : NodeId) where
-  pub led_yes : (can : Bool) (j : NodeId) → can ≡ true → IsView ds old new l i j → IsLed ds old new (where_it_can can l) i j
+module _ (scope : Scope) (old new : Nodes) (l : Lens) (i : NodeId) where
+  pub led_yes : (can : Bool) (j : NodeId) → can ≡ true → IsView scope old new l i j → IsLed scope old new (where_it_can can l) i j
   led_yes can j e v = record {
     in_range = v.in_range;
-    view = λ k is. subst (λ k. IsView ds old new k i j) (same_Some l k (sym (ap (λ b. where_it_can b l) e) ∙ is)) v;
+    view = λ k is. subst (λ k. IsView scope old new k i j) (same_Some l k (sym (ap (λ b. where_it_can b l) e) ∙ is)) v;
     stays = λ is. absurd (none-some l (sym is ∙ ap (λ b. where_it_can b l) e));
   }
 
-  pub led_no : (can : Bool) → can ≡ false → i.place < length new → IsLed ds old new (where_it_can can l) i i
+  pub led_no : (can : Bool) → can ≡ false → i.place < length new → IsLed scope old new (where_it_can can l) i i
   led_no can e lt = record { in_range = lt; view = λ k is. absurd (none-some k (sym (ap (λ b. where_it_can b l) e) ∙ is)); stays = λ is. refl }
 
-module _ (old mid : Nodes) (h : AreFormed old) (e : Extends old mid) (ds : Declared) (d : AreDeclared old ds) (new : Nodes) where
-  pub led_before : (o : Option Lens) (i j : NodeId) → i.place < length old → IsLed ds mid new o i j → IsLed ds old new o i j
-  led_before o i j lt l = record { in_range = l.in_range; view = λ k is. view_before old mid h e ds d new k i j lt (l.view k is); stays = l.stays }
+module _ (old mid : Nodes) (h : AreFormed old) (e : Extends old mid) (scope : Scope) (d : AreDeclared old scope) (new : Nodes) where
+  pub led_before : (o : Option Lens) (i j : NodeId) → i.place < length old → IsLed scope mid new o i j → IsLed scope old new o i j
+  led_before o i j lt l = record { in_range = l.in_range; view = λ k is. view_before old mid h e scope d new k i j lt (l.view k is); stays = l.stays }
 
-  pub others_before : (l : Option Lens) (x y : Option (Class × NodeId)) → IfSome x (λ x. x.1.place < length old) → AreOthersLed ds mid new l x y
-      → AreOthersLed ds old new l x y
+  pub others_before : (l : Option Lens) (x y : Option (Class × NodeId)) → IfSome x (λ x. x.1.place < length old) → AreOthersLed scope mid new l x y
+      → AreOthersLed scope old new l x y
   others_before l None None lt r = tt
   others_before l None (Some q) lt r = absurd r
   others_before l (Some p) None lt r = absurd r
@@ -53,10 +53,10 @@ module _ (old mid : Nodes) (h : AreFormed old) (e : Extends old mid) (ds : Decla
 
 -- ---- what a node of its kind may stand over
 
-pub can_replace : (ds : Declared) (old end : Nodes) (on : Step → Option Lens) (i : NodeId) (n : NodeValue) (js : List NodeId) (o : Option (Class × NodeId))
-    → slice_get end i.place ≡ Some n → AreLed ds old end (λ k. on (named k)) n.children js → length js ≡ length n.children
-    → AreOthersLed ds old end (on others) n.other o → CanReplace end i js o
-can_replace ds old end on i n js o at led count other = record {
+pub can_replace : (scope : Scope) (old end : Nodes) (on : Step → Option Lens) (i : NodeId) (n : NodeValue) (js : List NodeId) (o : Option (Class × NodeId))
+    → slice_get end i.place ≡ Some n → AreLed scope old end (λ k. on (named k)) n.children js → length js ≡ length n.children
+    → AreOthersLed scope old end (on others) n.other o → CanReplace end i js o
+can_replace scope old end on i n js o at led count other = record {
   node = n;
   is = at;
   count = count;
@@ -67,7 +67,7 @@ can_replace ds old end on i n js o at led count other = record {
   other = go n.other o other;
 }
   where
-    go : (x y : Option (Class × NodeId)) → AreOthersLed ds old end (on others) x y → Replaces end x y
+    go : (x y : Option (Class × NodeId)) → AreOthersLed scope old end (on others) x y → Replaces end x y
     go None None r = tt
     go None (Some q) r = absurd r
     go (Some p) None r = absurd r
@@ -86,7 +86,7 @@ module _ (c : Course) (number : ℕ) (l : Lens) (old : Nodes) (known : Memo) (i 
   label : form old i [] ≡ Some (label_of n)
   label = ap (option_map label_of) at_i
 
-  pub each_refused : (n.twins ≡ [] → ⊥) → IsAt c.declared.now old (each l) number i (at number 7)
+  pub each_refused : (n.twins ≡ [] → ⊥) → IsAt (scope_of c) old (each l) number i (at number 7)
   each_refused f types t = fault_each (λ a p. f (ap (λ (a : Label). a.twins) (same_Some (label_of n) a (sym label ∙ p.is)) ∙ p.plain))
 
   pub child_ready : (s : Step) (j : NodeId) → next_of n s ≡ Some j → IsReady c old known (parts_of l) (number + 1) j
@@ -97,15 +97,15 @@ module _ (c : Course) (number : ℕ) (l : Lens) (old : Nodes) (known : Memo) (i 
       (stand_inside (lenses_in c) number (each l) (parts_of l) r.stand)
 
   -- the lens goes on all steps before one, and not on that
-  module _ (mid : Nodes) (e : Extends old mid) (js : List NodeId) (led : AreLed c.declared.now old mid (λ k. on (named k)) n.children js) (plain : n.twins ≡ []) where
+  module _ (mid : Nodes) (e : Extends old mid) (js : List NodeId) (led : AreLed (scope_of c) old mid (λ k. on (named k)) n.children js) (plain : n.twins ≡ []) where
     fault_on : (s : Step) (j : NodeId) (a : At) → next_of n s ≡ Some j → can_be n s ≡ true
         → ((m : Name) (q : ℕ) (x : NodeId) → slice_get n.children q ≡ Some (m, x) → Before (named m) s → q < length js) → Before others s ≡ ⊥
-        → IsAt c.declared.now mid l (number + 1) j a → IsAt c.declared.now old (each l) number i a
+        → IsAt (scope_of c) mid l (number + 1) j a → IsAt (scope_of c) old (each l) number i a
     fault_on s j a next can before never f types t =
         let u : under s (form old i) ≡ form mid j = under_at old i n at_i s j next
         ∙ sym (same_form old mid r.start.formed e j (next_in_range (length old) n s j node_well next)) in
         fault_child s (record { is = label; plain = plain }) can first
-        (subst (λ u. Faults types l (number + 1) u a) (sym u) (f types (types_grown old mid r.start.formed e c.declared.now r.start.declared types t)))
+        (subst (λ u. Faults types l (number + 1) u a) (sym u) (f types (types_grown old mid r.start.formed e (scope_of c) r.start.declared types t)))
       where
         first : (q : Step) → Before q s → can_be (label_of n) q ≡ true → GoesOn types l (under q (form old i))
         first others b can = absurd (subst (λ X. X) never b)
@@ -119,34 +119,34 @@ module _ (c : Course) (number : ℕ) (l : Lens) (old : Nodes) (known : Memo) (i 
               goes = subst (λ u. Goes types l u (form mid y.0)) (sym (under_at old i n at_i (named m) x.0 x.1)) (v.goes types t);
             }
 
-    pub listed_at : (a : At) → IsListedAt c.declared.now mid l (number + 1) n (length js) a → IsAt c.declared.now old (each l) number i a
+    pub listed_at : (a : At) → IsListedAt (scope_of c) mid l (number + 1) n (length js) a → IsAt (scope_of c) old (each l) number i a
     listed_at a f = fault_on (named f.name) f.child a (at_found n.children node_well.ascending (length js) f.name f.child f.is) f.can
         (λ m q x at b. before_at n.children node_well.ascending (length js) q f.name m f.child x f.is at b) refl f.fault
 
-    pub other_at : length js ≡ length n.children → (a : At) → IsOtherAt c.declared.now mid l (number + 1) n a → IsAt c.declared.now old (each l) number i a
+    pub other_at : length js ≡ length n.children → (a : At) → IsOtherAt (scope_of c) mid l (number + 1) n a → IsAt (scope_of c) old (each l) number i a
     other_at count a f = fault_on others f.child a (ap (option_map (λ (o : Class × NodeId). o.1)) f.is) f.can
         (λ m q x at b. omega (arith, slice_get_within n.children q (m, x) at, count)) refl f.fault
 
     pub each_view : (new : Nodes) (j : NodeId) (o : Option (Class × NodeId)) → AreFormed mid → length js ≡ length n.children
-        → AreOthersLed c.declared.now old mid (on others) n.other o → new ≡ mid ++ replaced n js o ∷ [] → j.place ≡ length mid
-        → IsView c.declared.now old new (each l) i j
+        → AreOthersLed (scope_of c) old mid (on others) n.other o → new ≡ mid ++ replaced n js o ∷ [] → j.place ≡ length mid
+        → IsView (scope_of c) old new (each l) i j
     each_view new j o formed count other is place = record {
       in_range = omega (arith, place, ap length is, length-append mid (replaced n js o ∷ []));
       goes = λ types t. goes_each (record { is = label; plain = plain })
-          (view_label c.declared.now old mid new on i j n js o r.start.formed e formed at_i led count other is place)
+          (view_label (scope_of c) old mid new on i j n js o r.start.formed e formed at_i led count other is place)
           (λ s can. let x = can_next (length old) n node_well s can in
-          step_goes c.declared.now old mid new on i j n js o r.start.formed e formed at_i led count other is place s l (ap (λ b. where_it_can b l) can) x.0 x.1 types t)
-          (λ s can. step_stays c.declared.now old mid new on i j n js o r.start.formed e formed at_i led count other is place s (ap (λ b. where_it_can b l) can));
+          step_goes (scope_of c) old mid new on i j n js o r.start.formed e formed at_i led count other is place s l (ap (λ b. where_it_can b l) can) x.0 x.1 types t)
+          (λ s can. step_stays (scope_of c) old mid new on i j n js o r.start.formed e formed at_i led count other is place s (ap (λ b. where_it_can b l) can));
     }
 
     pub each_pushed : (new : Nodes) (h : Extends mid new) (j : NodeId) (p : ℕ) → length js ≡ p → AreFormed mid
-        → IsListedBelow c.declared.now mid new l n p j → AreLed c.declared.now old new (λ k. on (named k)) n.children (js ++ j ∷ [])
+        → IsListedBelow (scope_of c) mid new l n p j → AreLed (scope_of c) old new (λ k. on (named k)) n.children (js ++ j ∷ [])
     each_pushed new h j p count formed b =
-        led_pushed c.declared.now old (λ k. on (named k)) n.children js new p b.name b.child j count b.is
-        (led_grown c.declared.now old (λ k. on (named k)) n.children js mid new formed h led)
-        (led_before old mid r.start.formed e c.declared.now r.start.declared new (on (named b.name)) b.child j
+        led_pushed (scope_of c) old (λ k. on (named k)) n.children js new p b.name b.child j count b.is
+        (led_grown (scope_of c) old (λ k. on (named k)) n.children js mid new formed h led)
+        (led_before old mid r.start.formed e (scope_of c) r.start.declared new (on (named b.name)) b.child j
         (all_read (λ (c : Name × NodeId). c.1.place < length old) n.children p (b.name, b.child) b.is node_well.children) b.led)
 
-    pub each_others : (new : Nodes) (o : Option (Class × NodeId)) → IsOtherBelow c.declared.now mid new l n o
-        → AreOthersLed c.declared.now old new (on others) n.other o
-    each_others new o b = others_before old mid r.start.formed e c.declared.now r.start.declared new (on others) n.other o node_well.other b
+    pub each_others : (new : Nodes) (o : Option (Class × NodeId)) → IsOtherBelow (scope_of c) mid new l n o
+        → AreOthersLed (scope_of c) old new (on others) n.other o
+    each_others new o b = others_before old mid r.start.formed e (scope_of c) r.start.declared new (on others) n.other o node_well.other b

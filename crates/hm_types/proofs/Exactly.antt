@@ -8,25 +8,29 @@ use Rattle.hm_typing.specs.Forms.{Form, form}
 use Rattle.hm_typing.specs.SameForms.{IsSame, HasNoTwins}
 use Rattle.hm_typing.specs.Faults.{At, at}
 use Rattle.hm_typing.specs.Programs.{types_of, IsTypedDefinition, IsTyped}
+use Rattle.hm_typing.specs.TextNames.{program_text_names}
+use Rattle.hm_typing.specs.Typing.{Classes}
 use Rattle.hm_typing.proofs.Once.{goes_once}
 use Rattle.hm_typing.proofs.NeverBoth.{never_both}
 use Rattle.hm_types.specs.declared.fault.TypeFault.{TypeFault}
-use Rattle.hm_types.specs.declared.fault.TypeFault.TheVariants.{Mistyped, Unguarded, TwinLeft, Memory}
+use Rattle.hm_types.specs.declared.fault.TypeFault.TheVariants.{Mistyped, UnknownLens, Unguarded, TwinLeft, Memory}
 use Rattle.hm_types.specs.Checks.{IsFault, IsMistyped, in_definition, in_main, IsMistypedDefinition, no_view, other_view}
 use Rattle.hm_types.proofs.Entries.{found_once}
+use Rattle.hm_types.proofs.TextTypes.{known_names}
 
-module _ (p : ProgramValue) (s : SchemaValue) (well : IsWellFormed p) (shown : Form) (typed : IsTyped p (form s.nodes s.root) shown) where
-  mistyped_definition : (d : DefinitionValue) (a : At) → IsTypedDefinition p d → IsMistypedDefinition p d a → ⊥
-  mistyped_definition d a t (no_view f) = never_both (types_of p) d.body 1 (form p.options.types d.source) t.view a t.goes f
-  mistyped_definition d a t (other_view g f) = f (subst (λ v. IsSame v (form p.options.types d.view)) (goes_once (types_of p) t.goes g) t.same)
+module _ (texts : Classes) (p : ProgramValue) (s : SchemaValue) (well : IsWellFormed p) (shown : Form) (typed : IsTyped texts p (form s.nodes s.root) shown) where
+  mistyped_definition : (d : DefinitionValue) (a : At) → IsTypedDefinition texts p d → IsMistypedDefinition texts p d a → ⊥
+  mistyped_definition d a t (no_view f) = never_both (types_of texts p) d.body 1 (form p.options.types d.source) t.view a t.goes f
+  mistyped_definition d a t (other_view g f) = f (subst (λ v. IsSame v (form p.options.types d.view)) (goes_once (types_of texts p) t.goes g) t.same)
 
-  mistyped : (number : ℕ) (a : At) → IsMistyped p s number a → ⊥
+  mistyped : (number : ℕ) (a : At) → IsMistyped texts p s number a → ⊥
   mistyped number a (in_definition {i = i} {n = n} {d = d} before at m) =
       mistyped_definition d a (typed.definitions n d (found_once p.definitions well.definition_names i n d at)) m
-  mistyped number a (in_main before f) = never_both (types_of p) p.main 1 (form s.nodes s.root) shown a typed.main f
+  mistyped number a (in_main before f) = never_both (types_of texts p) p.main 1 (form s.nodes s.root) shown a typed.main f
 
-  pub told_of_none : (e : TypeFault) → IsFault p s e → e ≡ Memory
+  pub told_of_none : (e : TypeFault) → IsFault texts p s e → e ≡ Memory
   told_of_none Memory f = refl
-  told_of_none (Unguarded name) f = absurd (typed.guarded f.first.name f.first.bad)
+  told_of_none (UnknownLens name) f = absurd (known_names texts (program_text_names p) name typed.known f)
+  told_of_none (Unguarded name) f = absurd (typed.guarded f.1.first.name f.1.first.bad)
   told_of_none (Mistyped definition term rule) f = absurd (mistyped definition (at term rule) f.1)
-  told_of_none (TwinLeft definition term) f = absurd (f.1.0.twins (subst HasNoTwins (goes_once (types_of p) typed.main f.1.0.main) typed.plain))
+  told_of_none (TwinLeft definition term) f = absurd (f.1.0.twins (subst HasNoTwins (goes_once (types_of texts p) typed.main f.1.0.main) typed.plain))

@@ -12,7 +12,7 @@ use Rattle.hm_table.specs.Lists.{IsListOf, IsNoList}
 use Rattle.hm_types.specs.declared.course.Course.{Course}
 use Rattle.hm_types.specs.declared.memo.Memo.{Memo}
 use Rattle.hm_types.specs.Numbers.{parts_of}
-use Rattle.hm_types.specs.Courses.{lenses_in, IsView, IsReady, IsAt}
+use Rattle.hm_types.specs.Courses.{scope_of, lenses_in, IsView, IsReady, IsAt}
 use Rattle.hm_types.proofs.Standing.{stand_inside}
 
 first_sound : (u x : Form) (b some : Bool) → IsListOf some u x b → IsSound u → IsSound x
@@ -30,7 +30,7 @@ items_goes types l u x y v b true s g e = goes_items s g e
 items_goes types l u x y v b false s g e = goes_list s g e
 
 module _ (c : Course) (n : ℕ) (l : Lens) (old : Nodes) (known : Memo) (i : NodeId) (r : IsReady c old known (parts_of (items l)) n i) where
-  pub items_refused : IsNoList (form old i) → IsAt c.declared.now old (items l) n i (at n 9)
+  pub items_refused : IsNoList (form old i) → IsAt (scope_of c) old (items l) n i (at n 9)
   items_refused f types t = fault_items f.list f.items
 
   module _ (first : NodeId) (b some : Bool) (s : IsListOf some (form old i) (form old first) b) where
@@ -48,11 +48,11 @@ module _ (c : Course) (n : ℕ) (l : Lens) (old : Nodes) (known : Memo) (i : Nod
       rows = r.rows;
     }
 
-    pub items_at : (a : At) → IsAt c.declared.now old l (n + 1) first a → IsAt c.declared.now old (items l) n i a
+    pub items_at : (a : At) → IsAt (scope_of c) old l (n + 1) first a → IsAt (scope_of c) old (items l) n i a
     items_at a f types t = items_fault types l n (form old i) (form old first) b some a s (f types t)
 
-    pub items_view : (mid new : Nodes) (y j : NodeId) → IsView c.declared.now old mid l first y → j.place < length new
-        → form new j ≡ cond some (items_form b (form mid y)) (list_form b (form mid y)) → IsView c.declared.now old new (items l) i j
+    pub items_view : (mid new : Nodes) (y j : NodeId) → IsView (scope_of c) old mid l first y → j.place < length new
+        → form new j ≡ cond some (items_form b (form mid y)) (list_form b (form mid y)) → IsView (scope_of c) old new (items l) i j
     items_view mid new y j v lt e = record {
       in_range = lt;
       goes = λ types t. items_goes types l (form old i) (form old first) (form mid y) (form new j) b some s (v.goes types t) e;

@@ -21,7 +21,7 @@ use Rattle.hm_typing.specs.Typing.{Types, Goes}
 use Rattle.hm_table.specs.Tables.{Nodes, AreFormed, Extends, keys, replaced}
 use Rattle.hm_table.proofs.Grown.{extends_length, formed_at, next_in_range}
 use Rattle.hm_table.proofs.Keys.{keys_size, zip_sorted, rising}
-use Rattle.hm_types.specs.Courses.{Declared, AreTypes}
+use Rattle.hm_types.specs.Courses.{Scope, AreTypes}
 use Rattle.hm_types.specs.Below.{IsLed, AreLed, AreOthersLed}
 use Rattle.hm_types.proofs.Entries.{found_at, at_found, once_at, beside_at, there, pushed_at, set_at}
 use Rattle.hm_types.proofs.Growing.{inside, same_form, view_later}
@@ -40,41 +40,41 @@ none_found k ds es same e = go (find name_cmp k ds) (same ∙ ap is_some e)
 
 -- ---- one edge more
 
-module _ (ds : Declared) (old : Nodes) where
-  led_later : (mid new : Nodes) (h : AreFormed mid) (e : Extends mid new) (o : Option Lens) (i j : NodeId) → IsLed ds old mid o i j → IsLed ds old new o i j
+module _ (scope : Scope) (old : Nodes) where
+  led_later : (mid new : Nodes) (h : AreFormed mid) (e : Extends mid new) (o : Option Lens) (i j : NodeId) → IsLed scope old mid o i j → IsLed scope old new o i j
   led_later mid new h e o i j l = record {
     in_range = inside mid new h e j l.in_range;
-    view = λ lens is. view_later mid new h e ds old lens i j (l.view lens is);
+    view = λ lens is. view_later mid new h e scope old lens i j (l.view lens is);
     stays = l.stays;
   }
 
   pub others_later : (mid new : Nodes) (h : AreFormed mid) (e : Extends mid new) (l : Option Lens) (x y : Option (Class × NodeId))
-      → AreOthersLed ds old mid l x y → AreOthersLed ds old new l x y
+      → AreOthersLed scope old mid l x y → AreOthersLed scope old new l x y
   others_later mid new h e l None None r = tt
   others_later mid new h e l None (Some p) r = absurd r
   others_later mid new h e l (Some o) None r = absurd r
   others_later mid new h e l (Some o) (Some p) r = (r.0, led_later mid new h e l o.1 p.1 r.1)
 
   module _ (on : Name → Option Lens) (cs : List (Name × NodeId)) (js : List NodeId) where
-    pub led_grown : (mid new : Nodes) → AreFormed mid → Extends mid new → AreLed ds old mid on cs js → AreLed ds old new on cs js
+    pub led_grown : (mid new : Nodes) → AreFormed mid → Extends mid new → AreLed scope old mid on cs js → AreLed scope old new on cs js
     led_grown mid new h e l = record { each = λ p k i j at to. led_later mid new h e (on k) i j (l.each p k i j at to) }
 
-    pub led_pushed : (new : Nodes) (p : ℕ) (k : Name) (i j : NodeId) → length js ≡ p → slice_get cs p ≡ Some (k, i) → AreLed ds old new on cs js
-        → IsLed ds old new (on k) i j → AreLed ds old new on cs (js ++ j ∷ [])
+    pub led_pushed : (new : Nodes) (p : ℕ) (k : Name) (i j : NodeId) → length js ≡ p → slice_get cs p ≡ Some (k, i) → AreLed scope old new on cs js
+        → IsLed scope old new (on k) i j → AreLed scope old new on cs (js ++ j ∷ [])
     led_pushed new p k i j count at l one = record {
       each = λ q m a b from to. elim (pushed_at js j b q to) [
         | inl f ↦ l.each q m a b from f
         | inr f ↦
             let same : q ≡ p = f.0 ∙ count in
             let edge : (m, a) ≡ (k, i) = same_Some (m, a) (k, i) (sym from ∙ ap (slice_get cs) same ∙ at) in
-            subst (λ (b : NodeId). IsLed ds old new (on m) a b) f.1
-            (subst (λ (z : Name × NodeId). IsLed ds old new (on z.0) z.1 j) (sym edge) one)
+            subst (λ (b : NodeId). IsLed scope old new (on m) a b) f.1
+            (subst (λ (z : Name × NodeId). IsLed scope old new (on z.0) z.1 j) (sym edge) one)
       ];
     }
 
   -- no edge has a lens
   pub led_none : (on : Name → Option Lens) (cs : List (Name × NodeId)) → ((k : Name) → on k ≡ None) → All (λ c. c.1.place < length old) cs
-      → AreLed ds old old on cs (map (λ c. c.1) cs)
+      → AreLed scope old old on cs (map (λ c. c.1) cs)
   led_none on cs none all = record {
     each = λ p k i j at to.
         let same : i ≡ j = same_Some i j (sym (slice_get-map (λ (c : Name × NodeId). c.1) cs p ∙ ap (option_map (λ (c : Name × NodeId). c.1)) at) ∙ to) in
@@ -87,21 +87,21 @@ module _ (ds : Declared) (old : Nodes) where
 
   -- the edge of a name gets a lens
   pub led_set : (on next : Name → Option Lens) (cs : List (Name × NodeId)) (js : List NodeId) (new : Nodes) (p : ℕ) (k : Name) (i j : NodeId)
-      → T (is_sorted name_cmp cs) → slice_get cs p ≡ Some (k, i) → AreLed ds old new on cs js
-      → ((m : Name) → eq_by_cmp name_cmp m k ≡ false → next m ≡ on m) → IsLed ds old new (next k) i j → AreLed ds old new next cs (slice_set js p j)
+      → T (is_sorted name_cmp cs) → slice_get cs p ≡ Some (k, i) → AreLed scope old new on cs js
+      → ((m : Name) → eq_by_cmp name_cmp m k ≡ false → next m ≡ on m) → IsLed scope old new (next k) i j → AreLed scope old new next cs (slice_set js p j)
   led_set on next cs js new p k i j sorted at l other one = record {
     each = λ q m a b from to. elim (set_at js j b p q to) [
       | inl f ↦ go q m a b from f.0 f.1 (eq_by_cmp name_cmp m k) refl
       | inr f ↦
           let edge : (m, a) ≡ (k, i) = same_Some (m, a) (k, i) (sym from ∙ ap (slice_get cs) f.0 ∙ at) in
-          subst (λ (b : NodeId). IsLed ds old new (next m) a b) f.1
-          (subst (λ (z : Name × NodeId). IsLed ds old new (next z.0) z.1 j) (sym edge) one)
+          subst (λ (b : NodeId). IsLed scope old new (next m) a b) f.1
+          (subst (λ (z : Name × NodeId). IsLed scope old new (next z.0) z.1 j) (sym edge) one)
     ];
   }
     where
       go : (q : ℕ) (m : Name) (a b : NodeId) → slice_get cs q ≡ Some (m, a) → slice_get js q ≡ Some b → (q ≡ p → ⊥) → (t : Bool) → eq_by_cmp name_cmp m k ≡ t
-          → IsLed ds old new (next m) a b
-      go q m a b from to apart false t = subst (λ o. IsLed ds old new o a b) (sym (other m t)) (l.each q m a b from to)
+          → IsLed scope old new (next m) a b
+      go q m a b from to apart false t = subst (λ o. IsLed scope old new o a b) (sym (other m t)) (l.each q m a b from to)
       go q m a b from to apart true t =
           absurd (apart (once_at cs sorted q p m a i from (at ∙ ap (λ (m : Name). let z : Name × NodeId = (m, i) in Some z) (sym (tie_one m k t)))))
 
@@ -117,13 +117,13 @@ module _ (nodes : Nodes) (i : NodeId) (n : NodeValue) (e : slice_get nodes i.pla
 -- ---- the view
 
 -- a step from the view, beside that from the source
-record IsStep (ds : Declared) (old end : Nodes) (o : Option Lens) (x y : Option NodeId) : Type 0 where
-  both : (i : NodeId) → x ≡ Some i → (j : NodeId) × ((y ≡ Some j) × IsLed ds old end o i j)
+record IsStep (scope : Scope) (old end : Nodes) (o : Option Lens) (x y : Option NodeId) : Type 0 where
+  both : (i : NodeId) → x ≡ Some i → (j : NodeId) × ((y ≡ Some j) × IsLed scope old end o i j)
   neither : x ≡ None → y ≡ None
 
-module _ (ds : Declared) (old end new : Nodes) (on : Step → Option Lens) (i j : NodeId) (n : NodeValue) (js : List NodeId) (o : Option (Class × NodeId))
+module _ (scope : Scope) (old end new : Nodes) (on : Step → Option Lens) (i j : NodeId) (n : NodeValue) (js : List NodeId) (o : Option (Class × NodeId))
     (start : AreFormed old) (more : Extends old end) (formed : AreFormed end) (at : slice_get old i.place ≡ Some n)
-    (led : AreLed ds old end (λ k. on (named k)) n.children js) (count : length js ≡ length n.children) (other : AreOthersLed ds old end (on others) n.other o)
+    (led : AreLed scope old end (λ k. on (named k)) n.children js) (count : length js ≡ length n.children) (other : AreOthersLed scope old end (on others) n.other o)
     (is : new ≡ end ++ replaced n js o ∷ []) (place : j.place ≡ length end) where
   well : IsWellFormedNode (length old) n
   well = formed_at old i n start at
@@ -144,17 +144,17 @@ module _ (ds : Declared) (old end new : Nodes) (on : Step → Option Lens) (i j 
       names (c ∷ cs) [] e = absurd (omega (arith, e))
       names (c ∷ cs) (j ∷ js) e = ap (λ l. (c.0, tt) ∷ l) (names cs js (omega (arith, e)))
 
-      class : (x y : Option (Class × NodeId)) → AreOthersLed ds old end (on others) x y
+      class : (x y : Option (Class × NodeId)) → AreOthersLed scope old end (on others) x y
           → option_map {U = Class × Unit {0}} (λ o. (o.0, tt)) y ≡ option_map {U = Class × Unit {0}} (λ o. (o.0, tt)) x
       class None None r = refl
       class None (Some q) r = absurd r
       class (Some p) None r = absurd r
       class (Some p) (Some q) r = ap (λ (c : Class). let z : Class × Unit {0} = (c, tt) in Some z) r.0
 
-  step : (s : Step) → IsStep ds old end (on s) (next_of n s) (next_of (replaced n js o) s)
+  step : (s : Step) → IsStep scope old end (on s) (next_of n s) (next_of (replaced n js o) s)
   step (named k) = record { both = both; neither = neither }
     where
-      both : (a : NodeId) → find name_cmp k n.children ≡ Some a → (b : NodeId) × ((find name_cmp k (zip (keys n.children) js) ≡ Some b) × IsLed ds old end (on (named k)) a b)
+      both : (a : NodeId) → find name_cmp k n.children ≡ Some a → (b : NodeId) × ((find name_cmp k (zip (keys n.children) js) ≡ Some b) × IsLed scope old end (on (named k)) a b)
       both a f =
           let s = found_at k a n.children f in
           let b = there js s.place (omega (arith, count, slice_get_within n.children s.place (k, a) s.is)) in
@@ -167,18 +167,18 @@ module _ (ds : Declared) (old end new : Nodes) (on : Step → Option Lens) (i j 
           ∙ ap (list_any (eq_by_cmp name_cmp k)) (firsts-zip (keys n.children) js (count ∙ sym (keys_size n.children))) ∙ sym (is_some-find name_cmp k n.children)) f
   step others = go n.other o other
     where
-      go : (x y : Option (Class × NodeId)) → AreOthersLed ds old end (on others) x y
-          → IsStep ds old end (on others) (option_map (λ (o : Class × NodeId). o.1) x) (option_map (λ (o : Class × NodeId). o.1) y)
+      go : (x y : Option (Class × NodeId)) → AreOthersLed scope old end (on others) x y
+          → IsStep scope old end (on others) (option_map (λ (o : Class × NodeId). o.1) x) (option_map (λ (o : Class × NodeId). o.1) y)
       go None None r = record { both = λ a f. absurd (none-some a f); neither = λ f. refl }
       go None (Some q) r = absurd r
       go (Some p) None r = absurd r
       go (Some p) (Some q) r = record {
-        both = λ a f. (q.1, (refl, subst (λ (a : NodeId). IsLed ds old end (on others) a q.1) (same_Some p.1 a f) r.1));
+        both = λ a f. (q.1, (refl, subst (λ (a : NodeId). IsLed scope old end (on others) a q.1) (same_Some p.1 a f) r.1));
         neither = λ f. absurd (none-some p.1 (sym f));
       }
 
   -- where there is a lens, it goes
-  pub step_goes : (s : Step) (l : Lens) → on s ≡ Some l → (a : NodeId) → next_of n s ≡ Some a → (types : Types) → AreTypes old ds types
+  pub step_goes : (s : Step) (l : Lens) → on s ≡ Some l → (a : NodeId) → next_of n s ≡ Some a → (types : Types) → AreTypes old scope types
       → Goes types l (under s (form old i)) (under s (form new j))
   step_goes s l e a f types t =
       let b = (step s).both a f in

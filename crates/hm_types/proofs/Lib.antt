@@ -1,3 +1,4 @@
+mod TextTypes
 mod Remembering
 mod Standing
 mod Growing

@@ -29,7 +29,7 @@ use Rattle.hm_table.proofs.Forms.{is_listed_over}
 use Rattle.hm_types.specs.declared.course.Course.{Course}
 use Rattle.hm_types.specs.declared.memo.Memo.{Memo}
 use Rattle.hm_types.specs.Numbers.{StandFrom, parts_of, parts_of_all}
-use Rattle.hm_types.specs.Courses.{lenses_in, IsView, IsReady, IsGrown, IsAt}
+use Rattle.hm_types.specs.Courses.{scope_of, lenses_in, IsView, IsReady, IsGrown, IsAt}
 use Rattle.hm_types.specs.Below.{AreLed, AreOthersLed}
 use Rattle.hm_types.proofs.Standing.{count as size_count, stand_inside, stand_first, stand_second}
 use Rattle.hm_types.proofs.Named.{Terms, one_more, at_next, row_some}
@@ -180,18 +180,18 @@ module _ (c : Course) (number : ℕ) (rows : Terms) (old : Nodes) (known : Memo)
     label : form old i [] ≡ Some (label_of n)
     label = ap (option_map label_of) at_i
 
-    pub named_refused : ((n.twins ≡ []) → AreListed (label_of n) (lenses_of rows) → ⊥) → IsAt c.declared.now old (among (lenses_of rows)) number i (at number 8)
+    pub named_refused : ((n.twins ≡ []) → AreListed (label_of n) (lenses_of rows) → ⊥) → IsAt (scope_of c) old (among (lenses_of rows)) number i (at number 8)
     named_refused f types t = fault_among (λ a p l.
         let same : label_of n ≡ a = same_Some (label_of n) a (sym label ∙ p.is) in
         f (ap (λ (a : Label). a.twins) same ∙ p.plain) (subst (λ a. AreListed a (lenses_of rows)) (sym same) l))
 
-    pub named_start : AreLed c.declared.now old old (first_on 0) n.children (map (λ c. c.1) n.children)
-    named_start = led_none c.declared.now old (first_on 0) n.children (λ k. refl) well.children
+    pub named_start : AreLed (scope_of c) old old (first_on 0) n.children (map (λ c. c.1) n.children)
+    named_start = led_none (scope_of c) old (first_on 0) n.children (λ k. refl) well.children
 
     -- ---- one row more
 
     module _ (mid : Nodes) (some : Memo) (g : IsGrown c old mid some) (idx : ℕ) (row : Name × Term) (at_row : slice_get rows idx ≡ Some row) (here : ℕ)
-        (js : List NodeId) (led : AreLed c.declared.now old mid (first_on idx) n.children js) (count : length js ≡ length n.children)
+        (js : List NodeId) (led : AreLed (scope_of c) old mid (first_on idx) n.children js) (count : length js ≡ length n.children)
         (stand : StandFrom (lenses_in c) here (parts_of_all (lenses_of (drop idx rows)))) (p : ℕ) (x : NodeId) (at_p : slice_get n.children p ≡ Some (row.0, x)) where
       abbrev pub lens : Lens
       lens = lens_of row.1
@@ -224,7 +224,7 @@ module _ (c : Course) (number : ℕ) (rows : Terms) (old : Nodes) (known : Memo)
           row_stand
 
       pub row_at : here ≡ number + 1 + size_of_all (lenses_of (take idx rows)) → n.twins ≡ [] → AreListed (label_of n) (lenses_of rows) → (y : NodeId) → y ≡ x
-          → (a : At) → IsAt c.declared.now mid lens here y a → IsAt c.declared.now old (among (lenses_of rows)) number i a
+          → (a : At) → IsAt (scope_of c) mid lens here y a → IsAt (scope_of c) old (among (lenses_of rows)) number i a
       row_at is plain listed y e a f types t =
           let u : under (named row.0) (form old i) ≡ form mid y = under_at old i n at_i (named row.0) x step_is
           ∙ sym (same_form old mid r.start.formed g.extends x x_inside) ∙ ap (form mid) (sym e) in
@@ -233,7 +233,7 @@ module _ (c : Course) (number : ℕ) (rows : Terms) (old : Nodes) (known : Memo)
           (lens_of_row rows idx row at_row once)
           before
           (subst (λ h. Faults types lens h (under (named row.0) (form old i)) a) is
-          (subst (λ u. Faults types lens here u a) (sym u) (f types (types_grown old mid r.start.formed g.extends c.declared.now r.start.declared types t))))
+          (subst (λ u. Faults types lens here u a) (sym u) (f types (types_grown old mid r.start.formed g.extends (scope_of c) r.start.declared types t))))
         where
           before : (m : Name) (j : Lens) → IsAmong m j (lenses_of (take idx rows)) → GoesOn types j (under (named m) (form old i))
           before m j stands =
@@ -247,17 +247,17 @@ module _ (c : Course) (number : ℕ) (rows : Terms) (old : Nodes) (known : Memo)
                 goes = subst (λ u. Goes types j u (form mid y.0)) (sym (under_at old i n at_i (named m) child.0 child.1)) (v.goes types t);
               }
 
-      pub row_led : (new : Nodes) (more : Memo) (y j : NodeId) → y ≡ x → IsGrown c mid new more → IsView c.declared.now mid new lens y j
-          → AreLed c.declared.now old new (first_on (idx + 1)) n.children (slice_set js p j)
+      pub row_led : (new : Nodes) (more : Memo) (y j : NodeId) → y ≡ x → IsGrown c mid new more → IsView (scope_of c) mid new lens y j
+          → AreLed (scope_of c) old new (first_on (idx + 1)) n.children (slice_set js p j)
       row_led new more y j e h v =
-          led_set c.declared.now old (first_on idx) (first_on (idx + 1)) n.children js new p row.0 x j well.ascending at_p
-          (led_grown c.declared.now old (first_on idx) n.children js mid new g.formed h.extends led)
+          led_set (scope_of c) old (first_on idx) (first_on (idx + 1)) n.children js new p row.0 x j well.ascending at_p
+          (led_grown (scope_of c) old (first_on idx) n.children js mid new g.formed h.extends led)
           (λ m off. at_next rows idx row at_row m ∙ ap (λ b. option_or (first_on idx m) (cond b (Some lens) None)) off ∙ or_none (first_on idx m))
           (record {
             in_range = v.in_range;
-            view = λ k is. subst (λ k. IsView c.declared.now old new k x j) (same_Some lens k (sym on_row ∙ is))
-                (view_before old mid r.start.formed g.extends c.declared.now r.start.declared new lens x j x_inside
-                (subst (λ y. IsView c.declared.now mid new lens y j) e v));
+            view = λ k is. subst (λ k. IsView (scope_of c) old new k x j) (same_Some lens k (sym on_row ∙ is))
+                (view_before old mid r.start.formed g.extends (scope_of c) r.start.declared new lens x j x_inside
+                (subst (λ y. IsView (scope_of c) mid new lens y j) e v));
             stays = λ is. absurd (none-some lens (sym is ∙ on_row));
           })
         where
@@ -280,24 +280,24 @@ module _ (c : Course) (number : ℕ) (rows : Terms) (old : Nodes) (known : Memo)
     abbrev pub on : Step → Option Lens
     on = named_on (lenses_of rows)
 
-    pub none_led : (new : Nodes) → Extends old new → AreOthersLed c.declared.now old new None n.other n.other
+    pub none_led : (new : Nodes) → Extends old new → AreOthersLed (scope_of c) old new None n.other n.other
     none_led new e = go n.other well.other
       where
-        go : (o : Option (Class × NodeId)) → IfSome o (λ o. o.1.place < length old) → AreOthersLed c.declared.now old new None o o
+        go : (o : Option (Class × NodeId)) → IfSome o (λ o. o.1.place < length old) → AreOthersLed (scope_of c) old new None o o
         go None h = tt
         go (Some o) h = (refl, record { in_range = inside old new r.start.formed e o.1 h; view = λ l is. absurd (none-some l is); stays = λ e. refl })
 
     pub named_view : (mid new : Nodes) (e : Extends old mid) (js : List NodeId) (j : NodeId) → AreFormed mid → n.twins ≡ [] → AreListed (label_of n) (lenses_of rows)
-        → AreLed c.declared.now old mid (λ k. lens_at k (lenses_of rows)) n.children js → length js ≡ length n.children
-        → new ≡ mid ++ replaced n js n.other ∷ [] → j.place ≡ length mid → IsView c.declared.now old new (among (lenses_of rows)) i j
+        → AreLed (scope_of c) old mid (λ k. lens_at k (lenses_of rows)) n.children js → length js ≡ length n.children
+        → new ≡ mid ++ replaced n js n.other ∷ [] → j.place ≡ length mid → IsView (scope_of c) old new (among (lenses_of rows)) i j
     named_view mid new e js j formed plain listed led count is place = record {
       in_range = omega (arith, place, ap length is, length-append mid (replaced n js n.other ∷ []));
       goes = λ types t. goes_among (record { is = label; plain = plain }) listed
-          (view_label c.declared.now old mid new on i j n js n.other r.start.formed e formed at_i led count (none_led mid e) is place)
+          (view_label (scope_of c) old mid new on i j n js n.other r.start.formed e formed at_i led count (none_led mid e) is place)
           (λ k l f. let x = listed_child n k (listed k (subst IsSome (sym f) refl)) in
-          step_goes c.declared.now old mid new on i j n js n.other r.start.formed e formed at_i led count (none_led mid e) is place (named k) l f x.0 x.1 types t)
-          (λ k f. step_stays c.declared.now old mid new on i j n js n.other r.start.formed e formed at_i led count (none_led mid e) is place (named k) f)
-          (step_stays c.declared.now old mid new on i j n js n.other r.start.formed e formed at_i led count (none_led mid e) is place others refl);
+          step_goes (scope_of c) old mid new on i j n js n.other r.start.formed e formed at_i led count (none_led mid e) is place (named k) l f x.0 x.1 types t)
+          (λ k f. step_stays (scope_of c) old mid new on i j n js n.other r.start.formed e formed at_i led count (none_led mid e) is place (named k) f)
+          (step_stays (scope_of c) old mid new on i j n js n.other r.start.formed e formed at_i led count (none_led mid e) is place others refl);
     }
 
 -- ---- the place of a row's name

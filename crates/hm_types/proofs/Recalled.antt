@@ -7,16 +7,16 @@ use Rattle.hm_types.specs.declared.course.Course.{Course}
 use Rattle.hm_types.specs.declared.memo.Memo.{Memo}
 use Rattle.hm_types.specs.Numbers.{StandFrom, parts_of}
 use Rattle.hm_types.specs.Memos.{entry, Remembers}
-use Rattle.hm_types.specs.Courses.{lenses_in, IsView, IsReady, IsGrown}
+use Rattle.hm_types.specs.Courses.{scope_of, lenses_in, IsView, IsReady, IsGrown}
 use Rattle.hm_types.proofs.Standing.{stand_once}
 use Rattle.hm_types.proofs.Growing.{inside, view_after}
 
 module _ (c : Course) (old : Nodes) (known : Memo) (l : Lens) (n : ℕ) (i : NodeId) where
-  pub recalled : (j : NodeId) → IsReady c old known (parts_of l) n i → entry known n i ≡ Some j → IsView c.declared.now old old l i j
+  pub recalled : (j : NodeId) → IsReady c old known (parts_of l) n i → entry known n i ≡ Some j → IsView (scope_of c) old old l i j
   recalled j r e = r.memo.each n i j e l r.stand
 
   module _ (r : IsReady c old known (parts_of l) n i) (new : Nodes) (some more : Memo) (j : NodeId) (g : IsGrown c old new some)
-      (v : IsView c.declared.now old new l i j) (put : Remembers some more n i j) where
+      (v : IsView (scope_of c) old new l i j) (put : Remembers some more n i j) where
     pub remembered : IsGrown c old new more
     remembered = record {
       formed = g.formed;
@@ -30,10 +30,10 @@ module _ (c : Course) (old : Nodes) (known : Memo) (l : Lens) (n : ℕ) (i : Nod
           | inl f ↦ g.memo.each m a b f k s
           | inr f ↦
               let same : k ≡ l = stand_once (lenses_in c) n k l (subst (λ m. StandFrom (lenses_in c) m (parts_of k)) f.0 s) r.stand in
-              subst (λ k. IsView c.declared.now new new k a b) (sym same)
-              (subst (λ (a : NodeId). IsView c.declared.now new new l a b) (sym f.1)
-              (subst (λ (b : NodeId). IsView c.declared.now new new l i b) (sym f.2)
-              (view_after old new r.start.formed g.extends c.declared.now r.start.declared new l i j r.start.in_range v)))
+              subst (λ k. IsView (scope_of c) new new k a b) (sym same)
+              (subst (λ (a : NodeId). IsView (scope_of c) new new l a b) (sym f.1)
+              (subst (λ (b : NodeId). IsView (scope_of c) new new l i b) (sym f.2)
+              (view_after old new r.start.formed g.extends (scope_of c) r.start.declared new l i j r.start.in_range v)))
         ];
       };
     }

@@ -2,7 +2,7 @@
 use Rattle.std.proofs.Common.{◌≡◌, ℕ, suc, ◌+◌, ◌-◌, ◌<◌, ◌≤◌, List, [], ◌∷◌, ◌++◌, length, map, slice_get, slice_index_or, Some, refl, sym, ap, subst, ◌∙◌, arith, length-append, append_assoc}
 use Rattle.std.specs.Option.{option_map}
 use Rattle.std.proofs.lemmas.Option.{slice_get-map, slice_get_within, get_or_from_slice_get, same_Some}
-use Rattle.hm_terms.specs.Lenses.{Lens, Lenses, none, also, identity, sequence, constant, hoist, plunge, fork, each, among, items, copy, merge, on_concrete, on_view, call}
+use Rattle.hm_terms.specs.Lenses.{Lens, Lenses, none, also, identity, sequence, constant, hoist, plunge, fork, each, among, items, copy, merge, on_concrete, on_view, text, call}
 use Rattle.hm_typing.specs.Faults.{size_of, size_of_all}
 use Rattle.hm_types.specs.declared.parts.Part.{Part}
 use Rattle.hm_types.specs.Parts.{part_of}
@@ -29,6 +29,7 @@ mutual
   count (items l) = more (items l) (parts_of l) (size_of l) (count l)
   count (copy m n) = refl
   count (merge m n) = refl
+  count (text x) = refl
   count (on_concrete m l k) = more (on_concrete m l k) (parts_of l ++ parts_of k) (size_of l + size_of k) (both (parts_of l) (parts_of k) (size_of l) (size_of k) (count l) (count k))
   count (on_view m n l k) = more (on_view m n l k) (parts_of l ++ parts_of k) (size_of l + size_of k) (both (parts_of l) (parts_of k) (size_of l) (size_of k) (count l) (count k))
   count (call n) = refl
@@ -85,6 +86,7 @@ begins (among ls) = (parts_of_all ls, refl)
 begins (items l) = (parts_of l, refl)
 begins (copy m n) = ([], refl)
 begins (merge m n) = ([], refl)
+begins (text x) = ([], refl)
 begins (on_concrete m l k) = (parts_of l ++ parts_of k, refl)
 begins (on_view m n l k) = (parts_of l ++ parts_of k, refl)
 begins (call n) = ([], refl)

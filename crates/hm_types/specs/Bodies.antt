@@ -6,7 +6,7 @@ use Rattle.hm_typing.specs.SameForms.{IsSame}
 use Rattle.hm_typing.specs.Typing.{Types, Goes}
 use Rattle.hm_typing.specs.Faults.{At, at, Faults}
 use Rattle.hm_table.specs.Tables.{Nodes}
-use Rattle.hm_types.specs.Courses.{Declared, AreTypes}
+use Rattle.hm_types.specs.Courses.{Scope, AreTypes}
 
 -- a lens goes from a form to one that is the same as another
 pub record GoesTo (types : Types) (l : Lens) (u v : Form) : Type 0 where
@@ -19,8 +19,8 @@ pub data GoesAstray (types : Types) (l : Lens) (u v : Form) : At → Type 0 wher
   nowhere : {a : At} → Faults types l 1 u a → GoesAstray types l u v a
   elsewhere : {x : Form} → Goes types l u x → ¬ (IsSame x v) → GoesAstray types l u v (at 1 15)
 
-abbrev pub IsTypedBody : Declared → Nodes → Lens → NodeId → NodeId → Type 0
-IsTypedBody ds nodes l i j = (types : Types) → AreTypes nodes ds types → GoesTo types l (form nodes i) (form nodes j)
+abbrev pub IsTypedBody : Scope → Nodes → Lens → NodeId → NodeId → Type 0
+IsTypedBody scope nodes l i j = (types : Types) → AreTypes nodes scope types → GoesTo types l (form nodes i) (form nodes j)
 
-abbrev pub IsMistypedBody : Declared → Nodes → Lens → NodeId → NodeId → At → Type 0
-IsMistypedBody ds nodes l i j a = (types : Types) → AreTypes nodes ds types → GoesAstray types l (form nodes i) (form nodes j) a
+abbrev pub IsMistypedBody : Scope → Nodes → Lens → NodeId → NodeId → At → Type 0
+IsMistypedBody scope nodes l i j a = (types : Types) → AreTypes nodes scope types → GoesAstray types l (form nodes i) (form nodes j) a

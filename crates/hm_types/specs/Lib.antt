@@ -2,6 +2,7 @@ pub mod Numbers
 pub mod Parts
 pub mod Memos
 pub mod Courses
+pub mod TextTypes
 pub mod Pairs
 pub mod Below
 pub mod Told

@@ -1,6 +1,6 @@
 -- The numbers of the lenses in a lens: a lens comes before those inside it, and these come from left to right.
 use Rattle.std.specs.Prelude.{◌≡◌, ℕ, suc, List, [], ◌∷◌, ◌++◌, length}
-use Rattle.hm_terms.specs.Lenses.{Lens, Lenses, none, also, identity, sequence, constant, hoist, plunge, fork, each, among, items, copy, merge, on_concrete, on_view, call}
+use Rattle.hm_terms.specs.Lenses.{Lens, Lenses, none, also, identity, sequence, constant, hoist, plunge, fork, each, among, items, copy, merge, on_concrete, on_view, text, call}
 
 -- a lens and all lenses in it, in their order
 abbrev mutual
@@ -16,6 +16,7 @@ abbrev mutual
   parts_of (items l) = items l ∷ parts_of l
   parts_of (copy m n) = copy m n ∷ []
   parts_of (merge m n) = merge m n ∷ []
+  parts_of (text x) = text x ∷ []
   parts_of (on_concrete m l k) = on_concrete m l k ∷ (parts_of l ++ parts_of k)
   parts_of (on_view m n l k) = on_view m n l k ∷ (parts_of l ++ parts_of k)
   parts_of (call n) = call n ∷ []

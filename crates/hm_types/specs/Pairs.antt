@@ -10,7 +10,7 @@ use Rattle.hm_table.specs.Tables.{Nodes}
 use Rattle.hm_types.specs.declared.course.Course.{Course}
 use Rattle.hm_types.specs.declared.memo.Memo.{Memo}
 use Rattle.hm_types.specs.Numbers.{parts_of, StandFrom}
-use Rattle.hm_types.specs.Courses.{Declared, AreTypes, lenses_in, IsView, IsReady}
+use Rattle.hm_types.specs.Courses.{Scope, AreTypes, lenses_in, IsView, IsReady}
 
 pub record ArePairReady (c : Course) (nodes : Nodes) (known : Memo) (l k : Lens) (n : ℕ) (p q : NodeId) : Type 0 where
   pub first : IsReady c nodes known (parts_of l) (n + 1) p
@@ -18,12 +18,12 @@ pub record ArePairReady (c : Course) (nodes : Nodes) (known : Memo) (l k : Lens)
   pub in_range : q.place < length nodes
   pub sound : IsSound (form nodes q)
 
-pub record ArePairViews (ds : Declared) (old new : Nodes) (l k : Lens) (p q x y : NodeId) : Type 0 where
-  pub first : IsView ds old new l p x
-  pub second : IsView ds old new k q y
+pub record ArePairViews (scope : Scope) (old new : Nodes) (l k : Lens) (p q x y : NodeId) : Type 0 where
+  pub first : IsView scope old new l p x
+  pub second : IsView scope old new k q y
 
 -- the first has no view, or the first has one and the second none
-abbrev pub IsPairAt : Declared → Nodes → Lens → Lens → ℕ → NodeId → NodeId → At → Type 0
-IsPairAt ds nodes l k n p q a = (types : Types) → AreTypes nodes ds types
+abbrev pub IsPairAt : Scope → Nodes → Lens → Lens → ℕ → NodeId → NodeId → At → Type 0
+IsPairAt scope nodes l k n p q a = (types : Types) → AreTypes nodes scope types
     → Faults types l (n + 1) (form nodes p) a
     ⊎ ((x : Form) × (Goes types l (form nodes p) x × Faults types k (n + 1 + size_of l) (form nodes q) a))

@@ -1,6 +1,6 @@
 -- What is kept of the lenses in a lens, and the first one that copies.
 use Rattle.std.specs.Prelude.{◌≡◌, ◌<◌, ◌+◌, ℕ, Bool, true, false, List, [], ◌∷◌, Some, slice_get}
-use Rattle.hm_terms.specs.Lenses.{Lens, copy, identity, sequence, constant, hoist, plunge, fork, each, among, items, merge, on_concrete, on_view, call}
+use Rattle.hm_terms.specs.Lenses.{Lens, copy, identity, sequence, constant, hoist, plunge, fork, each, among, items, merge, on_concrete, on_view, text, call}
 use Rattle.hm_typing.specs.Faults.{size_of}
 use Rattle.hm_types.specs.declared.parts.Part.{Part}
 use Rattle.hm_types.specs.Numbers.{parts_of}
@@ -17,6 +17,7 @@ copies (among ls) = false
 copies (items l) = false
 copies (copy m n) = true
 copies (merge m n) = false
+copies (text x) = false
 copies (on_concrete m l k) = false
 copies (on_view m n l k) = false
 copies (call n) = false

@@ -4,7 +4,7 @@ ghost use Rattle.hm_terms.specs.Programs.{lens_of};
 ghost use Rattle.hm_typing.specs.Texts.{HasTexts};
 ghost use Rattle.hm_table.specs.Tables.{AreFormed, Extends};
 ghost use Rattle.hm_types.specs.Told.{IsTold};
-ghost use Rattle.hm_types.specs.Courses.{IsStart, IsView, IsAt};
+ghost use Rattle.hm_types.specs.Courses.{scoped, IsStart, IsView, IsAt};
 ghost use Rattle.hm_types.specs.Checks.{HasDistinctRows};
 ghost use Rattle.hm_types.specs.Bodies.{IsTypedBody, IsMistypedBody};
 
@@ -12,6 +12,7 @@ use crate::course::Course;
 use crate::fault::TypeFault;
 use crate::memo::Memo;
 use crate::parts::parts;
+use crate::texts::TextType;
 use crate::typing::view;
 use hm_schema::NodeId;
 use hm_table::{Table, same};
@@ -23,18 +24,19 @@ use std::alloc::Global;
 pub fn view_of(
     alloc: Global,
     table: &mut Table,
+    texts: &[TextType],
     declared: &[(Name, (NodeId, NodeId))],
     definition: usize,
     term: &Term,
     at: NodeId,
 ) -> Result<NodeId, TypeFault>
-    requires start { IsStart table.old declared.now at }
+    requires start { IsStart table.old (scoped texts.now declared.now) at }
     requires rows { HasDistinctRows (lens_of term.now) }
     ensures formed { AreFormed table.new }
     ensures extends { Extends table.old table.new }
-    ensures view { IfOk result (IsView declared.now table.old table.new (lens_of term.now) at) }
+    ensures view { IfOk result (IsView (scoped texts.now declared.now) table.old table.new (lens_of term.now) at) }
     ensures texts { OnOk result (HasTexts (lens_of term.now)) }
-    ensures fault { IfErr result (IsTold definition (IsAt declared.now table.old (lens_of term.now) 1 at)) }
+    ensures fault { IfErr result (IsTold definition (IsAt (scoped texts.now declared.now) table.old (lens_of term.now) 1 at)) }
 {
     let parts = parts(alloc, term)?;
     let course = Course {
@@ -42,6 +44,7 @@ pub fn view_of(
         definition,
         root: term,
         parts: &parts,
+        texts,
         declared,
     };
     let mut memo = Memo::new(alloc);
@@ -52,21 +55,22 @@ pub fn view_of(
 pub fn check_body(
     alloc: Global,
     table: &mut Table,
+    texts: &[TextType],
     declared: &[(Name, (NodeId, NodeId))],
     definition: usize,
     body: &Term,
     types: (NodeId, NodeId),
 ) -> Result<(), TypeFault>
-    requires start { IsStart table.old declared.now types.0 }
+    requires start { IsStart table.old (scoped texts.now declared.now) types.0 }
     requires view { types.1.place < length table.old }
     requires rows { HasDistinctRows (lens_of body.now) }
     ensures formed { AreFormed table.new }
     ensures extends { Extends table.old table.new }
-    ensures typed { OnOk result (IsTypedBody declared.now table.old (lens_of body.now) types.0 types.1) }
+    ensures typed { OnOk result (IsTypedBody (scoped texts.now declared.now) table.old (lens_of body.now) types.0 types.1) }
     ensures texts { OnOk result (HasTexts (lens_of body.now)) }
-    ensures fault { IfErr result (IsTold definition (IsMistypedBody declared.now table.old (lens_of body.now) types.0 types.1)) }
+    ensures fault { IfErr result (IsTold definition (IsMistypedBody (scoped texts.now declared.now) table.old (lens_of body.now) types.0 types.1)) }
 {
-    let found = view_of(alloc, table, declared, definition, body, types.0)?;
+    let found = view_of(alloc, table, texts, declared, definition, body, types.0)?;
     if !same(table, found, types.1) {
         return Err(TypeFault::Mistyped {
             definition,

@@ -1,32 +1,60 @@
 //! The check of a program.
-ghost use Rattle.std.specs.Prelude.{IfOk, IfErr, OnOk};
+ghost use Rattle.std.specs.Prelude.{IfOk, IfErr, OnOk, map};
 ghost use Rattle.hm_schema.specs.Membership.{HasNoTwins};
 ghost use Rattle.hm_terms.specs.Programs.{lens_of, program_value};
 ghost use Rattle.hm_terms.specs.WellFormedPrograms.{IsWellFormed};
 ghost use Rattle.hm_cycles.specs.BadCycles.{HasNoBadCycle};
-ghost use Rattle.hm_types.specs.Checks.{IsAccepted, IsFault, IsCycleTold, AreTwinsTold};
+ghost use Rattle.hm_typing.specs.Programs.{classes_in};
+ghost use Rattle.hm_types.specs.Courses.{classes_of};
+ghost use Rattle.hm_types.specs.Checks.{IsAccepted, IsAcceptedBy, IsFault, IsCycleTold, AreTwinsTold};
 
 use crate::body::{check_body, view_of};
 use crate::declaring::{behind, declared_of};
 use crate::fault::TypeFault;
 use crate::parts::{first_copy, parts};
+use crate::texts::{TextType, text_types};
 use crate::typed::Typed;
+use crate::unknown::check_texts;
 use hm_cycles::first_in_bad_cycle;
 use hm_numbering::{is_plain, numbered};
 use hm_schema::Schema;
 use hm_table::Table;
 use hm_terms::{Program, Term};
+use hm_text_lens::TextLens;
 use hm_tree::Memory;
 use std::alloc::Global;
 
-/// Checks that a program is typed over a schema: that no definition is in a bad cycle, that each one goes from its declared source
-/// to what is the same as its declared view, and that the main lens goes from the schema to a view without twins.
-pub fn check(alloc: Global, program: Program, source: &Schema) -> Result<Typed, TypeFault>
+/// Checks that a program is typed over a schema: that there is each text lens that it names, that no definition is in a bad
+/// cycle, that each one goes from its declared source to what is the same as its declared view, and that the main lens goes from
+/// the schema to a view without twins. Of text lenses of one name the first counts.
+pub fn check(
+    alloc: Global,
+    program: Program,
+    source: &Schema,
+    texts: &[Box<dyn TextLens>],
+) -> Result<Typed, TypeFault>
     requires program { IsWellFormed (program_value program) }
     requires source { HasNoTwins source.now }
-    ensures typed { IfOk result (IsAccepted (program_value program) source.now) }
-    ensures fault { IfErr result (IsFault (program_value program) source.now) }
+    ensures typed { IfOk result (IsAccepted (map (λ b. meaning b) texts.now) (program_value program) source.now) }
+    ensures fault { IfErr result (IsFault (classes_in (map (λ b. meaning b) texts.now)) (program_value program) source.now) }
 {
+    let types = text_types(alloc, texts)?;
+    Ok(checked(alloc, program, source, &types)?)
+}
+
+// The same by the types of text lenses.
+fn checked(
+    alloc: Global,
+    program: Program,
+    source: &Schema,
+    texts: &[TextType],
+) -> Result<Typed, TypeFault>
+    requires program { IsWellFormed (program_value program) }
+    requires source { HasNoTwins source.now }
+    ensures typed { IfOk result (IsAcceptedBy (classes_of texts.now) (program_value program) source.now) }
+    ensures fault { IfErr result (IsFault (classes_of texts.now) (program_value program) source.now) }
+{
+    check_texts(&program, texts)?;
     check_cycles(alloc, &program)?;
     let nodes = source.nodes();
     let by = nodes.len();
@@ -38,6 +66,7 @@ pub fn check(alloc: Global, program: Program, source: &Schema) -> Result<Typed, 
         check_body(
             alloc,
             &mut table,
+            texts,
             &declared,
             number,
             &definition.body,
@@ -48,6 +77,7 @@ pub fn check(alloc: Global, program: Program, source: &Schema) -> Result<Typed, 
     let shown = view_of(
         alloc,
         &mut table,
+        texts,
         &declared,
         number,
         &program.main,

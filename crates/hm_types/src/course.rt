@@ -1,17 +1,19 @@
 //! What a lens is checked with.
 use crate::parts::Part;
+use crate::texts::TextType;
 use hm_schema::NodeId;
 use hm_terms::Term;
 use hm_tree::Name;
 use std::alloc::Global;
 
-/// The lens of a definition, the number of the definition, the lenses in it, and the
-/// nodes of the sources and views of all definitions by their names.
+/// The lens of a definition, the number of the definition, the lenses in it, the types of text lenses, and the nodes of the
+/// sources and views of all definitions by their names.
 #[derive(Drop)]
 pub struct Course<'a> {
     pub alloc: Global,
     pub definition: usize,
     pub root: &'a Term,
     pub parts: &'a [Part],
+    pub texts: &'a [TextType],
     pub declared: &'a [(Name, (NodeId, NodeId))],
 }

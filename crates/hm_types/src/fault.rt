@@ -15,6 +15,10 @@ pub enum TypeFault {
         term: usize,
         rule: u8,
     },
+    /// There is no text lens of this name.
+    UnknownLens {
+        name: Name,
+    },
     /// This definition is in a bad cycle.
     Unguarded {
         name: Name,

@@ -53,6 +53,7 @@ fn push_inside(parts: &mut Vec<Part>, term: &Term) -> Result<(), Memory>
     match term {
         Term::Id => Ok(()),
         Term::Const { .. } => Ok(()),
+        Term::Text(_) => Ok(()),
         Term::Call(_) => Ok(()),
         Term::Hoist(name) => Ok(see(name)),
         Term::Plunge(name) => Ok(see(name)),

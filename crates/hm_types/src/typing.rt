@@ -6,14 +6,14 @@ ghost use Rattle.hm_terms.specs.Programs.{lens_of, lenses_of};
 ghost use Rattle.hm_typing.specs.Forms.{label_of};
 ghost use Rattle.hm_typing.specs.Typing.{AreListed};
 ghost use Rattle.hm_types.specs.Numbers.{parts_of};
-ghost use Rattle.hm_types.specs.Courses.{IsReady, IsGrown, IsView, IsAt};
+ghost use Rattle.hm_types.specs.Courses.{scope_of, IsReady, IsGrown, IsView, IsAt};
 ghost use Rattle.hm_types.specs.Pairs.{ArePairReady, ArePairViews, IsPairAt};
 ghost use Rattle.hm_types.specs.Below.{IsListedBelow, IsOtherBelow, IsListedAt, IsOtherAt};
 ghost use Rattle.hm_types.specs.Told.{IsTold};
 
 use crate::course::Course;
 use crate::fault::TypeFault;
-use crate::leaves::{called, constant, copy, hide, hoist, plunge};
+use crate::leaves::{called, constant, copy, hide, hoist, plunge, text};
 use crate::memo::Memo;
 use crate::numbers::behind;
 use crate::unmet::unmet;
@@ -44,8 +44,8 @@ pub fn view(
 ) -> Result<NodeId, TypeFault>
     requires { IsReady course.now table.old memo.old (parts_of (lens_of term.now)) number at }
     ensures grown { IsGrown course.now table.old table.new memo.new }
-    ensures view { IfOk result (IsView course.now.declared.now table.old table.new (lens_of term.now) at) }
-    ensures fault { IfErr result (IsTold course.now.definition (IsAt course.now.declared.now table.old (lens_of term.now) number at)) }
+    ensures view { IfOk result (IsView (scope_of course.now) table.old table.new (lens_of term.now) at) }
+    ensures fault { IfErr result (IsTold course.now.definition (IsAt (scope_of course.now) table.old (lens_of term.now) number at)) }
 {
     if let Some(view) = memo.recall(number, at) {
         return Ok(view);
@@ -66,8 +66,8 @@ fn anew(
 ) -> Result<NodeId, TypeFault>
     requires { IsReady course.now table.old memo.old (parts_of (lens_of term.now)) number at }
     ensures grown { IsGrown course.now table.old table.new memo.new }
-    ensures view { IfOk result (IsView course.now.declared.now table.old table.new (lens_of term.now) at) }
-    ensures fault { IfErr result (IsTold course.now.definition (IsAt course.now.declared.now table.old (lens_of term.now) number at)) }
+    ensures view { IfOk result (IsView (scope_of course.now) table.old table.new (lens_of term.now) at) }
+    ensures fault { IfErr result (IsTold course.now.definition (IsAt (scope_of course.now) table.old (lens_of term.now) number at)) }
 {
     match term {
         Term::Id => Ok(at),
@@ -76,6 +76,7 @@ fn anew(
         Term::Plunge(name) => Ok(plunge(course, table, name, at)?),
         Term::Copy(first, second) => copy(course, table, first, second, number, at),
         Term::Merge(first, second) => hide(course, table, first, second, number, at),
+        Term::Text(name) => text(course, table, name, number, at),
         Term::Call(name) => called(course, table, name, number, at),
         Term::Seq(first, second) => in_sequence(course, table, memo, first, second, number, at),
         Term::Fork {
@@ -127,8 +128,8 @@ fn in_sequence(
 ) -> Result<NodeId, TypeFault>
     requires { IsReady course.now table.old memo.old (parts_of (sequence (lens_of first.now) (lens_of second.now))) number at }
     ensures grown { IsGrown course.now table.old table.new memo.new }
-    ensures view { IfOk result (IsView course.now.declared.now table.old table.new (sequence (lens_of first.now) (lens_of second.now)) at) }
-    ensures fault { IfErr result (IsTold course.now.definition (IsAt course.now.declared.now table.old (sequence (lens_of first.now) (lens_of second.now)) number at)) }
+    ensures view { IfOk result (IsView (scope_of course.now) table.old table.new (sequence (lens_of first.now) (lens_of second.now)) at) }
+    ensures fault { IfErr result (IsTold course.now.definition (IsAt (scope_of course.now) table.old (sequence (lens_of first.now) (lens_of second.now)) number at)) }
 {
     let between = view(course, table, memo, first, number + 1, at)?;
     let number = behind(course, number + 1);
@@ -147,8 +148,8 @@ fn both(
 ) -> Result<(NodeId, NodeId), TypeFault>
     requires { ArePairReady course.now table.old memo.old (lens_of terms.now.first.now) (lens_of terms.now.second.now) number nodes.0 nodes.1 }
     ensures grown { IsGrown course.now table.old table.new memo.new }
-    ensures views { IfOk result (λ r. ArePairViews course.now.declared.now table.old table.new (lens_of terms.now.first.now) (lens_of terms.now.second.now) nodes.0 nodes.1 r.0 r.1) }
-    ensures fault { IfErr result (IsTold course.now.definition (IsPairAt course.now.declared.now table.old (lens_of terms.now.first.now) (lens_of terms.now.second.now) number nodes.0 nodes.1)) }
+    ensures views { IfOk result (λ r. ArePairViews (scope_of course.now) table.old table.new (lens_of terms.now.first.now) (lens_of terms.now.second.now) nodes.0 nodes.1 r.0 r.1) }
+    ensures fault { IfErr result (IsTold course.now.definition (IsPairAt (scope_of course.now) table.old (lens_of terms.now.first.now) (lens_of terms.now.second.now) number nodes.0 nodes.1)) }
 {
     let first = view(course, table, memo, terms.first, number + 1, nodes.0)?;
     let number = behind(course, number + 1);
@@ -169,8 +170,8 @@ fn in_fork(
 ) -> Result<NodeId, TypeFault>
     requires { IsReady course.now table.old memo.old (parts_of (fork concrete.now shown.now (lens_of terms.now.first.now) (lens_of terms.now.second.now))) number at }
     ensures grown { IsGrown course.now table.old table.new memo.new }
-    ensures view { IfOk result (IsView course.now.declared.now table.old table.new (fork concrete.now shown.now (lens_of terms.now.first.now) (lens_of terms.now.second.now)) at) }
-    ensures fault { IfErr result (IsTold course.now.definition (IsAt course.now.declared.now table.old (fork concrete.now shown.now (lens_of terms.now.first.now) (lens_of terms.now.second.now)) number at)) }
+    ensures view { IfOk result (IsView (scope_of course.now) table.old table.new (fork concrete.now shown.now (lens_of terms.now.first.now) (lens_of terms.now.second.now)) at) }
+    ensures fault { IfErr result (IsTold course.now.definition (IsAt (scope_of course.now) table.old (fork concrete.now shown.now (lens_of terms.now.first.now) (lens_of terms.now.second.now)) number at)) }
 {
     let parts = match parted(course.alloc, table, at, concrete)? {
         Some(parts) => parts,
@@ -195,8 +196,8 @@ fn by_concrete(
 ) -> Result<NodeId, TypeFault>
     requires { IsReady course.now table.old memo.old (parts_of (on_concrete name.now (lens_of terms.now.first.now) (lens_of terms.now.second.now))) number at }
     ensures grown { IsGrown course.now table.old table.new memo.new }
-    ensures view { IfOk result (IsView course.now.declared.now table.old table.new (on_concrete name.now (lens_of terms.now.first.now) (lens_of terms.now.second.now)) at) }
-    ensures fault { IfErr result (IsTold course.now.definition (IsAt course.now.declared.now table.old (on_concrete name.now (lens_of terms.now.first.now) (lens_of terms.now.second.now)) number at)) }
+    ensures view { IfOk result (IsView (scope_of course.now) table.old table.new (on_concrete name.now (lens_of terms.now.first.now) (lens_of terms.now.second.now)) at) }
+    ensures fault { IfErr result (IsTold course.now.definition (IsAt (scope_of course.now) table.old (on_concrete name.now (lens_of terms.now.first.now) (lens_of terms.now.second.now)) number at)) }
 {
     let sides = match branched(course.alloc, table, at, name)? {
         Some(sides) => sides,
@@ -223,8 +224,8 @@ fn by_view(
 ) -> Result<NodeId, TypeFault>
     requires { IsReady course.now table.old memo.old (parts_of (on_view name.now shown.now (lens_of terms.now.first.now) (lens_of terms.now.second.now))) number at }
     ensures grown { IsGrown course.now table.old table.new memo.new }
-    ensures view { IfOk result (IsView course.now.declared.now table.old table.new (on_view name.now shown.now (lens_of terms.now.first.now) (lens_of terms.now.second.now)) at) }
-    ensures fault { IfErr result (IsTold course.now.definition (IsAt course.now.declared.now table.old (on_view name.now shown.now (lens_of terms.now.first.now) (lens_of terms.now.second.now)) number at)) }
+    ensures view { IfOk result (IsView (scope_of course.now) table.old table.new (on_view name.now shown.now (lens_of terms.now.first.now) (lens_of terms.now.second.now)) at) }
+    ensures fault { IfErr result (IsTold course.now.definition (IsAt (scope_of course.now) table.old (on_view name.now shown.now (lens_of terms.now.first.now) (lens_of terms.now.second.now)) number at)) }
 {
     let sides = match branched(course.alloc, table, at, name)? {
         Some(sides) => sides,
@@ -248,8 +249,8 @@ fn on_items(
 ) -> Result<NodeId, TypeFault>
     requires { IsReady course.now table.old memo.old (parts_of (items (lens_of inner.now))) number at }
     ensures grown { IsGrown course.now table.old table.new memo.new }
-    ensures view { IfOk result (IsView course.now.declared.now table.old table.new (items (lens_of inner.now)) at) }
-    ensures fault { IfErr result (IsTold course.now.definition (IsAt course.now.declared.now table.old (items (lens_of inner.now)) number at)) }
+    ensures view { IfOk result (IsView (scope_of course.now) table.old table.new (items (lens_of inner.now)) at) }
+    ensures fault { IfErr result (IsTold course.now.definition (IsAt (scope_of course.now) table.old (items (lens_of inner.now)) number at)) }
 {
     let source = match items_of(table, at) {
         Some(source) => source,
@@ -270,8 +271,8 @@ fn on_each(
 ) -> Result<NodeId, TypeFault>
     requires { IsReady course.now table.old memo.old (parts_of (each (lens_of inner.now))) number at }
     ensures grown { IsGrown course.now table.old table.new memo.new }
-    ensures view { IfOk result (IsView course.now.declared.now table.old table.new (each (lens_of inner.now)) at) }
-    ensures fault { IfErr result (IsTold course.now.definition (IsAt course.now.declared.now table.old (each (lens_of inner.now)) number at)) }
+    ensures view { IfOk result (IsView (scope_of course.now) table.old table.new (each (lens_of inner.now)) at) }
+    ensures fault { IfErr result (IsTold course.now.definition (IsAt (scope_of course.now) table.old (each (lens_of inner.now)) number at)) }
 {
     if !is_plain(table, at) {
         return Err(unmet(course, number, 7));
@@ -298,8 +299,8 @@ fn on_listed(
     requires ready { IsReady course.now table.old memo.old (parts_of (each (lens_of inner.now))) number at }
     requires place { (n : NodeValue) → slice_get table.old at.place ≡ Some n → place < length n.children }
     ensures grown { IsGrown course.now table.old table.new memo.new }
-    ensures below { IfOk result (λ j. (n : NodeValue) → slice_get table.old at.place ≡ Some n → IsListedBelow course.now.declared.now table.old table.new (lens_of inner.now) n place j) }
-    ensures fault { IfErr result (IsTold course.now.definition (λ a. (n : NodeValue) → slice_get table.old at.place ≡ Some n → IsListedAt course.now.declared.now table.old (lens_of inner.now) (number + 1) n place a)) }
+    ensures below { IfOk result (λ j. (n : NodeValue) → slice_get table.old at.place ≡ Some n → IsListedBelow (scope_of course.now) table.old table.new (lens_of inner.now) n place j) }
+    ensures fault { IfErr result (IsTold course.now.definition (λ a. (n : NodeValue) → slice_get table.old at.place ≡ Some n → IsListedAt (scope_of course.now) table.old (lens_of inner.now) (number + 1) n place a)) }
 {
     let (child, stands) = listed(table, at, place);
     if !stands {
@@ -320,8 +321,8 @@ fn on_other(
 ) -> Result<Option<(Class, NodeId)>, TypeFault>
     requires ready { IsReady course.now table.old memo.old (parts_of (each (lens_of inner.now))) number at }
     ensures grown { IsGrown course.now table.old table.new memo.new }
-    ensures below { IfOk result (λ o. (n : NodeValue) → slice_get table.old at.place ≡ Some n → IsOtherBelow course.now.declared.now table.old table.new (lens_of inner.now) n o) }
-    ensures fault { IfErr result (IsTold course.now.definition (λ a. (n : NodeValue) → slice_get table.old at.place ≡ Some n → IsOtherAt course.now.declared.now table.old (lens_of inner.now) (number + 1) n a)) }
+    ensures below { IfOk result (λ o. (n : NodeValue) → slice_get table.old at.place ≡ Some n → IsOtherBelow (scope_of course.now) table.old table.new (lens_of inner.now) n o) }
+    ensures fault { IfErr result (IsTold course.now.definition (λ a. (n : NodeValue) → slice_get table.old at.place ≡ Some n → IsOtherAt (scope_of course.now) table.old (lens_of inner.now) (number + 1) n a)) }
 {
     let (class, child) = match other(table, at) {
         Some(other) => other,
@@ -345,8 +346,8 @@ fn on_named(
 ) -> Result<NodeId, TypeFault>
     requires { IsReady course.now table.old memo.old (parts_of (among (lenses_of rows.now))) number at }
     ensures grown { IsGrown course.now table.old table.new memo.new }
-    ensures view { IfOk result (IsView course.now.declared.now table.old table.new (among (lenses_of rows.now)) at) }
-    ensures fault { IfErr result (IsTold course.now.definition (IsAt course.now.declared.now table.old (among (lenses_of rows.now)) number at)) }
+    ensures view { IfOk result (IsView (scope_of course.now) table.old table.new (among (lenses_of rows.now)) at) }
+    ensures fault { IfErr result (IsTold course.now.definition (IsAt (scope_of course.now) table.old (among (lenses_of rows.now)) number at)) }
 {
     if !is_plain(table, at) {
         return Err(unmet(course, number, 8));

@@ -17,7 +17,7 @@ use Rattle.hm_typing.specs.Faults.{size_of}
 use Rattle.hm_table.specs.Tables.{replaced}
 use Rattle.hm_table.proofs.Grown.{extends_self, extends_then, extends_at, formed_at}
 use Rattle.hm_types.specs.Numbers.{parts_of}
-use Rattle.hm_types.specs.Courses.{IsReady, IsView, IsAt, IsGrown}
+use Rattle.hm_types.specs.Courses.{scope_of, IsReady, IsView, IsAt, IsGrown}
 use Rattle.hm_types.specs.Pairs.{IsPairAt}
 use Rattle.hm_types.specs.Below.{IsListedAt, IsOtherAt, where_it_can, AreLed, AreOthersLed}
 use Rattle.hm_types.proofs.Entries.{there, at_found, pushed_size}
@@ -52,7 +52,7 @@ view-returns-clause-grown t c =
 
 pub anew-returns-in-Id-clause-view : goal.anew-returns-in-Id-clause-view
 anew-returns-in-Id-clause-view t c =
-    subst (λ l. IsView c.args.course.now.declared.now c.args.table.now c.args.table.now l c.args.at c.args.at) (sym (ap lens_of c.in-Id.is))
+    subst (λ l. IsView (scope_of c.args.course.now) c.args.table.now c.args.table.now l c.args.at c.args.at) (sym (ap lens_of c.in-Id.is))
     (record { in_range = c.requires.start.in_range; goes = λ types t. goes_identity })
 
 pub anew-returns-in-Const-clause-grown : goal.anew-returns-in-Const-clause-grown
@@ -70,6 +70,9 @@ anew-returns-in-Copy-clause-grown t c = grown_by _ _ _ _ _ _ c.requires _ c.copy
 pub anew-returns-in-Merge-clause-grown : goal.anew-returns-in-Merge-clause-grown
 anew-returns-in-Merge-clause-grown t c = grown_by _ _ _ _ _ _ c.requires _ c.hide.ensures.formed c.hide.ensures.extends
 
+pub anew-returns-in-Text-clause-grown : goal.anew-returns-in-Text-clause-grown
+anew-returns-in-Text-clause-grown t c = grown_by _ _ _ _ _ _ c.requires _ c.text.ensures.formed c.text.ensures.extends
+
 pub anew-on_named-requires : goal.anew-on_named-requires
 anew-on_named-requires t c =
     let is : lens_of c.args.term.now ≡ among (lenses_of c.deref-in-Each.result.now) =
@@ -82,16 +85,16 @@ pub anew-returns-in-Each-clause-view : goal.anew-returns-in-Each-clause-view
 anew-returns-in-Each-clause-view t c =
     let is : lens_of c.args.term.now ≡ among (lenses_of c.deref-in-Each.result.now) =
     ap lens_of c.in-Each.is ∙ each_items c.in-Each.rows ∙ ap (λ rows. among (lenses_of rows)) (sym c.deref-in-Each.ensures.value) in
-    IfOk-weaker _ _ _ (λ j v. subst (λ l. IsView c.args.course.now.declared.now c.args.table.now c.on_named.new.table l c.args.at j) (sym is) v) c.on_named.ensures.view
+    IfOk-weaker _ _ _ (λ j v. subst (λ l. IsView (scope_of c.args.course.now) c.args.table.now c.on_named.new.table l c.args.at j) (sym is) v) c.on_named.ensures.view
 
 pub anew-returns-in-Each-clause-fault : goal.anew-returns-in-Each-clause-fault
 anew-returns-in-Each-clause-fault t c =
     let is : lens_of c.args.term.now ≡ among (lenses_of c.deref-in-Each.result.now) =
     ap lens_of c.in-Each.is ∙ each_items c.in-Each.rows ∙ ap (λ rows. among (lenses_of rows)) (sym c.deref-in-Each.ensures.value) in
     IfErr-weaker _ _ _ (λ e f. told_so c.args.course.now.definition
-    (IsAt c.args.course.now.declared.now c.args.table.now (among (lenses_of c.deref-in-Each.result.now)) c.args.number c.args.at)
-    (IsAt c.args.course.now.declared.now c.args.table.now (lens_of c.args.term.now) c.args.number c.args.at)
-    (λ a f. subst (λ l. IsAt c.args.course.now.declared.now c.args.table.now l c.args.number c.args.at a) (sym is) f) e f) c.on_named.ensures.fault
+    (IsAt (scope_of c.args.course.now) c.args.table.now (among (lenses_of c.deref-in-Each.result.now)) c.args.number c.args.at)
+    (IsAt (scope_of c.args.course.now) c.args.table.now (lens_of c.args.term.now) c.args.number c.args.at)
+    (λ a f. subst (λ l. IsAt (scope_of c.args.course.now) c.args.table.now l c.args.number c.args.at a) (sym is) f) e f) c.on_named.ensures.fault
 
 -- ---- one after the other
 
@@ -104,7 +107,7 @@ in_sequence-view-requires t c = (
 pub in_sequence-returns-in_err-between-clause-fault : goal.in_sequence-returns-in_err-between-clause-fault
 in_sequence-returns-in_err-between-clause-fault t c =
     let p = err_from_is_err_and c.from_residual.result c.from_residual.ensures.1 in
-    let ds = c.args.course.now.declared.now in
+    let ds = (scope_of c.args.course.now) in
     let l = lens_of c.args.first.now in
     let k = lens_of c.args.second.now in
     rw (p.1, p.2)
@@ -129,7 +132,7 @@ in_sequence-view-requires-2 t c =
 pub in_sequence-returns-in_err-view-clause-fault : goal.in_sequence-returns-in_err-view-clause-fault
 in_sequence-returns-in_err-view-clause-fault t c =
     let p = err_from_is_err_and c.from_residual-in_err-view.result c.from_residual-in_err-view.ensures.1 in
-    let ds = c.args.course.now.declared.now in
+    let ds = (scope_of c.args.course.now) in
     let l = lens_of c.args.first.now in
     let k = lens_of c.args.second.now in
     let r = sequence_ready c.args.course.now c.args.number l k c.args.table.now c.args.memo.now c.args.at c.requires in
@@ -162,7 +165,7 @@ both-view-requires-2 t c =
 pub both-returns-in_err-second-clause-fault : goal.both-returns-in_err-second-clause-fault
 both-returns-in_err-second-clause-fault t c =
     let p = err_from_is_err_and c.from_residual-in_err-second.result c.from_residual-in_err-second.ensures.1 in
-    let ds = c.args.course.now.declared.now in
+    let ds = (scope_of c.args.course.now) in
     let l = lens_of c.args.terms.now.first.now in
     let k = lens_of c.args.terms.now.second.now in
     rw (p.1, p.2)
@@ -205,7 +208,7 @@ pub in_fork-returns-in_err-one-clause-fault : goal.in_fork-returns-in_err-one-cl
 in_fork-returns-in_err-one-clause-fault t c =
     let p = err_from_is_err_and c.from_residual-in_err-one.result c.from_residual-in_err-one.ensures.1 in
     rw (p.1, p.2)
-    (told_so c.args.course.now.definition (IsPairAt c.args.course.now.declared.now c.parted.new.table (lens_of c.args.terms.now.first.now) (lens_of c.args.terms.now.second.now) c.args.number c.in-Some.parts.0 c.in-Some.parts.1) (IsAt c.args.course.now.declared.now c.args.table.now (fork c.args.concrete.now c.args.shown.now (lens_of c.args.terms.now.first.now) (lens_of c.args.terms.now.second.now)) c.args.number c.args.at)
+    (told_so c.args.course.now.definition (IsPairAt (scope_of c.args.course.now) c.parted.new.table (lens_of c.args.terms.now.first.now) (lens_of c.args.terms.now.second.now) c.args.number c.in-Some.parts.0 c.in-Some.parts.1) (IsAt (scope_of c.args.course.now) c.args.table.now (fork c.args.concrete.now c.args.shown.now (lens_of c.args.terms.now.first.now) (lens_of c.args.terms.now.second.now)) c.args.number c.args.at)
     (fork_pair_at c.args.course.now c.args.number c.args.concrete.now c.args.shown.now (lens_of c.args.terms.now.first.now) (lens_of c.args.terms.now.second.now) c.args.table.now c.args.memo.now c.args.at c.requires c.parted.new.table c.parted.ensures.extends c.in-Some.parts.0 c.in-Some.parts.1 (rw c.in-Some.is at c.in_ok-parts.ensures.parted))
     c.in_err-one.field-0.0 c.in_err-one.ensures.fault)
 
@@ -215,7 +218,7 @@ in_fork-returns-in_err-view-clause-grown t c =
     grown_then c.args.course.now c.args.table.now c.parted.new.table c.both.new.table c.args.memo.now c.both.new.memo
     (grown_by _ _ _ _ _ _ c.requires _ c.parted.ensures.formed c.parted.ensures.extends) c.in_ok-one.ensures.grown in
     grown_last c.args.course.now c.both.new.table c.joined.new.table c.both.new.memo
-    (declared_grown c.args.table.now c.both.new.table c.requires.start.formed g.extends c.args.course.now.declared.now c.requires.start.declared)
+    (declared_grown c.args.table.now c.both.new.table c.requires.start.formed g.extends (scope_of c.args.course.now) c.requires.start.declared)
     c.args.table.now g c.joined.ensures.formed c.joined.ensures.extends
 
 pub in_fork-returns-in-Some-2-clause-grown : goal.in_fork-returns-in-Some-2-clause-grown
@@ -224,7 +227,7 @@ in_fork-returns-in-Some-2-clause-grown t c =
     grown_then c.args.course.now c.args.table.now c.parted.new.table c.both.new.table c.args.memo.now c.both.new.memo
     (grown_by _ _ _ _ _ _ c.requires _ c.parted.ensures.formed c.parted.ensures.extends) c.in_ok-one.ensures.grown in
     grown_last c.args.course.now c.both.new.table c.joined.new.table c.both.new.memo
-    (declared_grown c.args.table.now c.both.new.table c.requires.start.formed g.extends c.args.course.now.declared.now c.requires.start.declared)
+    (declared_grown c.args.table.now c.both.new.table c.requires.start.formed g.extends (scope_of c.args.course.now) c.requires.start.declared)
     c.args.table.now g c.joined.ensures.formed c.joined.ensures.extends
 
 pub in_fork-returns-in-None-2-clause-grown : goal.in_fork-returns-in-None-2-clause-grown
@@ -233,7 +236,7 @@ in_fork-returns-in-None-2-clause-grown t c =
     grown_then c.args.course.now c.args.table.now c.parted.new.table c.both.new.table c.args.memo.now c.both.new.memo
     (grown_by _ _ _ _ _ _ c.requires _ c.parted.ensures.formed c.parted.ensures.extends) c.in_ok-one.ensures.grown in
     grown_last c.args.course.now c.both.new.table c.joined.new.table c.both.new.memo
-    (declared_grown c.args.table.now c.both.new.table c.requires.start.formed g.extends c.args.course.now.declared.now c.requires.start.declared)
+    (declared_grown c.args.table.now c.both.new.table c.requires.start.formed g.extends (scope_of c.args.course.now) c.requires.start.declared)
     c.args.table.now g c.joined.ensures.formed c.joined.ensures.extends
 
 pub in_fork-returns-in-Some-2-clause-view : goal.in_fork-returns-in-Some-2-clause-view
@@ -276,7 +279,7 @@ pub by_concrete-returns-in_err-one-clause-fault : goal.by_concrete-returns-in_er
 by_concrete-returns-in_err-one-clause-fault t c =
     let p = err_from_is_err_and c.from_residual-in_err-one.result c.from_residual-in_err-one.ensures.1 in
     rw (p.1, p.2)
-    (told_so c.args.course.now.definition (IsPairAt c.args.course.now.declared.now c.branched.new.table (lens_of c.args.terms.now.first.now) (lens_of c.args.terms.now.second.now) c.args.number c.in-Some.sides.0 c.in-Some.sides.1) (IsAt c.args.course.now.declared.now c.args.table.now (on_concrete c.args.name.now (lens_of c.args.terms.now.first.now) (lens_of c.args.terms.now.second.now)) c.args.number c.args.at)
+    (told_so c.args.course.now.definition (IsPairAt (scope_of c.args.course.now) c.branched.new.table (lens_of c.args.terms.now.first.now) (lens_of c.args.terms.now.second.now) c.args.number c.in-Some.sides.0 c.in-Some.sides.1) (IsAt (scope_of c.args.course.now) c.args.table.now (on_concrete c.args.name.now (lens_of c.args.terms.now.first.now) (lens_of c.args.terms.now.second.now)) c.args.number c.args.at)
     (concrete_pair_at c.args.course.now c.args.number c.args.name.now (lens_of c.args.terms.now.first.now) (lens_of c.args.terms.now.second.now) c.args.table.now c.args.memo.now c.args.at c.requires c.branched.new.table c.branched.ensures.extends c.in-Some.sides.0 c.in-Some.sides.1 (rw c.in-Some.is at c.in_ok-sides.ensures.branched))
     c.in_err-one.field-0.0 c.in_err-one.ensures.fault)
 
@@ -313,7 +316,7 @@ pub by_view-returns-in_err-one-clause-fault : goal.by_view-returns-in_err-one-cl
 by_view-returns-in_err-one-clause-fault t c =
     let p = err_from_is_err_and c.from_residual-in_err-one.result c.from_residual-in_err-one.ensures.1 in
     rw (p.1, p.2)
-    (told_so c.args.course.now.definition (IsPairAt c.args.course.now.declared.now c.branched.new.table (lens_of c.args.terms.now.first.now) (lens_of c.args.terms.now.second.now) c.args.number c.in-Some.sides.0 c.in-Some.sides.1) (IsAt c.args.course.now.declared.now c.args.table.now (on_view c.args.name.now c.args.shown.now (lens_of c.args.terms.now.first.now) (lens_of c.args.terms.now.second.now)) c.args.number c.args.at)
+    (told_so c.args.course.now.definition (IsPairAt (scope_of c.args.course.now) c.branched.new.table (lens_of c.args.terms.now.first.now) (lens_of c.args.terms.now.second.now) c.args.number c.in-Some.sides.0 c.in-Some.sides.1) (IsAt (scope_of c.args.course.now) c.args.table.now (on_view c.args.name.now c.args.shown.now (lens_of c.args.terms.now.first.now) (lens_of c.args.terms.now.second.now)) c.args.number c.args.at)
     (view_pair_at c.args.course.now c.args.number c.args.name.now c.args.shown.now (lens_of c.args.terms.now.first.now) (lens_of c.args.terms.now.second.now) c.args.table.now c.args.memo.now c.args.at c.requires c.branched.new.table c.branched.ensures.extends c.in-Some.sides.0 c.in-Some.sides.1 (rw c.in-Some.is at c.in_ok-sides.ensures.branched))
     c.in_err-one.field-0.0 c.in_err-one.ensures.fault)
 
@@ -323,7 +326,7 @@ by_view-returns-in_err-view-clause-grown t c =
     grown_then c.args.course.now c.args.table.now c.branched.new.table c.both.new.table c.args.memo.now c.both.new.memo
     (grown_by _ _ _ _ _ _ c.requires _ c.branched.ensures.formed c.branched.ensures.extends) c.in_ok-one.ensures.grown in
     grown_last c.args.course.now c.both.new.table c.merged.new.table c.both.new.memo
-    (declared_grown c.args.table.now c.both.new.table c.requires.start.formed g.extends c.args.course.now.declared.now c.requires.start.declared)
+    (declared_grown c.args.table.now c.both.new.table c.requires.start.formed g.extends (scope_of c.args.course.now) c.requires.start.declared)
     c.args.table.now g c.merged.ensures.formed c.merged.ensures.extends
 
 pub by_view-returns-in-Some-2-clause-grown : goal.by_view-returns-in-Some-2-clause-grown
@@ -332,7 +335,7 @@ by_view-returns-in-Some-2-clause-grown t c =
     grown_then c.args.course.now c.args.table.now c.branched.new.table c.both.new.table c.args.memo.now c.both.new.memo
     (grown_by _ _ _ _ _ _ c.requires _ c.branched.ensures.formed c.branched.ensures.extends) c.in_ok-one.ensures.grown in
     grown_last c.args.course.now c.both.new.table c.merged.new.table c.both.new.memo
-    (declared_grown c.args.table.now c.both.new.table c.requires.start.formed g.extends c.args.course.now.declared.now c.requires.start.declared)
+    (declared_grown c.args.table.now c.both.new.table c.requires.start.formed g.extends (scope_of c.args.course.now) c.requires.start.declared)
     c.args.table.now g c.merged.ensures.formed c.merged.ensures.extends
 
 pub by_view-returns-in-None-2-clause-grown : goal.by_view-returns-in-None-2-clause-grown
@@ -341,7 +344,7 @@ by_view-returns-in-None-2-clause-grown t c =
     grown_then c.args.course.now c.args.table.now c.branched.new.table c.both.new.table c.args.memo.now c.both.new.memo
     (grown_by _ _ _ _ _ _ c.requires _ c.branched.ensures.formed c.branched.ensures.extends) c.in_ok-one.ensures.grown in
     grown_last c.args.course.now c.both.new.table c.merged.new.table c.both.new.memo
-    (declared_grown c.args.table.now c.both.new.table c.requires.start.formed g.extends c.args.course.now.declared.now c.requires.start.declared)
+    (declared_grown c.args.table.now c.both.new.table c.requires.start.formed g.extends (scope_of c.args.course.now) c.requires.start.declared)
     c.args.table.now g c.merged.ensures.formed c.merged.ensures.extends
 
 pub by_view-returns-in-Some-2-clause-view : goal.by_view-returns-in-Some-2-clause-view
@@ -370,7 +373,7 @@ on_items-view-requires t c = (
 pub on_items-returns-in_err-item-clause-fault : goal.on_items-returns-in_err-item-clause-fault
 on_items-returns-in_err-item-clause-fault t c =
     let p = err_from_is_err_and c.from_residual.result c.from_residual.ensures.1 in
-    let ds = c.args.course.now.declared.now in
+    let ds = (scope_of c.args.course.now) in
     let l = lens_of c.args.inner.now in
     rw (p.1, p.2)
     (told_so c.args.course.now.definition (IsAt ds c.args.table.now l (c.args.number + 1) c.in-Some.source.first)
@@ -382,13 +385,13 @@ on_items-returns-in_err-item-clause-fault t c =
 pub on_items-returns-in_err-list_of-clause-grown : goal.on_items-returns-in_err-list_of-clause-grown
 on_items-returns-in_err-list_of-clause-grown t c =
     grown_last c.args.course.now c.view.new.table c.list_of.new.table c.view.new.memo
-    (declared_grown c.args.table.now c.view.new.table c.requires.start.formed c.in_ok-item.ensures.grown.extends c.args.course.now.declared.now c.requires.start.declared)
+    (declared_grown c.args.table.now c.view.new.table c.requires.start.formed c.in_ok-item.ensures.grown.extends (scope_of c.args.course.now) c.requires.start.declared)
     c.args.table.now c.in_ok-item.ensures.grown c.list_of.ensures.formed c.list_of.ensures.extends
 
 pub on_items-returns-clause-grown : goal.on_items-returns-clause-grown
 on_items-returns-clause-grown t c =
     grown_last c.args.course.now c.view.new.table c.list_of.new.table c.view.new.memo
-    (declared_grown c.args.table.now c.view.new.table c.requires.start.formed c.in_ok-item.ensures.grown.extends c.args.course.now.declared.now c.requires.start.declared)
+    (declared_grown c.args.table.now c.view.new.table c.requires.start.formed c.in_ok-item.ensures.grown.extends (scope_of c.args.course.now) c.requires.start.declared)
     c.args.table.now c.in_ok-item.ensures.grown c.list_of.ensures.formed c.list_of.ensures.extends
 
 pub on_items-returns-clause-view : goal.on_items-returns-clause-view
@@ -425,7 +428,7 @@ on_each-returns-in_err-on_listed-clause-fault t c =
     let p = err_from_is_err_and c.from_residual.result c.from_residual.ensures.1 in
     let n = there c.args.table.now c.args.at.place c.requires.start.in_range in
     let i = c.loop-place.invariant in
-    let ds = c.args.course.now.declared.now in
+    let ds = (scope_of c.args.course.now) in
     let l = lens_of c.args.inner.now in
     let now = extends_at c.args.table.now c.loop-place.table c.args.at.place i.grown.extends c.requires.start.in_range ∙ n.1 in
     rw (p.1, p.2)
@@ -445,7 +448,7 @@ on_each-loop-place-preserved t c =
       grown = grown_then c.args.course.now c.args.table.now c.loop-place.table c.on_listed.new.table c.loop-place.memo c.on_listed.new.memo i.grown g;
       led = λ n e.
           let now = extends_at c.args.table.now c.loop-place.table c.args.at.place i.grown.extends c.requires.start.in_range ∙ e in
-          subst (AreLed c.args.course.now.declared.now c.args.table.now c.on_listed.new.table (λ k. where_it_can (can_be n (named k)) (lens_of c.args.inner.now)) n.children)
+          subst (AreLed (scope_of c.args.course.now) c.args.table.now c.on_listed.new.table (λ k. where_it_can (can_be n (named k)) (lens_of c.args.inner.now)) n.children)
           (sym c.in_ok-push.ensures.items)
           (each_pushed c.args.course.now c.args.number (lens_of c.args.inner.now) c.args.table.now c.args.memo.now c.args.at c.requires n e c.loop-place.table
           i.grown.extends c.loop-place.next.items (i.led n e) ((c.if-not-is_plain.ensures n e).0 refl) c.on_listed.new.table g.extends c.in_ok-on_listed.field-0
@@ -464,7 +467,7 @@ on_each-returns-in_err-others-clause-fault t c =
     let p = err_from_is_err_and c.from_residual-in_err-others.result c.from_residual-in_err-others.ensures.1 in
     let n = there c.args.table.now c.args.at.place c.requires.start.in_range in
     let i = c.loop-place.invariant in
-    let ds = c.args.course.now.declared.now in
+    let ds = (scope_of c.args.course.now) in
     let l = lens_of c.args.inner.now in
     let now = extends_at c.args.table.now c.loop-place.table c.args.at.place i.grown.extends c.requires.start.in_range ∙ n.1 in
     let end : c.loop-place.place ≡ c.count-place-end.result = search rules in
@@ -481,7 +484,7 @@ on_each-add_like-requires t c =
     let n = there c.args.table.now c.args.at.place c.requires.start.in_range in
     let i = c.loop-place.invariant in
     let g = c.in_ok-others.ensures.grown in
-    let ds = c.args.course.now.declared.now in
+    let ds = (scope_of c.args.course.now) in
     let l = lens_of c.args.inner.now in
     let now = extends_at c.args.table.now c.loop-place.table c.args.at.place i.grown.extends c.requires.start.in_range ∙ n.1 in
     let later = extends_at c.args.table.now c.on_other.new.table c.args.at.place (extends_then _ _ _ i.grown.extends g.extends) c.requires.start.in_range ∙ n.1 in
@@ -500,7 +503,7 @@ on_each-returns-clause-grown t c =
     let g = grown_then c.args.course.now c.args.table.now c.loop-place.table c.on_other.new.table c.loop-place.memo c.on_other.new.memo i.grown c.in_ok-others.ensures.grown in
     let later = extends_at c.args.table.now c.on_other.new.table c.args.at.place g.extends c.requires.start.in_range ∙ n.1 in
     grown_last c.args.course.now c.on_other.new.table c.add_like.new.self c.on_other.new.memo
-    (declared_grown c.args.table.now c.on_other.new.table c.requires.start.formed g.extends c.args.course.now.declared.now c.requires.start.declared)
+    (declared_grown c.args.table.now c.on_other.new.table c.requires.start.formed g.extends (scope_of c.args.course.now) c.requires.start.declared)
     c.args.table.now g c.add_like.ensures.formed (record { more = _; is = c.in_ok-add_like.ensures.node n.0 later })
 
 pub on_each-returns-clause-view : goal.on_each-returns-clause-view
@@ -508,7 +511,7 @@ on_each-returns-clause-view t c =
     let n = there c.args.table.now c.args.at.place c.requires.start.in_range in
     let i = c.loop-place.invariant in
     let g = grown_then c.args.course.now c.args.table.now c.loop-place.table c.on_other.new.table c.loop-place.memo c.on_other.new.memo i.grown c.in_ok-others.ensures.grown in
-    let ds = c.args.course.now.declared.now in
+    let ds = (scope_of c.args.course.now) in
     let l = lens_of c.args.inner.now in
     let now = extends_at c.args.table.now c.loop-place.table c.args.at.place i.grown.extends c.requires.start.in_range ∙ n.1 in
     let later = extends_at c.args.table.now c.on_other.new.table c.args.at.place g.extends c.requires.start.in_range ∙ n.1 in
@@ -546,7 +549,7 @@ on_other-view-requires t c =
 pub on_other-returns-in_err-view-clause-fault : goal.on_other-returns-in_err-view-clause-fault
 on_other-returns-in_err-view-clause-fault t c =
     let p = err_from_is_err_and c.from_residual.result c.from_residual.ensures.1 in
-    let ds = c.args.course.now.declared.now in
+    let ds = (scope_of c.args.course.now) in
     let l = lens_of c.args.inner.now in
     rw (p.1, p.2)
     (told_so c.args.course.now.definition (IsAt ds c.args.table.now l (c.args.number + 1) c.in-Some.other.1)
@@ -583,7 +586,7 @@ on_named-loop-row-init t c = record {
   number = omega arith;
   stand = named_stand c.args.course.now c.args.number c.args.rows.now c.args.table.now c.args.memo.now c.args.at c.requires;
   led = λ n e.
-      subst (AreLed c.args.course.now.declared.now c.args.table.now c.args.table.now (λ k. lens_at k (lenses_of (take 0 c.args.rows.now))) n.children)
+      subst (AreLed (scope_of c.args.course.now) c.args.table.now c.args.table.now (λ k. lens_at k (lenses_of (take 0 c.args.rows.now))) n.children)
       (sym (c.in_ok-next.ensures n e))
       (named_start c.args.course.now c.args.number c.args.rows.now c.args.table.now c.args.memo.now c.args.at c.requires n e);
   count = λ n e. ap length (c.in_ok-next.ensures n e) ∙ length-map n.children (λ (c : Name × NodeId). c.1);
@@ -665,7 +668,7 @@ on_named-returns-in_err-next-2-clause-fault t c =
     let edge = edge_is c.args.course.now c.args.number c.args.rows.now c.args.table.now c.args.memo.now c.args.at c.requires n.0 n.1 c.loop-row.table c.loop-row.memo
     i.grown c.loop-row.row-index c.row-item.result at c.loop-row.number c.loop-row.next.items (i.led n.0 n.1) (i.count n.0 n.1) i.stand
     c.unwrap-place.result placed.child placed.is c.index.result.now read in
-    let ds = c.args.course.now.declared.now in
+    let ds = (scope_of c.args.course.now) in
     rw (p.1, p.2)
     (told_so c.args.course.now.definition (IsAt ds c.loop-row.table (lens_of c.row-item.result.1) c.loop-row.number c.index.result.now)
     (IsAt ds c.args.table.now (among (lenses_of c.args.rows.now)) c.args.number c.args.at)
@@ -747,7 +750,7 @@ on_named-loop-row-preserved t c =
           c.unwrap-place.result placed.child placed.is c.behind-number.result next;
       led = λ m e.
           let same : n.0 ≡ m = same_Some n.0 m (sym n.1 ∙ e) in
-          subst (λ (m : NodeValue). AreLed c.args.course.now.declared.now c.args.table.now c.view.new.table
+          subst (λ (m : NodeValue). AreLed (scope_of c.args.course.now) c.args.table.now c.view.new.table
           (λ k. lens_at k (lenses_of (take (c.loop-row.row-index + 1) c.args.rows.now))) m.children
           (slice_set c.loop-row.next.items c.unwrap-place.result c.in_ok-next-2.field-0)) same
           (row_led c.args.course.now c.args.number c.args.rows.now c.args.table.now c.args.memo.now c.args.at c.requires n.0 n.1 c.loop-row.table c.loop-row.memo
@@ -762,9 +765,9 @@ on_named-add_like-requires t c =
     let i = c.loop-row.invariant in
     let now = extends_at c.args.table.now c.loop-row.table c.args.at.place i.grown.extends c.requires.start.in_range ∙ n.1 in
     let on = named_on (lenses_of (take c.loop-row.row-index c.args.rows.now)) in
-    can_replace c.args.course.now.declared.now c.args.table.now c.loop-row.table on c.args.at n.0 c.loop-row.next.items c.other-others.result now
+    can_replace (scope_of c.args.course.now) c.args.table.now c.loop-row.table on c.args.at n.0 c.loop-row.next.items c.other-others.result now
     (i.led n.0 n.1) (i.count n.0 n.1)
-    (subst (λ o. AreOthersLed c.args.course.now.declared.now c.args.table.now c.loop-row.table None n.0.other o) (sym (c.other-others.ensures n.0 now))
+    (subst (λ o. AreOthersLed (scope_of c.args.course.now) c.args.table.now c.loop-row.table None n.0.other o) (sym (c.other-others.ensures n.0 now))
     (none_led c.args.course.now c.args.number c.args.rows.now c.args.table.now c.args.memo.now c.args.at c.requires n.0 n.1 c.loop-row.table i.grown.extends))
 
 pub on_named-returns-clause-grown : goal.on_named-returns-clause-grown
@@ -773,7 +776,7 @@ on_named-returns-clause-grown t c =
     let g = c.loop-row.invariant.grown in
     let now = extends_at c.args.table.now c.loop-row.table c.args.at.place g.extends c.requires.start.in_range ∙ n.1 in
     grown_last c.args.course.now c.loop-row.table c.add_like.new.self c.loop-row.memo
-    (declared_grown c.args.table.now c.loop-row.table c.requires.start.formed g.extends c.args.course.now.declared.now c.requires.start.declared)
+    (declared_grown c.args.table.now c.loop-row.table c.requires.start.formed g.extends (scope_of c.args.course.now) c.requires.start.declared)
     c.args.table.now g c.add_like.ensures.formed (record { more = _; is = c.in_ok-add_like.ensures.node n.0 now })
 
 pub on_named-returns-clause-view : goal.on_named-returns-clause-view
@@ -782,7 +785,7 @@ on_named-returns-clause-view t c =
     let i = c.loop-row.invariant in
     let now = extends_at c.args.table.now c.loop-row.table c.args.at.place i.grown.extends c.requires.start.in_range ∙ n.1 in
     let all : take c.loop-row.row-index c.args.rows.now ≡ c.args.rows.now = take_all c.loop-row.row-index c.args.rows.now (search rules) in
-    let led = subst (λ rows. AreLed c.args.course.now.declared.now c.args.table.now c.loop-row.table (λ k. lens_at k (lenses_of rows)) n.0.children c.loop-row.next.items)
+    let led = subst (λ rows. AreLed (scope_of c.args.course.now) c.args.table.now c.loop-row.table (λ k. lens_at k (lenses_of rows)) n.0.children c.loop-row.next.items)
     all (i.led n.0 n.1) in
     named_view c.args.course.now c.args.number c.args.rows.now c.args.table.now c.args.memo.now c.args.at c.requires n.0 n.1 c.loop-row.table c.add_like.new.self
     i.grown.extends c.loop-row.next.items c.in_ok-add_like.field-0 i.grown.formed ((c.if-not-is_plain.ensures n.0 n.1).0 refl)

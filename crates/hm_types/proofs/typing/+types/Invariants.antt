@@ -5,7 +5,7 @@ use Rattle.hm_terms.specs.Lenses.{lens_at}
 use Rattle.hm_typing.specs.Forms.{named, can_be}
 use Rattle.hm_typing.specs.Faults.{size_of, size_of_all}
 use Rattle.hm_types.specs.Numbers.{StandFrom, parts_of_all}
-use Rattle.hm_types.specs.Courses.{lenses_in, IsGrown}
+use Rattle.hm_types.specs.Courses.{scope_of, lenses_in, IsGrown}
 use Rattle.hm_types.specs.Below.{AreLed, where_it_can}
 use Rattle.hm_types.proofs.typing.+types.Given as goal
 
@@ -50,7 +50,7 @@ abbrev pub invariant-on_each-loop-place : goal.invariant-on_each-loop-place
 invariant-on_each-loop-place l = record {
   grown : IsGrown l.course l.fn.table l.table l.memo;
   led : (n : NodeValue) → slice_get l.fn.table l.at.place ≡ Some n
-      → AreLed l.course.declared.now l.fn.table l.table (λ k. where_it_can (can_be n (named k)) (lens_of l.inner)) n.children l.next.items;
+      → AreLed (scope_of l.course) l.fn.table l.table (λ k. where_it_can (can_be n (named k)) (lens_of l.inner)) n.children l.next.items;
   count : length l.next.items ≡ l.place;
 }
 
@@ -61,6 +61,6 @@ invariant-on_named-loop-row l = record {
   number : l.number ≡ l.fn.number + 1 + size_of_all (lenses_of (take l.row-index l.rows));
   stand : StandFrom (lenses_in l.course) l.number (parts_of_all (lenses_of (drop l.row-index l.rows)));
   led : (n : NodeValue) → slice_get l.fn.table l.at.place ≡ Some n
-      → AreLed l.course.declared.now l.fn.table l.table (λ k. lens_at k (lenses_of (take l.row-index l.rows))) n.children l.next.items;
+      → AreLed (scope_of l.course) l.fn.table l.table (λ k. lens_at k (lenses_of (take l.row-index l.rows))) n.children l.next.items;
   count : (n : NodeValue) → slice_get l.fn.table l.at.place ≡ Some n → length l.next.items ≡ length n.children;
 }
