@@ -16,13 +16,13 @@ use Rattle.hm_terms.specs.declared.term.Term.{Term}
 use Rattle.hm_terms.specs.declared.term.Definition.{Definition}
 use Rattle.hm_terms.specs.Lenses.{Lens, DefinitionValue, body_of}
 use Rattle.hm_terms.specs.Programs.{lens_of, definition_value}
-use Rattle.hm_eval.specs.Terms.{option_lens, setting_by, IsIndex}
+use Rattle.hm_eval.specs.Terms.{option_lens, IsIndex}
 
 pub same_items : (v w : Vec (Name × Bor Term) Global) → v ≡ w → v.items ≡ w.items
 same_items v w e = ap (λ (v : Vec (Name × Bor Term) Global). v.items) e
 
 abbrev body_by : List Definition → Name → Option Lens
-body_by ds n = body_of (setting_by ds) n
+body_by ds n = body_of (map definition_value ds) n
 
 abbrev last_body : Definition → Name → Option Lens
 last_body d n = cond (eq_by_cmp name_cmp n d.name) (Some (lens_of d.body)) None

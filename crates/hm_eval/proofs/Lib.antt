@@ -8,4 +8,5 @@ mod PutChildren
 mod StageSteps
 mod Indexing
 mod Giving
+mod ValueSteps
 pub mod Fits

@@ -27,6 +27,16 @@ module _ (S : Setting) where
   pub row_puts : {E : Type 0} (r : Result Tree E) (l k : Lens) (v : Tree) (b : Option Tree) → k ≡ l → IfOk r (Puts S k v b) → IfOk r (Puts S l v b)
   row_puts r l k v b e h = subst (λ l. IfOk r (Puts S l v b)) e h
 
+  pub same_puts : (l k : Lens) (v : Tree) (b : Option Tree) (c : Tree) → k ≡ l → Puts S k v b c → Puts S l v b c
+  same_puts l k v b c e p = subst (λ l. Puts S l v b c) e p
+
+  -- the same with a tree from before that is lent
+  pub lent_put : (l k : Lens) (v : Tree) (b o : Option Tree) → l ≡ k → o ≡ b → IsPut S k v b → IsPut S l v o
+  lent_put l k v b o e same h = subst (IsPut S l v) (sym same) (same_put l k v b e h)
+
+  pub lent_puts : {E : Type 0} (r : Result Tree E) (l k : Lens) (v : Tree) (b o : Option Tree) → k ≡ l → o ≡ b → IfOk r (Puts S k v o) → IfOk r (Puts S l v b)
+  lent_puts r l k v b o e same h = subst (λ b. IfOk r (Puts S l v b)) same (row_puts r l k v o e h)
+
   pub hoist_puts : (n m : Name) (z : Lens) (v : Tree) (b : Option Tree) (c : Tree) → z ≡ hoist n → m ≡ n → IsEdge m v c → Puts S z v b c
   hoist_puts n m z v b c e same p = subst (λ z. Puts S z v b c) (sym e) (put_hoist (subst (λ (n : Name). IsEdge n v c) same p))
 
@@ -141,17 +151,17 @@ module _ (S : Setting) where
         go (Some x) at p = put_view_has at p
 
   -- ---- call
-  pub called_put : (n : Name) (l z : Lens) (v : Tree) (b : Option Tree) → z ≡ call n → body_of S n ≡ Some l → IsPut S z v b → IsPut S l v b
+  pub called_put : (n : Name) (l z : Lens) (v : Tree) (b : Option Tree) → z ≡ call n → body_of S.definitions n ≡ Some l → IsPut S z v b → IsPut S l v b
   called_put n l z v b e is h = go (subst (λ z. Puts S z v b h.tree) e h.is)
     where
       go : Puts S (call n) v b h.tree → IsPut S l v b
       go (put_call {l = k} f p) = record { tree = h.tree; is = subst (λ l. Puts S l v b h.tree) (same_Some k l (sym f ∙ is)) p }
 
-  pub put_body : (n : Name) (z : Lens) (v : Tree) (b : Option Tree) → z ≡ call n → IsPut S z v b → IsSome (body_of S n)
+  pub put_body : (n : Name) (z : Lens) (v : Tree) (b : Option Tree) → z ≡ call n → IsPut S z v b → IsSome (body_of S.definitions n)
   put_body n z v b e h = go (subst (λ z. Puts S z v b h.tree) e h.is)
     where
-      go : Puts S (call n) v b h.tree → IsSome (body_of S n)
+      go : Puts S (call n) v b h.tree → IsSome (body_of S.definitions n)
       go (put_call f p) = ap is_some f
 
-  pub call_puts : (n : Name) (l z : Lens) (v : Tree) (b : Option Tree) (c : Tree) → z ≡ call n → body_of S n ≡ Some l → Puts S l v b c → Puts S z v b c
+  pub call_puts : (n : Name) (l z : Lens) (v : Tree) (b : Option Tree) (c : Tree) → z ≡ call n → body_of S.definitions n ≡ Some l → Puts S l v b c → Puts S z v b c
   call_puts n l z v b c e is p = subst (λ z. Puts S z v b c) (sym e) (put_call is p)

@@ -1,5 +1,5 @@
 -- What a lens shows, from what its parts show.
-use Rattle.std.proofs.Common.{◌≡◌, ℕ, ◌<◌, ◌+◌, ◌-◌, ◌*◌, Result, IfOk, ◌⊎◌, inl, inr, Box, cond, is_some, List, [], ◌∷◌, Option, Some, None, IsSome, slice_get, sym, ap, subst, ◌∙◌, refl, arith}
+use Rattle.std.proofs.Common.{◌≡◌, ℕ, ◌<◌, ◌-◌, Result, IfOk, ◌⊎◌, inl, inr, Box, cond, is_some, List, [], ◌∷◌, Option, Some, None, IsSome, slice_get, sym, ap, subst, ◌∙◌, refl, arith}
 use Rattle.std.proofs.lemmas.Option.{same_Some}
 use Rattle.hm_tree.specs.Names.{Name}
 use Rattle.hm_tree.specs.Nodes.{Tree, below, without_edge}
@@ -16,15 +16,9 @@ use Rattle.hm_terms.specs.Programs.{lens_of}
 use Rattle.hm_eval.specs.Conditions.{IsShown}
 use Rattle.hm_eval.proofs.Paired.{Paired, no_more, one_more, paired_at}
 
--- levels of recursion: a term inside has one less, and the function of a row comes between
-pub row_falls : (levels t : ℕ) → 2 * levels ≡ t → (levels ≡ 0 → ⊥) → 2 * (levels - 1) + 1 < t
-row_falls levels t e some = omega arith
-
-pub fewer : (levels t : ℕ) → 2 * levels ≡ t → (levels ≡ 0 → ⊥) → 2 * (levels - 1) < t
+-- a lens inside a lens has one level less
+pub fewer : (levels t : ℕ) → levels ≡ t → (levels ≡ 0 → ⊥) → levels - 1 < t
 fewer levels t e some = omega arith
-
-pub inner_falls : (levels t : ℕ) → 2 * levels + 1 ≡ t → 2 * levels < t
-inner_falls levels t e = omega arith
 
 module _ (S : Setting) where
   pub same_shown : (l k : Lens) (c : Tree) → l ≡ k → IsShown S k c → IsShown S l c
@@ -131,19 +125,19 @@ module _ (S : Setting) where
       go (inr w) s = view_shows n (lens_of p.value) (lens_of q.value) c w.0 (lens_of t) v (ap lens_of w.1) s
 
   -- ---- call
-  pub has_body : (n : Name) (z : Lens) (c : Tree) → z ≡ call n → IsShown S z c → IsSome (body_of S n)
+  pub has_body : (n : Name) (z : Lens) (c : Tree) → z ≡ call n → IsShown S z c → IsSome (body_of S.definitions n)
   has_body n z c e h = go (subst (λ z. Shows S z c h.tree) e h.is)
     where
-      go : Shows S (call n) c h.tree → IsSome (body_of S n)
+      go : Shows S (call n) c h.tree → IsSome (body_of S.definitions n)
       go (by_call f p) = ap is_some f
 
-  pub called_shown : (n : Name) (l z : Lens) (c : Tree) → z ≡ call n → body_of S n ≡ Some l → IsShown S z c → IsShown S l c
+  pub called_shown : (n : Name) (l z : Lens) (c : Tree) → z ≡ call n → body_of S.definitions n ≡ Some l → IsShown S z c → IsShown S l c
   called_shown n l z c e b h = go (subst (λ z. Shows S z c h.tree) e h.is)
     where
       go : Shows S (call n) c h.tree → IsShown S l c
       go (by_call {l = k} f p) = record { tree = h.tree; is = subst (λ l. Shows S l c h.tree) (same_Some k l (sym f ∙ b)) p }
 
-  pub call_shows : (n : Name) (l z : Lens) (c v : Tree) → z ≡ call n → body_of S n ≡ Some l → Shows S l c v → Shows S z c v
+  pub call_shows : (n : Name) (l z : Lens) (c v : Tree) → z ≡ call n → body_of S.definitions n ≡ Some l → Shows S l c v → Shows S z c v
   call_shows n l z c v e b p = subst (λ z. Shows S z c v) (sym e) (by_call b p)
 
   -- ---- items

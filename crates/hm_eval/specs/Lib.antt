@@ -2,3 +2,4 @@ pub mod Terms
 pub mod Conditions
 pub mod Children
 pub mod Stages
+pub mod Texts

@@ -1,8 +1,8 @@
 //! The bodies of definitions, by name.
-ghost use Rattle.std.specs.Prelude.{◌≡◌, IfOk, IsSome, Some};
+ghost use Rattle.std.specs.Prelude.{◌≡◌, IfOk, IsSome, Some, map};
 ghost use Rattle.hm_terms.specs.Lenses.{body_of};
-ghost use Rattle.hm_terms.specs.Programs.{lens_of};
-ghost use Rattle.hm_eval.specs.Terms.{setting_by, IsIndex};
+ghost use Rattle.hm_terms.specs.Programs.{lens_of, definition_value};
+ghost use Rattle.hm_eval.specs.Terms.{IsIndex};
 
 use hm_terms::{Definition, Term};
 use hm_tree::{Memory, Name, place_of};
@@ -24,8 +24,8 @@ pub fn bodies_of(alloc: Global, definitions: &[Definition]) -> Result<Vec<(Name,
 /// The body of a definition.
 pub fn body<'a>(definitions: &[Definition], bodies: &[(Name, &'a Term)], name: &Name) -> &'a Term
     requires index { IsIndex definitions.now bodies.now }
-    requires there { IsSome (body_of (setting_by definitions.now) name.now) }
-    ensures { body_of (setting_by definitions.now) name.now ≡ Some (lens_of result.now) }
+    requires there { IsSome (body_of (map definition_value definitions.now) name.now) }
+    ensures { body_of (map definition_value definitions.now) name.now ≡ Some (lens_of result.now) }
 {
     let Ok(place) = place_of(bodies, name) else {
         unreachable!();

@@ -11,6 +11,7 @@ mod putting;
 mod run;
 mod show;
 mod stages;
+mod texts;
 
 pub use putting::put;
 pub use show::get;

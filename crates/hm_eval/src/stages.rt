@@ -1,10 +1,10 @@
 //! Sequences of lenses, stage by stage.
-ghost use Rattle.std.specs.Prelude.{IfOk, OnOk, option_copied};
+ghost use Rattle.std.specs.Prelude.{IfOk, OnOk, map, option_copied};
 ghost use Rattle.hm_terms.specs.Programs.{lens_of};
 ghost use Rattle.hm_terms.specs.Put.{ShowsBefore};
 ghost use Rattle.hm_eval.specs.Conditions.{IsShownBefore};
 ghost use Rattle.hm_eval.specs.Stages.{AddsStages, CanPut, PutThrough};
-ghost use Rattle.hm_eval.specs.Terms.{setting_in, IsIndexed};
+ghost use Rattle.hm_eval.specs.Terms.{setting_in, IsIndex};
 
 use crate::run::Run;
 use crate::show::show;
@@ -21,9 +21,9 @@ pub fn stages_before<'a>(
     term: &'a Term,
     before: Option<Tree>,
 ) -> Result<Vec<(&'a Term, Option<Tree>)>, Memory>
-    requires index { IsIndexed run.now }
-    requires put { CanPut (setting_in run.now) (lens_of term.now) before }
-    ensures { IfOk result (λ stages. PutThrough (setting_in run.now) (lens_of term.now) before stages.items) }
+    requires index { IsIndex run.now.definitions.now run.now.bodies.now }
+    requires put { CanPut (setting_in (map (λ b. meaning b) run.now.texts.now) run.now.definitions.now) (lens_of term.now) before }
+    ensures { IfOk result (λ stages. PutThrough (setting_in (map (λ b. meaning b) run.now.texts.now) run.now.definitions.now) (lens_of term.now) before stages.items) }
 {
     let mut stages = Vec::new(alloc);
     add_stages(&mut stages, term)?;
@@ -62,9 +62,9 @@ fn show_before(
     term: &Term,
     before: Option<&Tree>,
 ) -> Result<Option<Tree>, Memory>
-    requires index { IsIndexed run.now }
-    requires shown { IsShownBefore (setting_in run.now) (lens_of term.now) (option_copied before) }
-    ensures { IfOk result (ShowsBefore (setting_in run.now) (lens_of term.now) (option_copied before.entry)) }
+    requires index { IsIndex run.now.definitions.now run.now.bodies.now }
+    requires shown { IsShownBefore (setting_in (map (λ b. meaning b) run.now.texts.now) run.now.definitions.now) (lens_of term.now) (option_copied before) }
+    ensures { IfOk result (ShowsBefore (setting_in (map (λ b. meaning b) run.now.texts.now) run.now.definitions.now) (lens_of term.now) (option_copied before.entry)) }
 {
     match before {
         Some(tree) => Ok(Some(show(levels, run, term, tree.copy()?)?)),

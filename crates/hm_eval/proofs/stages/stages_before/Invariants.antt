@@ -1,10 +1,10 @@
-use Rattle.std.proofs.Common.{drop}
+use Rattle.std.proofs.Common.{map, drop}
 use Rattle.hm_terms.specs.Programs.{lens_of}
-use Rattle.hm_eval.specs.Terms.{setting_by}
+use Rattle.hm_eval.specs.Terms.{setting_in}
 use Rattle.hm_eval.specs.Stages.{lenses}
 use Rattle.hm_eval.proofs.StageSteps.{ArePassed}
 use Rattle.hm_eval.proofs.stages.stages_before.Given as goal
 
 abbrev pub invariant-loop-stage : goal.invariant-loop-stage
-invariant-loop-stage l =
-    ArePassed (setting_by l.run.definitions.now) (lens_of l.term) l.fn.before (lenses (drop l.stage-index l.stage-items)) (lens_of l.last) l.here l.passed.items
+invariant-loop-stage g l =
+    ArePassed (setting_in (map (λ b. (goal.TextLens-dyn g (b.vtable, b.value)).meaning b.value) l.run.texts.now) l.run.definitions.now) (lens_of l.term) l.fn.before (lenses (drop l.stage-index l.stage-items)) (lens_of l.last) l.here l.passed.items
