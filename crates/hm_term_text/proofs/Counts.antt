@@ -7,7 +7,7 @@ use Rattle.hm_terms.specs.declared.term.Term.{Term, Each}
 use Rattle.hm_terms.specs.Programs.{lens_of, lenses_of}
 use Rattle.hm_terms.proofs.Rows.{each_items}
 use Rattle.hm_term_text.proofs.Limits.{nothing_left}
-use Rattle.hm_terms.specs.Lenses.{Lens, identity, sequence, constant, hoist, plunge, fork, each, among, items, copy, merge, on_concrete, on_view, call}
+use Rattle.hm_terms.specs.Lenses.{Lens, identity, sequence, constant, hoist, plunge, fork, each, among, items, copy, merge, on_concrete, on_view, text, call}
 use Rattle.hm_term_text.specs.Limits.{terms_of, terms_in}
 
 pub some_term : (l : Lens) → 0 < terms_of l
@@ -24,6 +24,7 @@ some_term (copy m n) = omega arith
 some_term (merge m n) = omega arith
 some_term (on_concrete n l k) = omega arith
 some_term (on_view n m l k) = omega arith
+some_term (text n) = omega arith
 some_term (call n) = omega arith
 
 pub terms_of_each : (terms : Vec (Name × Term) Global) (es : List (Name × Term)) → es ≡ terms.items

@@ -5,12 +5,12 @@ use Rattle.hm_tree.proofs.Texts.{text_test}
 use Rattle.hm_tree.specs.Nodes.{Tree, depth, are_edges, edges_cons}
 use Rattle.hm_schema.specs.Values.{Names}
 use Rattle.hm_terms.specs.Lenses.{Lens}
-use Rattle.hm_term_text.specs.declared.keyword.Keyword.TheVariants.{Const, Hoist, Plunge, Copy, Merge, Call, Filter, Prune, Focus, Add, Rename}
+use Rattle.hm_term_text.specs.declared.keyword.Keyword.TheVariants.{Const, Hoist, Plunge, Copy, Merge, Text, Call, Filter, Prune, Focus, Add, Rename}
 use Rattle.hm_term_text.specs.Fronts.{IsWord, IsEdge, IsTree, IsSet, One, Two}
 use Rattle.hm_term_text.specs.FrontLaws.{one_edge, one_tree}
 use Rattle.hm_term_text.proofs.Arguments.{two_once}
 use Rattle.hm_term_text.specs.Derived.{under_name}
-use Rattle.hm_term_text.specs.TermText.{IsForm, const_form, hoist_form, plunge_form, copy_form, merge_form, call_form, filter_form, prune_form, focus_form, add_form, rename_form}
+use Rattle.hm_term_text.specs.TermText.{IsForm, const_form, hoist_form, plunge_form, copy_form, merge_form, text_form, call_form, filter_form, prune_form, focus_form, add_form, rename_form}
 
 pub no_const : {bytes : List ℕ} → ((x : Tree) (y : Tree) (r : List ℕ) → Two IsTree IsTree bytes x y r → ⊥) → (l : Lens) (r : List ℕ)
     → IsForm Const bytes l r → ⊥
@@ -29,6 +29,9 @@ no_copy none _ r (copy_form p) = none _ _ r p
 pub no_merge : {bytes : List ℕ} → ((x : Name) (y : Name) (r : List ℕ) → Two IsEdge IsEdge bytes x y r → ⊥) → (l : Lens) (r : List ℕ)
     → IsForm Merge bytes l r → ⊥
 no_merge none _ r (merge_form p) = none _ _ r p
+
+pub no_text : {bytes : List ℕ} → ((x : Name) (r : List ℕ) → One IsWord bytes x r → ⊥) → (l : Lens) (r : List ℕ) → IsForm Text bytes l r → ⊥
+no_text none _ r (text_form p) = none _ r p
 
 pub no_call : {bytes : List ℕ} → ((x : Name) (r : List ℕ) → One IsWord bytes x r → ⊥) → (l : Lens) (r : List ℕ) → IsForm Call bytes l r → ⊥
 no_call none _ r (call_form p) = none _ r p

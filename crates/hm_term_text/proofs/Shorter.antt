@@ -7,7 +7,7 @@ use Rattle.hm_tree_text.specs.Text.{whole, text}
 use Rattle.hm_terms.specs.Lenses.{Lens, Lenses}
 use Rattle.hm_term_text.specs.declared.keyword.Keyword.{Keyword}
 use Rattle.hm_term_text.specs.Fronts.{IsWord, IsEdge, IsTree, AreNames, no_names, a_name, IsSet, Behind, One, Two}
-use Rattle.hm_term_text.specs.TermText.{IsTerm, one_part, more_parts, IsPart, in_parentheses, by_keyword, IsForm, id_form, const_form, hoist_form, plunge_form, fork_form, map_form, each_form, list_form, copy_form, merge_form, concrete_form, view_form, call_form, filter_form, prune_form, focus_form, add_form, rename_form, BehindSign, behind_sign, InParentheses, parentheses, TwoTerms, two_terms, ArePairs, last_pair, more_pairs}
+use Rattle.hm_term_text.specs.TermText.{IsTerm, one_part, more_parts, IsPart, in_parentheses, by_keyword, IsForm, id_form, const_form, hoist_form, plunge_form, fork_form, map_form, each_form, list_form, copy_form, merge_form, concrete_form, view_form, text_form, call_form, filter_form, prune_form, focus_form, add_form, rename_form, BehindSign, behind_sign, InParentheses, parentheses, TwoTerms, two_terms, ArePairs, last_pair, more_pairs}
 use Rattle.hm_term_text.proofs.Sets.{unspaced_length, sign_shorter, edge_shorter}
 
 pub word_shorter : (bytes : List ℕ) (w : Name) (rest : List ℕ) → IsWord bytes w rest → length rest < length bytes
@@ -83,6 +83,7 @@ mutual
   form_shorter (concrete_form {bytes} {one} p t) = let a = edge_behind_shorter 40 bytes _ one p in let c = terms_shorter t in omega arith
   form_shorter (view_form {bytes} {one} {two} p q t) =
       let a = edge_behind_shorter 40 bytes _ one p in let b = edge_behind_shorter 44 one _ two q in let c = terms_shorter t in omega arith
+  form_shorter (text_form p) = one_shorter IsWord word_no_longer p
   form_shorter (call_form p) = one_shorter IsWord word_no_longer p
   form_shorter (filter_form p) = two_shorter IsSet IsTree set_shorter tree_shorter p
   form_shorter (prune_form p d) = two_shorter IsEdge IsTree edge_no_longer tree_shorter p

@@ -4,14 +4,14 @@ use Rattle.std.specs.Prelude.{◌==◌}
 use Rattle.hm_tree.specs.Names.{Name}
 use Rattle.hm_node_lines.specs.declared.token.Token.TheVariants.{Word}
 use Rattle.hm_node_lines.proofs.Laws.{not_word}
-use Rattle.hm_terms.specs.Lenses.{Lens, Lenses, sequence, constant, hoist, plunge, fork, each, among, items, copy, merge, on_concrete, on_view, call, none, also}
+use Rattle.hm_terms.specs.Lenses.{Lens, Lenses, sequence, constant, hoist, plunge, fork, each, among, items, copy, merge, on_concrete, on_view, text, call, none, also}
 use Rattle.hm_term_text.specs.declared.keyword.Keyword.{Keyword}
-use Rattle.hm_term_text.specs.declared.keyword.Keyword.TheVariants.{Id, Const, Hoist, Plunge, Fork, Map, Each, List as Items, Copy, Merge, ByConcrete, ByView, Call, Filter, Prune, Focus, Add, Rename}
+use Rattle.hm_term_text.specs.declared.keyword.Keyword.TheVariants.{Id, Const, Hoist, Plunge, Fork, Map, Each, List as Items, Copy, Merge, ByConcrete, ByView, Text, Call, Filter, Prune, Focus, Add, Rename}
 use Rattle.hm_term_text.specs.Keywords.{keyword_text}
 use Rattle.hm_term_text.specs.Fronts.{unspaced, IsSign, IsWord, IsEdge, IsTree, IsSet}
 use Rattle.hm_term_text.specs.FrontLaws.{sign_once, front_once, one_edge, one_set, one_tree}
 use Rattle.hm_term_text.specs.Derived.{filter_lens, prune_lens, focus_lens, add_lens, rename_lens}
-use Rattle.hm_term_text.specs.TermText.{IsTerm, one_part, more_parts, IsPart, in_parentheses, by_keyword, IsForm, id_form, const_form, hoist_form, plunge_form, fork_form, map_form, each_form, list_form, copy_form, merge_form, concrete_form, view_form, call_form, filter_form, prune_form, focus_form, add_form, rename_form, BehindSign, behind_sign, InParentheses, parentheses, TwoTerms, two_terms, ArePairs, last_pair, more_pairs, IsTermText}
+use Rattle.hm_term_text.specs.TermText.{IsTerm, one_part, more_parts, IsPart, in_parentheses, by_keyword, IsForm, id_form, const_form, hoist_form, plunge_form, fork_form, map_form, each_form, list_form, copy_form, merge_form, concrete_form, view_form, text_form, call_form, filter_form, prune_form, focus_form, add_form, rename_form, BehindSign, behind_sign, InParentheses, parentheses, TwoTerms, two_terms, ArePairs, last_pair, more_pairs, IsTermText}
 use Rattle.hm_term_text.proofs.Arguments.{word_once, behind_once, one_once, two_once}
 
 -- each keyword has its own text: even the weights of their bytes differ
@@ -23,8 +23,8 @@ abbrev by_weight : ℕ → Keyword
 by_weight n =
     cond (n == 305) Id (cond (n == 3537) Const (cond (n == 3522) Hoist (cond (n == 6556) Plunge (cond (n == 3392) Fork (
     cond (n == 751) Map (cond (n == 1621) Each (cond (n == 1706) Items (cond (n == 1737) Copy (cond (n == 3207) Merge (
-    cond (n == 3221) ByConcrete (cond (n == 3219) ByView (cond (n == 1589) Call (cond (n == 6936) Filter (cond (n == 3304) Prune (
-    cond (n == 3496) Focus (cond (n == 697) Add (Rename)))))))))))))))))
+    cond (n == 3221) ByConcrete (cond (n == 3219) ByView (cond (n == 1726) Text (cond (n == 1589) Call (cond (n == 6936) Filter (cond (n == 3304) Prune (
+    cond (n == 3496) Focus (cond (n == 697) Add (Rename))))))))))))))))))
 
 by_text : (k : Keyword) → by_weight (weight (keyword_text k)) ≡ k
 by_text Id = refl
@@ -39,6 +39,7 @@ by_text Copy = refl
 by_text Merge = refl
 by_text ByConcrete = refl
 by_text ByView = refl
+by_text Text = refl
 by_text Call = refl
 by_text Filter = refl
 by_text Prune = refl
@@ -118,6 +119,7 @@ mutual
       let t = behind_once IsEdge one_edge 44 _ _ _ _ _ _ o.1 a b in
       let z = terms_once t.1 x y in
       ((λ i. on_view (o.0 i) (t.0 i) (z.0 i) (z.1 i)), z.2)
+  form_once e (text_form p) (text_form q) = let o = one_once IsWord word_once _ _ _ _ _ _ e p q in (ap text o.0, o.1)
   form_once e (call_form p) (call_form q) = let o = one_once IsWord word_once _ _ _ _ _ _ e p q in (ap call o.0, o.1)
   form_once e (filter_form p) (filter_form q) = let o = two_once IsSet IsTree one_set one_tree _ _ _ _ _ _ _ _ e p q in
       ((λ i. filter_lens (o.0 i) (o.1 i)), o.2)

@@ -18,7 +18,7 @@ use Rattle.hm_node_lines.proofs.Laws.{is_true, word_utf8}
 use Rattle.hm_terms.specs.Lenses.{Lens, Lenses, none}
 use Rattle.hm_term_text.specs.declared.keyword.Keyword.{Keyword}
 use Rattle.hm_term_text.specs.Fronts.{IsEdge, AreNames, no_names, a_name, IsSet, Behind}
-use Rattle.hm_term_text.specs.TermText.{IsTerm, one_part, more_parts, IsPart, in_parentheses, by_keyword, IsForm, id_form, const_form, hoist_form, plunge_form, fork_form, map_form, each_form, list_form, copy_form, merge_form, concrete_form, view_form, call_form, filter_form, prune_form, focus_form, add_form, rename_form, BehindSign, behind_sign, InParentheses, parentheses, TwoTerms, two_terms, ArePairs, last_pair, more_pairs}
+use Rattle.hm_term_text.specs.TermText.{IsTerm, one_part, more_parts, IsPart, in_parentheses, by_keyword, IsForm, id_form, const_form, hoist_form, plunge_form, fork_form, map_form, each_form, list_form, copy_form, merge_form, concrete_form, view_form, text_form, call_form, filter_form, prune_form, focus_form, add_form, rename_form, BehindSign, behind_sign, InParentheses, parentheses, TwoTerms, two_terms, ArePairs, last_pair, more_pairs}
 use Rattle.hm_term_text.specs.Derived.{no_names_set, only}
 use Rattle.hm_term_text.specs.Writable.{AreTexts, IsWritable, AreWritable}
 
@@ -87,6 +87,7 @@ mutual
   form_writable (merge_form p) = (behind_utf8 p.first, behind_utf8 p.second)
   form_writable (concrete_form p t) = let h = terms_writable t in (behind_utf8 p, h.0, h.1)
   form_writable (view_form p q t) = let h = terms_writable t in (behind_utf8 p, behind_utf8 q, h.0, h.1)
+  form_writable (text_form p) = p.first.form.token
   form_writable (call_form p) = p.first.form.token
   form_writable (filter_form p) = let h = set_utf8 p.first.form in (h, h, tt, (empty_shallow, p.second.form.shallow))
   form_writable (prune_form {n} p shallow) = (only_texts n (behind_utf8 p.first), none_texts, (empty_shallow, shallow), tt)

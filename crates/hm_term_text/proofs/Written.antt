@@ -7,12 +7,12 @@ use Rattle.hm_schema.specs.Values.{Names}
 use Rattle.hm_tree.specs.Spelling.{spelled}
 use Rattle.hm_node_lines.specs.declared.token.Token.TheVariants.{Word}
 use Rattle.hm_node_lines.specs.Tokens.{begins_word, IsToken}
-use Rattle.hm_terms.specs.Lenses.{Lens, Lenses, identity, sequence, constant, hoist, plunge, fork, each, among, items, copy, merge, on_concrete, on_view, call, none, also}
+use Rattle.hm_terms.specs.Lenses.{Lens, Lenses, identity, sequence, constant, hoist, plunge, fork, each, among, items, copy, merge, on_concrete, on_view, text, call, none, also}
 use Rattle.hm_term_text.specs.declared.keyword.Keyword.{Keyword}
-use Rattle.hm_term_text.specs.declared.keyword.Keyword.TheVariants.{Id, Const, Hoist, Plunge, Fork, Map, Each, List as Items, Copy, Merge, ByConcrete, ByView, Call, Filter, Prune, Focus, Add, Rename}
+use Rattle.hm_term_text.specs.declared.keyword.Keyword.TheVariants.{Id, Const, Hoist, Plunge, Fork, Map, Each, List as Items, Copy, Merge, ByConcrete, ByView, Text, Call, Filter, Prune, Focus, Add, Rename}
 use Rattle.hm_term_text.specs.Keywords.{keyword_text}
 use Rattle.hm_term_text.specs.Fronts.{IsSign, IsWord, IsEdge, IsTree, IsSet, Behind}
-use Rattle.hm_term_text.specs.TermText.{IsTerm, one_part, more_parts, IsPart, in_parentheses, by_keyword, IsForm, id_form, const_form, hoist_form, plunge_form, fork_form, map_form, each_form, list_form, copy_form, merge_form, concrete_form, view_form, call_form, BehindSign, behind_sign, InParentheses, parentheses, TwoTerms, two_terms, ArePairs, last_pair, more_pairs, IsTermText}
+use Rattle.hm_term_text.specs.TermText.{IsTerm, one_part, more_parts, IsPart, in_parentheses, by_keyword, IsForm, id_form, const_form, hoist_form, plunge_form, fork_form, map_form, each_form, list_form, copy_form, merge_form, concrete_form, view_form, text_form, call_form, BehindSign, behind_sign, InParentheses, parentheses, TwoTerms, two_terms, ArePairs, last_pair, more_pairs, IsTermText}
 use Rattle.hm_term_text.specs.Written.{set_text, is_sequence, opening, closing, term_text, pairs_text, more_pairs_text}
 use Rattle.hm_term_text.specs.Writable.{AreTexts, IsWritable, AreWritable}
 use Rattle.hm_term_text.proofs.WrittenFronts.{IsText, edge_read, word_read, tree_read, set_read, one_read, two_read}
@@ -49,6 +49,7 @@ keyword_token Copy = (omega arith, tt)
 keyword_token Merge = (omega arith, tt)
 keyword_token ByConcrete = (omega arith, tt)
 keyword_token ByView = (omega arith, tt)
+keyword_token Text = (omega arith, tt)
 keyword_token Call = (omega arith, tt)
 keyword_token Filter = (omega arith, tt)
 keyword_token Prune = (omega arith, tt)
@@ -107,9 +108,9 @@ sequence_read l k first second = record {
 
 -- ---- what stands behind a keyword
 
-behind : {X : Type 0} (F : List ℕ → X → List ℕ → Type 0) (text : List ℕ) (x : X) → IsText F text x → {sign : ℕ} {bytes : List ℕ} (rest : List ℕ)
-    → begins_word rest ≡ false → IsSign sign bytes (text ++ rest) → Behind sign F bytes x rest
-behind F text x reads rest ends begins = record { inner = text ++ rest; begins = begins; form = reads rest ends }
+behind : {X : Type 0} (F : List ℕ → X → List ℕ → Type 0) (front : List ℕ) (x : X) → IsText F front x → {sign : ℕ} {bytes : List ℕ} (rest : List ℕ)
+    → begins_word rest ≡ false → IsSign sign bytes (front ++ rest) → Behind sign F bytes x rest
+behind F front x reads rest ends begins = record { inner = front ++ rest; begins = begins; form = reads rest ends }
 
 abbrev two_texts : Lens → Lens → List ℕ → List ℕ
 two_texts l k rest = 44 ∷ (term_text l ++ 44 ∷ (term_text k ++ 41 ∷ rest))
@@ -191,6 +192,7 @@ mutual
       plain_read (on_concrete n l k) refl (λ rest word. concrete_read l k (lens_read l h.1) (lens_read k h.2) rest n h.0)
   lens_read (on_view n m l k) h =
       plain_read (on_view n m l k) refl (λ rest word. view_read l k (lens_read l h.2) (lens_read k h.3) rest n m h.0 h.1)
+  lens_read (text n) h = plain_read (text n) refl (λ rest word. keyword_read Text refl refl (text_form (one_read IsWord _ n (word_read n h) rest)))
   lens_read (call n) h = plain_read (call n) refl (λ rest word. keyword_read Call refl refl (call_form (one_read IsWord _ n (word_read n h) rest)))
 
   pairs_read : (ls : Lenses) → AreWritable ls → (sign : ℕ) (bytes rest : List ℕ) → ls ≢ none
@@ -229,6 +231,7 @@ flush (copy m n) x rest = no_space 99 _ rest (λ e. omega arith)
 flush (merge m n) x rest = no_space 109 _ rest (λ e. omega arith)
 flush (on_concrete n l k) x rest = no_space 99 _ rest (λ e. omega arith)
 flush (on_view n m l k) x rest = no_space 97 _ rest (λ e. omega arith)
+flush (text n) x rest = no_space 116 _ rest (λ e. omega arith)
 flush (call n) x rest = no_space 99 _ rest (λ e. omega arith)
 
 -- ---- the law

@@ -1,7 +1,7 @@
 -- The word with which the text of a lens begins.
 use Rattle.std.specs.Prelude.{◌≡◌, ◌≢◌, ℕ, List, codes, Option, Some, None}
 use Rattle.hm_term_text.specs.declared.keyword.Keyword.{Keyword}
-use Rattle.hm_term_text.specs.declared.keyword.Keyword.TheVariants.{Id, Const, Hoist, Plunge, Fork, Map, Each, List as Items, Copy, Merge, ByConcrete, ByView, Call, Filter, Prune, Focus, Add, Rename}
+use Rattle.hm_term_text.specs.declared.keyword.Keyword.TheVariants.{Id, Const, Hoist, Plunge, Fork, Map, Each, List as Items, Copy, Merge, ByConcrete, ByView, Text, Call, Filter, Prune, Focus, Add, Rename}
 
 abbrev pub keyword_text : Keyword → List ℕ
 keyword_text Id = codes "id"
@@ -16,6 +16,7 @@ keyword_text Copy = codes "copy"
 keyword_text Merge = codes "merge"
 keyword_text ByConcrete = codes "ccond"
 keyword_text ByView = codes "acond"
+keyword_text Text = codes "text"
 keyword_text Call = codes "call"
 keyword_text Filter = codes "filter"
 keyword_text Prune = codes "prune"

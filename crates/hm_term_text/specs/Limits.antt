@@ -1,6 +1,6 @@
 -- How large a term and its text may be.
 use Rattle.std.specs.Prelude.{◌⊎◌, ℕ, ◌+◌, ◌<◌, ◌==◌, Bool, true, false, cond, ◌||◌, List, [], ◌∷◌, take, count_by}
-use Rattle.hm_terms.specs.Lenses.{Lens, Lenses, identity, sequence, constant, hoist, plunge, fork, each, among, items, copy, merge, on_concrete, on_view, call, none, also}
+use Rattle.hm_terms.specs.Lenses.{Lens, Lenses, identity, sequence, constant, hoist, plunge, fork, each, among, items, copy, merge, on_concrete, on_view, text, call, none, also}
 use Rattle.hm_term_text.specs.declared.limit.Place.{Place}
 use Rattle.hm_term_text.specs.declared.limit.Place.TheVariants.{Outside, Inside, Escaped}
 
@@ -61,6 +61,7 @@ abbrev mutual
   terms_of (merge m n) = 1
   terms_of (on_concrete n l k) = 1 + terms_of l + terms_of k
   terms_of (on_view n m l k) = 1 + terms_of l + terms_of k
+  terms_of (text n) = 1
   terms_of (call n) = 1
 
   pub terms_in : Lenses → ℕ

@@ -4,9 +4,9 @@ use Rattle.hm_tree.specs.Names.{Name}
 use Rattle.hm_tree.specs.Nodes.{Tree, depth}
 use Rattle.hm_schema.specs.Values.{Names}
 use Rattle.hm_node_lines.specs.BadLines.{HasDouble}
-use Rattle.hm_terms.specs.Lenses.{Lens, Lenses, identity, sequence, constant, hoist, plunge, fork, each, among, items, copy, merge, on_concrete, on_view, call, none, also}
+use Rattle.hm_terms.specs.Lenses.{Lens, Lenses, identity, sequence, constant, hoist, plunge, fork, each, among, items, copy, merge, on_concrete, on_view, text, call, none, also}
 use Rattle.hm_term_text.specs.declared.keyword.Keyword.{Keyword}
-use Rattle.hm_term_text.specs.declared.keyword.Keyword.TheVariants.{Id, Const, Hoist, Plunge, Fork, Map, Each, List as Items, Copy, Merge, ByConcrete, ByView, Call, Filter, Prune, Focus, Add, Rename}
+use Rattle.hm_term_text.specs.declared.keyword.Keyword.TheVariants.{Id, Const, Hoist, Plunge, Fork, Map, Each, List as Items, Copy, Merge, ByConcrete, ByView, Text, Call, Filter, Prune, Focus, Add, Rename}
 use Rattle.hm_term_text.specs.Keywords.{keyword_text}
 use Rattle.hm_term_text.specs.Fronts.{IsSign, IsWord, IsEdge, IsTree, IsSet, Behind, One, Two}
 use Rattle.hm_term_text.specs.Derived.{under_name, filter_lens, prune_lens, focus_lens, add_lens, rename_lens}
@@ -49,6 +49,7 @@ mutual
         → IsForm ByConcrete bytes (on_concrete n l k) rest
     view_form : {bytes one two rest : List ℕ} {n m : Name} {l k : Lens} → Behind 40 IsEdge bytes n one → Behind 44 IsEdge one m two
         → TwoTerms two l k rest → IsForm ByView bytes (on_view n m l k) rest
+    text_form : {bytes rest : List ℕ} {n : Name} → One IsWord bytes n rest → IsForm Text bytes (text n) rest
     call_form : {bytes rest : List ℕ} {n : Name} → One IsWord bytes n rest → IsForm Call bytes (call n) rest
     filter_form : {bytes rest : List ℕ} {P : Names} {d : Tree} → Two IsSet IsTree bytes P d rest → IsForm Filter bytes (filter_lens P d) rest
     -- the tree with d under n is no deeper than trees may be

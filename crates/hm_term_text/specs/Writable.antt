@@ -6,13 +6,13 @@ use Rattle.hm_schema.specs.Values.{Names}
 use Rattle.hm_node_lines.specs.declared.token.Token.TheVariants.{Word}
 use Rattle.hm_node_lines.specs.Tokens.{IsToken}
 use Rattle.hm_node_lines.specs.BadLines.{HasDouble}
-use Rattle.hm_terms.specs.Lenses.{Lens, Lenses, identity, sequence, constant, hoist, plunge, fork, each, among, items, copy, merge, on_concrete, on_view, call, none, also}
+use Rattle.hm_terms.specs.Lenses.{Lens, Lenses, identity, sequence, constant, hoist, plunge, fork, each, among, items, copy, merge, on_concrete, on_view, text, call, none, also}
 use Rattle.hm_term_text.specs.TermText.{names_of}
 
 abbrev pub AreTexts : Names → Type 0
 AreTexts P = All IsUtf8 (ascending P)
 
--- names are UTF-8, that of a call is a word, trees are no deeper than a text may say, and a lens for each name has one or
+-- names are UTF-8, those of a text lens and of a call are words, trees are no deeper than a text may say, and a lens for each name has one or
 -- more names, none of them twice
 abbrev mutual
   pub IsWritable : Lens → Type 0
@@ -29,6 +29,7 @@ abbrev mutual
   IsWritable (merge m n) = IsUtf8 m × IsUtf8 n
   IsWritable (on_concrete n l k) = IsUtf8 n × IsWritable l × IsWritable k
   IsWritable (on_view n m l k) = IsUtf8 n × IsUtf8 m × IsWritable l × IsWritable k
+  IsWritable (text n) = IsToken (Word n)
   IsWritable (call n) = IsToken (Word n)
 
   pub AreWritable : Lenses → Type 0

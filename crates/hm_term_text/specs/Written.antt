@@ -5,14 +5,14 @@ use Rattle.hm_tree.specs.Nodes.{Tree}
 use Rattle.hm_tree.specs.Spelling.{spelled}
 use Rattle.hm_tree.specs.Sets.{ascending}
 use Rattle.hm_schema.specs.Values.{Names}
-use Rattle.hm_tree_text.specs.Text.{whole, text}
-use Rattle.hm_terms.specs.Lenses.{Lens, Lenses, identity, sequence, constant, hoist, plunge, fork, each, among, items, copy, merge, on_concrete, on_view, call, none, also}
+use Rattle.hm_tree_text.specs.Text.{whole, text as tree_text}
+use Rattle.hm_terms.specs.Lenses.{Lens, Lenses, identity, sequence, constant, hoist, plunge, fork, each, among, items, copy, merge, on_concrete, on_view, text, call, none, also}
 
 abbrev pub set_text : Names → List ℕ
 set_text P = codes "{" ++ flat_map spelled (ascending P) ++ codes "}"
 
 abbrev pub spelled_tree : Tree → List ℕ
-spelled_tree t = text whole t.shape
+spelled_tree t = tree_text whole t.shape
 
 abbrev pub is_sequence : Lens → Bool
 is_sequence (sequence l k) = true
@@ -28,6 +28,7 @@ is_sequence (copy m n) = false
 is_sequence (merge m n) = false
 is_sequence (on_concrete n l k) = false
 is_sequence (on_view n m l k) = false
+is_sequence (text n) = false
 is_sequence (call n) = false
 
 -- parentheses where they are asked for
@@ -54,6 +55,7 @@ abbrev mutual
   term_text (on_concrete n l k) = codes "ccond(" ++ spelled n ++ codes "," ++ term_text l ++ codes "," ++ term_text k ++ codes ")"
   term_text (on_view n m l k) =
       codes "acond(" ++ spelled n ++ codes "," ++ spelled m ++ codes "," ++ term_text l ++ codes "," ++ term_text k ++ codes ")"
+  term_text (text n) = codes "text(" ++ n ++ codes ")"
   term_text (call n) = codes "call(" ++ n ++ codes ")"
 
   -- each name with its lens, and commas between them
@@ -80,4 +82,5 @@ front_text (copy m n) = codes "copy(" ++ spelled m ++ codes "," ++ spelled n ++ 
 front_text (merge m n) = codes "merge(" ++ spelled m ++ codes "," ++ spelled n ++ codes ")"
 front_text (on_concrete n l k) = codes "ccond(" ++ spelled n ++ codes ","
 front_text (on_view n m l k) = codes "acond(" ++ spelled n ++ codes "," ++ spelled m ++ codes ","
+front_text (text n) = codes "text(" ++ n ++ codes ")"
 front_text (call n) = codes "call(" ++ n ++ codes ")"

@@ -5,9 +5,9 @@
 //! part     = "id" / "const(" tree "," tree ")" / "hoist(" edge ")" / "plunge(" edge ")"
 //!          / "xfork(" set "," set "," term "," term ")" / "map(" term ")" / "wmap(" edge "=" term *( "," edge "=" term ) ")"
 //!          / "list(" term ")" / "copy(" edge "," edge ")" / "merge(" edge "," edge ")"
-//!          / "ccond(" edge "," term "," term ")" / "acond(" edge "," edge "," term "," term ")" / "call(" word ")"
-//!          / "filter(" set "," tree ")" / "prune(" edge "," tree ")" / "focus(" edge "," tree ")"
-//!          / "add(" edge "," tree ")" / "rename(" edge "," edge ")" / "(" term ")"
+//!          / "ccond(" edge "," term "," term ")" / "acond(" edge "," edge "," term "," term ")"
+//!          / "text(" word ")" / "call(" word ")" / "filter(" set "," tree ")" / "prune(" edge "," tree ")"
+//!          / "focus(" edge "," tree ")" / "add(" edge "," tree ")" / "rename(" edge "," edge ")" / "(" term ")"
 //! set      = "{" *edge "}"
 //! edge     = word / name                         name: as `hm_tree::append_spelled` spells it
 //! word     = 1*( "A" to "Z" / "a" to "z" / "0" to "9" / "_" / "-" / "." / "*" )

@@ -1,6 +1,6 @@
 //! What stands behind the keywords of lenses without lenses inside.
 ghost use Rattle.std.specs.Prelude.{IfOk};
-ghost use Rattle.hm_term_text.specs.declared.keyword.Keyword.TheVariants.{Const as ConstWord, Hoist as HoistWord, Plunge as PlungeWord, Copy as CopyWord, Merge as MergeWord, Call as CallWord, Filter as FilterWord, Prune as PruneWord, Focus as FocusWord, Add as AddWord, Rename as RenameWord};
+ghost use Rattle.hm_term_text.specs.declared.keyword.Keyword.TheVariants.{Const as ConstWord, Hoist as HoistWord, Plunge as PlungeWord, Copy as CopyWord, Merge as MergeWord, Text as TextWord, Call as CallWord, Filter as FilterWord, Prune as PruneWord, Focus as FocusWord, Add as AddWord, Rename as RenameWord};
 ghost use Rattle.hm_term_text.specs.TermText.{IsForm};
 ghost use Rattle.hm_term_text.specs.Reading.{IsTermFound};
 
@@ -54,6 +54,15 @@ pub fn read_merge<'a>(alloc: Global, text: &'a [u8]) -> Result<Option<(Term, &'a
 {
     match read_two::<Name, Name>(alloc, text)? {
         Some((name, twin, rest)) => Ok(Some((Term::Merge(name, twin), rest))),
+        None => Ok(None),
+    }
+}
+
+pub fn read_text<'a>(alloc: Global, text: &'a [u8]) -> Result<Option<(Term, &'a [u8])>, Memory>
+    ensures { IfOk result (IsTermFound (IsForm TextWord) text.now) }
+{
+    match read_one_word(alloc, text)? {
+        Some((word, rest)) => Ok(Some((Term::Text(word), rest))),
         None => Ok(None),
     }
 }

@@ -11,7 +11,7 @@ use crate::keyword::{Keyword, read_keyword};
 use crate::limit::is_oversized;
 use crate::plain::{
     read_add, read_call, read_const, read_copy, read_filter, read_focus, read_hoist, read_merge,
-    read_plunge, read_prune, read_rename,
+    read_plunge, read_prune, read_rename, read_text,
 };
 use hm_node_lines::has_double;
 use hm_terms::Term;
@@ -110,6 +110,7 @@ fn read_form<'a>(
         Keyword::Merge => read_merge(alloc, text),
         Keyword::ByConcrete => read_by_concrete(alloc, text),
         Keyword::ByView => read_by_view(alloc, text),
+        Keyword::Text => read_text(alloc, text),
         Keyword::Call => read_call(alloc, text),
         Keyword::Filter => read_filter(alloc, text),
         Keyword::Prune => read_prune(alloc, text),

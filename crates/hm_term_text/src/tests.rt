@@ -32,7 +32,7 @@ fn check_written(rt: &impl Abort, alloc: Global, text: &[u8], expected: &[u8]) -
 
 #[test]
 fn terms_are_written(rt: HostRuntime) -> Result<(), Fail> {
-    let table: [(&[u8], &[u8]); 21] = [
+    let table: [(&[u8], &[u8]); 23] = [
         (b"id", b"id"),
         (
             b"const ( {\"a\":{\"b\"},\"c\"} , {} )",
@@ -46,6 +46,11 @@ fn terms_are_written(rt: HostRuntime) -> Result<(), Fail> {
         ),
         (b"list ( (hoist(a)) )", b"list(hoist(\"a\"))"),
         (b"call ( a.b )", b"call(a.b)"),
+        (b"text(trim)", b"text(trim)"),
+        (
+            b"map( text ( trim-2 );text(fold))",
+            b"map(text(trim-2);text(fold))",
+        ),
         (
             b"acond(a,b,id;id,(id;id);id)",
             b"acond(\"a\",\"b\",id;id,(id;id);id)",
@@ -134,7 +139,7 @@ fn other_texts_are_no_terms(rt: HostRuntime) -> Result<(), Fail> {
         b"const({\"a\" },{})",
         b"const({},)",
         b"filter({a,b},{})",
-        b"text(trimmed)",
+        b"text(\"a\")",
         b"call(\"a\")",
         b"rename(a b)",
         b"map(id;)",

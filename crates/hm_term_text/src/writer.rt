@@ -102,6 +102,15 @@ fn put_two(
     put_edge(text, two, last)
 }
 
+// A keyword with a word, and a parenthesis.
+fn put_word(text: &mut Vec<u8>, keyword: &[u8], word: &Name) -> Result<(), Memory>
+    ensures { OnOk result (text.new.items ≡ text.old.items ++ (keyword.now ++ (word.now ++ codes ")"))) }
+{
+    put(text, keyword)?;
+    put(text, word.bytes())?;
+    put(text, b")")
+}
+
 // What stands in front of the terms inside, or all where there are none.
 fn put_front(text: &mut Vec<u8>, term: &Term) -> Result<(), Memory>
     ensures { OnOk result (text.new.items ≡ text.old.items ++ front_text (lens_of term.now)) }
@@ -132,11 +141,8 @@ fn put_front(text: &mut Vec<u8>, term: &Term) -> Result<(), Memory>
         Term::Merge(name, twin) => put_two(text, b"merge(", name, twin, b")"),
         Term::ByConcrete { name, .. } => put_one(text, b"ccond(", name, b","),
         Term::ByView { name, shown, .. } => put_two(text, b"acond(", name, shown, b","),
-        Term::Call(name) => {
-            put(text, b"call(")?;
-            put(text, name.bytes())?;
-            put(text, b")")
-        }
+        Term::Text(name) => put_word(text, b"text(", name),
+        Term::Call(name) => put_word(text, b"call(", name),
     }
 }
 
