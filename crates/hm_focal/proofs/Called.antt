@@ -10,7 +10,7 @@ use Rattle.hm_tree.specs.Names.{Name}
 use Rattle.hm_tree.specs.Nodes.{Tree}
 use Rattle.hm_schema.specs.Values.{Names}
 use Rattle.hm_terms.specs.declared.term.Term.{Term}
-use Rattle.hm_terms.specs.Lenses.{Lens, Lenses, identity, sequence, constant, hoist, plunge, fork, each, among, also, items, copy, merge, on_concrete, on_view, call}
+use Rattle.hm_terms.specs.Lenses.{Lens, Lenses, identity, sequence, constant, hoist, plunge, fork, each, among, also, items, copy, merge, on_concrete, on_view, text, call}
 use Rattle.hm_terms.specs.Programs.{lens_of, lenses_of}
 use Rattle.hm_terms.specs.WellFormedPrograms.{StandsIn, itself, in_first, in_second, inside, outside, in_each, in_among, in_items, where_it_has, where_it_lacks, where_it_showed, where_it_did_not, IsAmong, here, further}
 use Rattle.hm_focal.specs.Judging.{CallsOther}
@@ -69,6 +69,12 @@ module _ (table : BTreeMap (String Global) ℕ) where
   no_merge m k (n, s, e) = leaf s
     where
       leaf : StandsIn (call n) (merge m k) → ⊥
+      leaf h = elim h [ ]
+
+  no_text : (m : Name) → ¬ (CallsOther table (text m))
+  no_text m (n, s, e) = leaf s
+    where
+      leaf : StandsIn (call n) (text m) → ⊥
       leaf h = elim h [ ]
 
   pub call_told : (m : Name) (o : Option ℕ) → o ≡ get_by_text table m → (b : Bool) → IsTrue b ↔ (o ≡ None) → IsTrue b ↔ CallsOther table (call m)

@@ -3,11 +3,11 @@ use Rattle.std.proofs.Common.{◌≡◌, ◌≢◌, ℕ, ◌<◌, List, ◌∷�
 use Rattle.hm_tree.specs.Names.{Name}
 use Rattle.hm_tree.specs.Nodes.{Tree}
 use Rattle.hm_schema.specs.Values.{Names}
-use Rattle.hm_terms.specs.Lenses.{Lens, Lenses, identity, sequence, constant, hoist, plunge, fork, each, among, none, also, items, copy, merge, on_concrete, on_view, call}
+use Rattle.hm_terms.specs.Lenses.{Lens, Lenses, identity, sequence, constant, hoist, plunge, fork, each, among, none, also, items, copy, merge, on_concrete, on_view, text, call}
 use Rattle.hm_terms.specs.WellFormedPrograms.{StandsIn, itself, in_first, in_second, inside, outside, in_each, in_among, in_items, where_it_has, where_it_lacks, where_it_showed, where_it_did_not, IsAmong, here, further, row_names, HasOnce, IsSoundRow}
 use Rattle.hm_node_lines.specs.BadLines.{HasDouble}
 use Rattle.hm_term_text.specs.declared.keyword.Keyword.{Keyword}
-use Rattle.hm_term_text.specs.TermText.{names_of, IsTerm, one_part, more_parts, IsPart, in_parentheses, by_keyword, IsForm, id_form, const_form, hoist_form, plunge_form, fork_form, map_form, each_form, list_form, copy_form, merge_form, concrete_form, view_form, call_form, filter_form, prune_form, focus_form, add_form, rename_form, BehindSign, behind_sign, InParentheses, parentheses, TwoTerms, two_terms, ArePairs, last_pair, more_pairs, IsTermText}
+use Rattle.hm_term_text.specs.TermText.{names_of, IsTerm, one_part, more_parts, IsPart, in_parentheses, by_keyword, IsForm, id_form, const_form, hoist_form, plunge_form, fork_form, map_form, each_form, list_form, copy_form, merge_form, concrete_form, view_form, text_form, call_form, filter_form, prune_form, focus_form, add_form, rename_form, BehindSign, behind_sign, InParentheses, parentheses, TwoTerms, two_terms, ArePairs, last_pair, more_pairs, IsTermText}
 
 abbrev pub AreSound : Lens → Type 0
 AreSound l = (ls : Lenses) → StandsIn (among ls) l → IsSoundRow ls
@@ -52,6 +52,9 @@ of_copy m n ls s = elim s [ ]
 
 of_merge : (m n : Name) → AreSound (merge m n)
 of_merge m n ls s = elim s [ ]
+
+of_text : (n : Name) → AreSound (text n)
+of_text n ls s = elim s [ ]
 
 of_call : (n : Name) → AreSound (call n)
 of_call n ls s = elim s [ ]
@@ -122,6 +125,7 @@ mutual
   form_rows (merge_form p) = of_merge _ _
   form_rows (concrete_form p t) = let both = terms_rows t in of_concrete _ _ both.0 both.1 _
   form_rows (view_form p q t) = let both = terms_rows t in of_view _ _ both.0 both.1 _ _
+  form_rows (text_form p) = of_text _
   form_rows (call_form p) = of_call _
   form_rows (filter_form p) = of_fork _ _ of_identity (of_constant _ _) _ _
   form_rows (prune_form p d) = of_fork _ _ (of_constant _ _) of_identity _ _

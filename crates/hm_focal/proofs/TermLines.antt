@@ -12,7 +12,7 @@ use Rattle.hm_node_lines.specs.declared.token.Token.{Token}
 use Rattle.hm_node_lines.specs.Tokens.{token_text}
 use Rattle.hm_term_text.specs.declared.keyword.Keyword.{Keyword}
 use Rattle.hm_term_text.specs.Fronts.{unspaced, IsSign, IsFront, IsWord, IsEdge, IsTree, AreNames, no_names, a_name, IsSet, Behind, One, Two}
-use Rattle.hm_term_text.specs.TermText.{IsTerm, one_part, more_parts, IsPart, in_parentheses, by_keyword, IsForm, id_form, const_form, hoist_form, plunge_form, fork_form, map_form, each_form, list_form, copy_form, merge_form, concrete_form, view_form, call_form, filter_form, prune_form, focus_form, add_form, rename_form, BehindSign, behind_sign, InParentheses, parentheses, TwoTerms, two_terms, ArePairs, last_pair, more_pairs, IsTermText}
+use Rattle.hm_term_text.specs.TermText.{IsTerm, one_part, more_parts, IsPart, in_parentheses, by_keyword, IsForm, id_form, const_form, hoist_form, plunge_form, fork_form, map_form, each_form, list_form, copy_form, merge_form, concrete_form, view_form, text_form, call_form, filter_form, prune_form, focus_form, add_form, rename_form, BehindSign, behind_sign, InParentheses, parentheses, TwoTerms, two_terms, ArePairs, last_pair, more_pairs, IsTermText}
 use Rattle.hm_focal.proofs.OneLine.{IsOneLine, line_both, token_line, text_line}
 
 -- ---- what stands at the front of bytes
@@ -96,6 +96,7 @@ mutual
   form_line (concrete_form p t) h = behind_line IsEdge edge_line 40 (omega arith) _ _ (terms_line t h) _ p
   form_line (view_form p q t) h =
       behind_line IsEdge edge_line 40 (omega arith) _ _ (behind_line IsEdge edge_line 44 (omega arith) _ _ (terms_line t h) _ q) _ p
+  form_line (text_form p) h = one_line IsWord (λ b r k w f. front_line b r k _ f) _ _ h _ p
   form_line (call_form p) h = one_line IsWord (λ b r k w f. front_line b r k _ f) _ _ h _ p
   form_line (filter_form p) h = two_line IsSet IsTree set_line tree_line _ _ h _ _ p
   form_line (prune_form p d) h = two_line IsEdge IsTree edge_line tree_line _ _ h _ _ p

@@ -4,7 +4,7 @@ use Rattle.std.specs.Prelude.{codes, flat_map, IsUtf8}
 use Rattle.std.proofs.lemmas.List.{length_push}
 use Rattle.hm_tree.specs.Names.{Name}
 use Rattle.hm_tree.specs.Spelling.{spelled}
-use Rattle.hm_terms.specs.Lenses.{Lens, DefinitionValue, identity, sequence, constant, hoist, plunge, fork, each, among, items, copy, merge, on_concrete, on_view, call}
+use Rattle.hm_terms.specs.Lenses.{Lens, DefinitionValue, identity, sequence, constant, hoist, plunge, fork, each, among, items, copy, merge, on_concrete, on_view, text as text_lens, call}
 use Rattle.hm_term_text.specs.TermText.{IsTermText}
 use Rattle.hm_term_text.specs.Limits.{IsOversized}
 use Rattle.hm_term_text.specs.Written.{set_text, spelled_tree, is_sequence, opening, closing, term_text, pairs_text}
@@ -155,6 +155,7 @@ term_ends (copy m n) = closed (codes "copy(" ++ spelled m ++ codes "," ++ spelle
 term_ends (merge m n) = closed (codes "merge(" ++ spelled m ++ codes "," ++ spelled n)
 term_ends (on_concrete n l k) = closed (codes "ccond(" ++ spelled n ++ codes "," ++ term_text l ++ codes "," ++ term_text k)
 term_ends (on_view n m l k) = closed (codes "acond(" ++ spelled n ++ codes "," ++ spelled m ++ codes "," ++ term_text l ++ codes "," ++ term_text k)
+term_ends (text_lens n) = closed (codes "text(" ++ n)
 term_ends (call n) = closed (codes "call(" ++ n)
 
 last_at : (xs : List ℕ) (b : ℕ) → slice_get (xs ++ b ∷ []) (length xs) ≡ Some b

@@ -19,6 +19,7 @@ pub fn calls_other(term: &Term, lenses: &BTreeMap<String, usize>) -> bool
         Term::Plunge(_) => false,
         Term::Copy(_, _) => false,
         Term::Merge(_, _) => false,
+        Term::Text(_) => false,
         Term::Call(name) => first_place(lenses, name).is_none(),
         Term::Map(inner) => calls_other(inner, lenses),
         Term::List(inner) => calls_other(inner, lenses),

@@ -270,6 +270,7 @@ fn the_lenses_of_the_docs_are_read(rt: HostRuntime) -> Result<(), Fail> {
         "ccond(a,hoist(a),id)",
         "ccond(a,const({},{\"a\"}),const({},{\"b\"}))",
         "acond(a,b,rename(a,b),id)",
+        "text(trim)",
         "map(call(L))",
         "filter({a},{})",
         "prune(b,{\"z\"})",
