@@ -1,17 +1,18 @@
 //! A program for each kind of lens, what it shows and what it puts.
 use crate::setting::{expect_made, expect_put, expect_shown, typed};
+use hm_text_lens::TextLens;
 use std::alloc::Global;
 use std::process::Abort;
 use std::test::Fail;
 
 // A tree and its view, then a changed view and what is put of it with that tree and with none.
 #[derive(Clone, Copy)]
-struct Case {
-    tree: &'static str,
-    view: &'static str,
-    changed: &'static str,
-    put: &'static str,
-    made: &'static str,
+pub struct Case {
+    pub tree: &'static str,
+    pub view: &'static str,
+    pub changed: &'static str,
+    pub put: &'static str,
+    pub made: &'static str,
 }
 
 fn expect(
@@ -21,12 +22,25 @@ fn expect(
     lines: &str,
     cases: &[Case],
 ) -> Result<(), Fail> {
-    let typed = typed(alloc, nodes, lines)?;
+    let texts: Vec<Box<dyn TextLens>> = Vec::new(alloc);
+    expect_with(rt, alloc, &texts, nodes, lines, cases)
+}
+
+/// Compares what a lens file shows and puts with some text lenses.
+pub fn expect_with(
+    rt: &impl Abort,
+    alloc: Global,
+    texts: &[Box<dyn TextLens>],
+    nodes: &str,
+    lines: &str,
+    cases: &[Case],
+) -> Result<(), Fail> {
+    let typed = typed(alloc, texts, nodes, lines)?;
     for case in cases {
-        expect_shown(rt, alloc, &typed, case.tree, case.view)?;
-        expect_put(rt, alloc, &typed, case.view, case.tree, case.tree)?;
-        expect_put(rt, alloc, &typed, case.changed, case.tree, case.put)?;
-        expect_made(rt, alloc, &typed, case.changed, case.made)?;
+        expect_shown(rt, alloc, texts, &typed, case.tree, case.view)?;
+        expect_put(rt, alloc, texts, &typed, case.view, case.tree, case.tree)?;
+        expect_put(rt, alloc, texts, &typed, case.changed, case.tree, case.put)?;
+        expect_made(rt, alloc, texts, &typed, case.changed, case.made)?;
     }
     Ok(())
 }

@@ -12,4 +12,6 @@ mod refused;
 #[cfg(test)]
 mod setting;
 #[cfg(test)]
+mod texts;
+#[cfg(test)]
 mod views;

@@ -1,5 +1,5 @@
 //! Schemas and lens files from texts, the answer of their check, and runs of what is typed.
-ghost use Rattle.std.specs.Prelude.{IfOk};
+ghost use Rattle.std.specs.Prelude.{IfOk, map};
 ghost use Rattle.hm_schema.specs.Membership.{HasNoTwins};
 ghost use Rattle.hm_terms.specs.Programs.{program_value};
 ghost use Rattle.hm_terms.specs.WellFormedPrograms.{IsWellFormed};
@@ -62,19 +62,29 @@ fn tree_of(alloc: Global, text: &str) -> Result<Tree, Fail> {
 
 // What the check of a lens file over a schema answers, without the first lines of both: `R` is the root, and `V` stands
 // behind its nodes.
-fn checked(alloc: Global, nodes: &str, lines: &str) -> Result<Result<Typed, TypeFault>, Fail>
-    ensures { IfOk result (λ answer. IfOk answer CanRun) }
+fn checked(
+    alloc: Global,
+    texts: &[Box<dyn TextLens>],
+    nodes: &str,
+    lines: &str,
+) -> Result<Result<Typed, TypeFault>, Fail>
+    ensures { IfOk result (λ answer. IfOk answer (CanRun (map (λ b. meaning b) texts.now))) }
 {
     let schema = schema_of(alloc, nodes)?;
     let program = program_of(alloc, lines)?;
-    Ok(check(alloc, program, &schema))
+    Ok(check(alloc, program, &schema, texts))
 }
 
 /// The typed program of a lens file that is accepted.
-pub fn typed(alloc: Global, nodes: &str, lines: &str) -> Result<Typed, Fail>
-    ensures { IfOk result CanRun }
+pub fn typed(
+    alloc: Global,
+    texts: &[Box<dyn TextLens>],
+    nodes: &str,
+    lines: &str,
+) -> Result<Typed, Fail>
+    ensures { IfOk result (CanRun (map (λ b. meaning b) texts.now)) }
 {
-    match checked(alloc, nodes, lines)? {
+    match checked(alloc, texts, nodes, lines)? {
         Ok(typed) => Ok(typed),
         Err(TypeFault::Memory) => Err(Memory.into()),
         Err(_) => Err("a lens file is refused".into()),
@@ -89,6 +99,10 @@ fn words(alloc: Global, fault: TypeFault) -> Result<String, Fail> {
             term,
             rule,
         } => Ok(format!(in alloc; "Mistyped {definition} {term} {rule}")?),
+        TypeFault::UnknownLens { name } => {
+            let text = name.text();
+            Ok(format!(in alloc; "UnknownLens {text}")?)
+        }
         TypeFault::Unguarded { name } => {
             let text = name.text();
             Ok(format!(in alloc; "Unguarded {text}")?)
@@ -100,7 +114,7 @@ fn words(alloc: Global, fault: TypeFault) -> Result<String, Fail> {
     }
 }
 
-/// Compares what a check answers; `typed` where the lens file is accepted.
+/// Compares what a check without text lenses answers; `typed` where the lens file is accepted.
 pub fn expect_answer(
     rt: &impl Abort,
     alloc: Global,
@@ -108,7 +122,20 @@ pub fn expect_answer(
     lines: &str,
     want: &str,
 ) -> Result<(), Fail> {
-    let found = match checked(alloc, nodes, lines)? {
+    let texts: Vec<Box<dyn TextLens>> = Vec::new(alloc);
+    expect_answer_with(rt, alloc, &texts, nodes, lines, want)
+}
+
+/// The same with some text lenses.
+pub fn expect_answer_with(
+    rt: &impl Abort,
+    alloc: Global,
+    texts: &[Box<dyn TextLens>],
+    nodes: &str,
+    lines: &str,
+    want: &str,
+) -> Result<(), Fail> {
+    let found = match checked(alloc, texts, nodes, lines)? {
         Ok(_) => String::from_str(alloc, "typed")?,
         Err(fault) => words(alloc, fault)?,
     };
@@ -160,15 +187,15 @@ fn expect_tree(rt: &impl Abort, alloc: Global, tree: &Tree, want: &str) -> Resul
 pub fn expect_shown(
     rt: &impl Abort,
     alloc: Global,
+    texts: &[Box<dyn TextLens>],
     typed: &Typed,
     tree: &str,
     view: &str,
 ) -> Result<(), Fail>
-    requires { CanRun typed.now }
+    requires { CanRun (map (λ b. meaning b) texts.now) typed.now }
 {
-    let texts: Vec<Box<dyn TextLens>> = Vec::new(alloc);
     let tree = source_tree(alloc, typed, tree)?;
-    let shown = get(&typed.program, &texts, &tree)?;
+    let shown = get(&typed.program, texts, &tree)?;
     expect_tree(rt, alloc, &shown, view)
 }
 
@@ -176,17 +203,17 @@ pub fn expect_shown(
 pub fn expect_put(
     rt: &impl Abort,
     alloc: Global,
+    texts: &[Box<dyn TextLens>],
     typed: &Typed,
     view: &str,
     before: &str,
     want: &str,
 ) -> Result<(), Fail>
-    requires { CanRun typed.now }
+    requires { CanRun (map (λ b. meaning b) texts.now) typed.now }
 {
-    let texts: Vec<Box<dyn TextLens>> = Vec::new(alloc);
     let view = view_tree(alloc, typed, view)?;
     let before = source_tree(alloc, typed, before)?;
-    let tree = put(&typed.program, &texts, &view, Some(&before))?;
+    let tree = put(&typed.program, texts, &view, Some(&before))?;
     expect_tree(rt, alloc, &tree, want)
 }
 
@@ -194,15 +221,15 @@ pub fn expect_put(
 pub fn expect_made(
     rt: &impl Abort,
     alloc: Global,
+    texts: &[Box<dyn TextLens>],
     typed: &Typed,
     view: &str,
     want: &str,
 ) -> Result<(), Fail>
-    requires { CanRun typed.now }
+    requires { CanRun (map (λ b. meaning b) texts.now) typed.now }
 {
-    let texts: Vec<Box<dyn TextLens>> = Vec::new(alloc);
     let view = view_tree(alloc, typed, view)?;
-    let tree = put(&typed.program, &texts, &view, None)?;
+    let tree = put(&typed.program, texts, &view, None)?;
     expect_tree(rt, alloc, &tree, want)
 }
 

@@ -1,6 +1,7 @@
 //! The nodes of views, as they are numbered.
 use crate::setting::typed;
 use hm_node_lines::append_nodes;
+use hm_text_lens::TextLens;
 use hm_tree::Name;
 use std::alloc::Global;
 use std::process::Abort;
@@ -14,7 +15,8 @@ fn expect(
     lines: &str,
     want: &str,
 ) -> Result<(), Fail> {
-    let typed = typed(alloc, nodes, lines)?;
+    let texts: Vec<Box<dyn TextLens>> = Vec::new(alloc);
+    let typed = typed(alloc, &texts, nodes, lines)?;
     let nodes = typed.view.nodes();
     let mut names = Vec::new(alloc);
     for place in 0..nodes.len() {

@@ -1,4 +1,4 @@
-use Rattle.std.proofs.Common.{Some}
+use Rattle.std.proofs.Common.{map, Some}
 use Rattle.hm_terms.specs.Programs.{program_value, setting_of}
 use Rattle.hm_types.specs.Checks.{Trees}
 use Rattle.hm_eval.proofs.Fits.{fits_put}
@@ -6,6 +6,7 @@ use Rattle.hm_checks.proofs.setting.expect_put.Goals as goal
 
 pub put-requires : goal.put-requires
 put-requires g c =
+    let ms = map (λ b. (goal.TextLens-dyn g (b.vtable, b.value)).meaning b.value) c.args.texts.now in
     let t = c.args.typed.now in
     let p = program_value t.program in
-    fits_put (setting_of p) p.main (Trees t.source) (Trees t.view) c.requires c.in_ok-view.view (Some c.in_ok-before.before) c.in_ok-view.ensures c.in_ok-before.ensures
+    fits_put (setting_of ms p) p.main (Trees t.source) (Trees t.view) c.requires c.in_ok-view.view (Some c.in_ok-before.before) c.in_ok-view.ensures c.in_ok-before.ensures
