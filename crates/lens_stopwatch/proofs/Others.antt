@@ -7,7 +7,7 @@ use Rattle.hm_tree.specs.declared.memory.Memory.{Memory}
 use Rattle.hm_tree.specs.Names.{name_cmp}
 use Rattle.hm_tree.specs.Nodes.{Tree}
 use Rattle.hm_terms.specs.Lenses.{identity, each, items, call, DefinitionValue, Setting}
-use Rattle.hm_terms.specs.Programs.{lens_of, definition_value, program_value, setting_of}
+use Rattle.hm_terms.specs.Programs.{lens_of, definition_value, program_value}
 use Rattle.hm_terms.specs.declared.term.Definition.{Definition}
 use Rattle.hm_terms.specs.declared.term.Program.{Program}
 use Rattle.hm_terms.specs.Parts.{IsList}
@@ -23,7 +23,7 @@ use Rattle.lens_stopwatch.specs.Contacts.{IsBook}
 use Rattle.lens_stopwatch.proofs.Contacts.{Named, can_run}
 use Rattle.lens_stopwatch.proofs.Judging.{named, list_of}
 
-module _ (S : Setting) (is : CallsItself S) where
+module _ (S : Setting) (is : CallsItself S.definitions) where
   -- up to each depth, by what it does up to the lower ones
   rows_to : (b n : ℕ) → n < b → FitsTo n S (call rows) Any Any
   rows_to zero n lt = absurd (omega arith)
@@ -45,12 +45,12 @@ lists_run S c h =
 
 -- one definition, whose body calls it again
 defined : (ds : List Definition) (d : Definition) → ds ≡ d ∷ [] → d.name ≡ rows → lens_of d.body ≡ each (call rows)
-    → CallsItself (record { definitions = map definition_value ds })
+    → CallsItself (map definition_value ds)
 defined ds d is name body =
     ap (λ ds. option_map (λ (d : DefinitionValue). d.body) (find name_cmp rows (map definition_value ds))) is
     ∙ ap (λ b. option_map (λ (d : DefinitionValue). d.body) (cond b (Some (definition_value d).1) None)) (named d.name rows (sym name)) ∙ ap Some body
 
 pub rows_defined : (r : Result Program Memory) (ds : Vec Definition Global) (d : Definition) → IfOk r (λ p. p.definitions ≡ ds) → ds.items ≡ d ∷ []
-    → d.name ≡ rows → lens_of d.body ≡ each (call rows) → IfOk r (λ p. CallsItself (setting_of (program_value p)))
+    → d.name ≡ rows → lens_of d.body ≡ each (call rows) → IfOk r (λ p. CallsItself (program_value p).definitions)
 rows_defined (Ok p) ds d same is name body = defined p.definitions.items d (ap (λ (v : Vec Definition Global). v.items) same ∙ is) name body
 rows_defined (Err e) ds d same is name body = same

@@ -1,7 +1,7 @@
 //! Reads a tree, and runs the lens of a program on it as far as a word says: shows its view, and puts that back.
 #![tactic(auto)]
 
-ghost use Rattle.std.specs.Prelude.{◌≡◌, true, IfOk};
+ghost use Rattle.std.specs.Prelude.{◌≡◌, true, IfOk, map};
 ghost use Rattle.hm_terms.specs.Programs.{program_value, setting_of};
 ghost use Rattle.lens_stopwatch.specs.Running.{CanRun};
 
@@ -28,20 +28,44 @@ fn load<S: Store>(alloc: Global, store: &mut S, name: &str) -> Result<Vec<u8>, M
 }
 
 // What is shown of the tree and put back is the tree.
-fn run(alloc: Global, program: &Program, tree: &Tree, step: &str) -> Result<bool, Memory>
-    requires { CanRun (setting_of (program_value program.now)) (program_value program.now).main tree.now }
+fn run(
+    program: &Program,
+    texts: &[Box<dyn TextLens>],
+    tree: &Tree,
+    step: &str,
+) -> Result<bool, Memory>
+    requires { CanRun (setting_of (map (λ b. meaning b) texts.now) (program_value program.now)) (program_value program.now).main tree.now }
     ensures { IfOk result (λ same. same ≡ true) }
 {
     if step == "read" {
         return Ok(true);
     }
-    let texts: Vec<Box<dyn TextLens>> = Vec::new(alloc);
-    let view = get(program, &texts, tree)?;
+    let view = get(program, texts, tree)?;
     if step == "get" {
         return Ok(true);
     }
-    let back = put(program, &texts, &view, Some(tree))?;
+    let back = put(program, texts, &view, Some(tree))?;
     Ok(back.same(tree))
+}
+
+// Runs the lens of this name on a tree, and says whether the tree is one for it and comes back.
+fn run_named(
+    alloc: Global,
+    lens: &str,
+    texts: &[Box<dyn TextLens>],
+    tree: &Tree,
+    step: &str,
+) -> Result<bool, Memory> {
+    if lens == "rows" {
+        return Ok(run(&rows(alloc)?, texts, tree, step)?);
+    }
+    if !is_book(tree) {
+        return Ok(false);
+    }
+    if lens == "contacts" {
+        return Ok(run(&contacts(alloc)?, texts, tree, step)?);
+    }
+    Ok(run(&long_lists(alloc)?, texts, tree, step)?)
 }
 
 fn go_on<S: Store>(alloc: Global, store: &mut S, lens: &str, step: &str) -> Result<bool, Memory> {
@@ -49,16 +73,8 @@ fn go_on<S: Store>(alloc: Global, store: &mut S, lens: &str, step: &str) -> Resu
     let Ok(tree) = read_tree(alloc, &bytes) else {
         return Err(Memory);
     };
-    if lens == "rows" {
-        return Ok(run(alloc, &rows(alloc)?, &tree, step)?);
-    }
-    if !is_book(&tree) {
-        return Ok(false);
-    }
-    if lens == "contacts" {
-        return Ok(run(alloc, &contacts(alloc)?, &tree, step)?);
-    }
-    Ok(run(alloc, &long_lists(alloc)?, &tree, step)?)
+    let texts: Vec<Box<dyn TextLens>> = Vec::new(alloc);
+    Ok(run_named(alloc, lens, &texts, &tree, step)?)
 }
 
 fn main(rt: HostRuntime) -> ExitCode {

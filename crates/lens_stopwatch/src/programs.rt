@@ -3,7 +3,7 @@ ghost use Rattle.std.specs.Prelude.{◌≡◌, IfOk, [], ◌∷◌};
 ghost use Rattle.std.specs.FinSet as set;
 ghost use Rattle.hm_tree.specs.Names.{name_cmp};
 ghost use Rattle.hm_terms.specs.Lenses.{sequence as then_lens, each, call};
-ghost use Rattle.hm_terms.specs.Programs.{lens_of, program_value, setting_of};
+ghost use Rattle.hm_terms.specs.Programs.{lens_of, program_value};
 ghost use Rattle.lens_stopwatch.specs.Contacts.{moved, renamed, card as card_lens, contacts as contacts_lens};
 ghost use Rattle.lens_stopwatch.specs.Others.{rows as rows_name, CallsItself, long_lists as lists_lens};
 
@@ -39,7 +39,7 @@ fn sequence(alloc: Global, first: Term, second: Term) -> Result<Term, Memory>
 /// Rows within rows, by a definition that calls itself.
 pub fn rows(alloc: Global) -> Result<Program, Memory>
     ensures main { IfOk result (λ p. (program_value p).main ≡ call rows_name) }
-    ensures definition { IfOk result (λ p. CallsItself (setting_of (program_value p))) }
+    ensures definition { IfOk result (λ p. CallsItself (program_value p).definitions) }
 {
     let mut definitions = Vec::with_capacity(alloc, 1)?;
     let definition = row(alloc)?;

@@ -2,10 +2,10 @@ use Rattle.lens_stopwatch.proofs.Running.{can_show, can_put, comes_back}
 use Rattle.lens_stopwatch.proofs.run.Goals as goal
 
 pub get-requires : goal.get-requires
-get-requires c = can_show c.requires
+get-requires g c = can_show c.requires
 
 pub put-requires : goal.put-requires
-put-requires c = can_put c.requires c.in_ok-view.ensures
+put-requires g c = can_put c.requires c.in_ok-view.ensures
 
 pub returns : goal.returns
-returns c = c.same.ensures.1 (comes_back c.requires c.in_ok-view.ensures c.in_ok-back.ensures)
+returns g c = c.same.ensures.1 (comes_back c.requires c.in_ok-view.ensures c.in_ok-back.ensures)
