@@ -25,6 +25,11 @@ fn put_fault(alloc: Global, line: &mut Vec<u8>, fault: &TypeFault) -> Result<(),
             put_number(alloc, line, b"", *term)?;
             put_number(alloc, line, b"", *rule as usize)
         }
+        TypeFault::UnknownLens { name } => {
+            line.extend_from_slice(b"unknown lens ")?;
+            line.extend_from_slice(name.text().as_bytes())?;
+            Ok(())
+        }
         TypeFault::Unguarded { name } => {
             line.extend_from_slice(b"unguarded ")?;
             line.extend_from_slice(name.text().as_bytes())?;

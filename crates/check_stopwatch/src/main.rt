@@ -14,6 +14,7 @@ use hm_outside::{FileStore, Loaded, Put, Sink, StdSink, Store};
 use hm_schema::Schema;
 use hm_schema_text::read_schema;
 use hm_terms::Program;
+use hm_text_lens::TextLens;
 use hm_tree::{Memory, Name};
 use hm_types::check;
 use std::alloc::Global;
@@ -62,7 +63,9 @@ fn go_on<S: Store>(
         line.extend_from_slice(b"read\n")?;
         return Ok(line);
     }
-    Ok(line_of(alloc, check(alloc, values.program, &values.schema))?)
+    let texts: Vec<Box<dyn TextLens>> = Vec::new(alloc);
+    let answer = check(alloc, values.program, &values.schema, &texts);
+    Ok(line_of(alloc, answer)?)
 }
 
 fn main(rt: HostRuntime) -> ExitCode {
