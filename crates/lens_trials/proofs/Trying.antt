@@ -1,8 +1,9 @@
 -- What a lens that fits may be run on, and what comes of it.
-use Rattle.std.proofs.Common.{◌≡◌, Bool, true, false, Option, Some, IfSome, sym, subst, ◌∙◌}
+use Rattle.std.proofs.Common.{◌≡◌, Bool, true, false, List, Option, Some, IfSome, sym, subst, ◌∙◌}
 use Rattle.std.proofs.lemmas.Bool.{true≢false}
 use Rattle.hm_tree.specs.Nodes.{Tree}
 use Rattle.hm_schema.specs.Values.{SchemaValue}
+use Rattle.hm_text_lens.specs.Meanings.{TextMeaning}
 use Rattle.hm_terms.specs.Lenses.{Lens, Setting}
 use Rattle.hm_terms.specs.Shown.{Shows}
 use Rattle.hm_terms.specs.Put.{Puts}
@@ -34,10 +35,10 @@ module _ {S : Setting} {l : Lens} {C A : Tree → Type 0} (f : Fits S l C A) whe
   pub same_view : (v w c : Tree) (b : Option Tree) → A v → IfSome b C → Puts S l v b c → Shows S l c w → w ≡ v
   same_view v w c b a h p s = let one = f.shows c (in_source v c b a h p) in one.only w s ∙ sym (one.only v (f.put_get v b c a h p))
 
-pub fits_trees : {p : ProgramValue} {s : SchemaValue} (t : Typed) → IsAccepted p s t → FitsTrees t
-fits_trees {p} {s} t a =
-    subst (λ (p : ProgramValue). Fits (setting_of p) p.main (Trees t.source) (Trees t.view)) (sym a.program)
-    (subst (λ (s : SchemaValue). Fits (setting_of p) p.main (Trees s) (Trees t.view)) (sym a.source) a.fits)
+pub fits_trees : {texts : List TextMeaning} {p : ProgramValue} {s : SchemaValue} (t : Typed) → IsAccepted texts p s t → FitsTrees texts t
+fits_trees {texts} {p} {s} t a =
+    subst (λ (p : ProgramValue). Fits (setting_of texts p) p.main (Trees t.source) (Trees t.view)) (sym a.program)
+    (subst (λ (s : SchemaValue). Fits (setting_of texts p) p.main (Trees s) (Trees t.view)) (sym a.source) a.fits)
 
 -- a test that holds isn't refused
 pub holds : {X : Type 0} {b : Bool} → b ≡ true → b ≡ false → X

@@ -16,6 +16,10 @@ pub fn fault_line(alloc: Global, fault: TypeFault) -> Result<String, Memory> {
             term,
             rule,
         } => Ok(format!(in alloc; "Mistyped {definition} {term} {rule}\n")?),
+        TypeFault::UnknownLens { name } => {
+            let text = name.text();
+            Ok(format!(in alloc; "UnknownLens {text}\n")?)
+        }
         TypeFault::Unguarded { name } => {
             let text = name.text();
             Ok(format!(in alloc; "Unguarded {text}\n")?)

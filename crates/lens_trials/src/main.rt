@@ -2,7 +2,7 @@
 //! wrong with it, and in a second one on how many of the trees it was run and whether it kept the laws.
 #![tactic(auto)]
 
-ghost use Rattle.std.specs.Prelude.{◌≤◌, length};
+ghost use Rattle.std.specs.Prelude.{◌≤◌, length, map};
 ghost use Rattle.hm_schema.specs.Membership.{HasNoTwins};
 ghost use Rattle.hm_terms.specs.Programs.{program_value};
 ghost use Rattle.hm_terms.specs.WellFormedPrograms.{IsWellFormed};
@@ -20,6 +20,7 @@ use hm_outside::{FileStore, Put, Sink, StdSink, Store};
 use hm_schema::Schema;
 use hm_schema_text::{SchemaFault, read_schema};
 use hm_terms::Program;
+use hm_text_lens::TextLens;
 use hm_tree::{Memory, Name};
 use hm_types::{Typed, check};
 use std::alloc::Global;
@@ -42,28 +43,31 @@ fn words_of(alloc: Global, rt: &HostRuntime) -> Result<Vec<Name>, Memory> {
 fn try_laws<S: Store>(
     alloc: Global,
     store: &mut S,
+    texts: &[Box<dyn TextLens>],
     typed: &Typed,
     words: &[Name],
 ) -> Result<String, Memory>
-    requires { FitsTrees typed.now }
+    requires { FitsTrees (map (λ b. meaning b) texts.now) typed.now }
 {
     let trees = members(alloc, store, &typed.source, words)?;
-    let lawful = are_lawful(typed, &trees)?;
+    let lawful = are_lawful(texts, typed, &trees)?;
     Ok(laws_line(alloc, trees.len(), lawful)?)
 }
 
+// What is said of a program over these text lenses.
 fn try_program<S: Store>(
     alloc: Global,
     store: &mut S,
     program: Program,
     source: &Schema,
+    texts: &[Box<dyn TextLens>],
     words: &[Name],
 ) -> Result<String, Memory>
     requires program { IsWellFormed (program_value program) }
     requires source { HasNoTwins source.now }
 {
-    match check(alloc, program, source) {
-        Ok(typed) => Ok(try_laws(alloc, store, &typed, words)?),
+    match check(alloc, program, source, texts) {
+        Ok(typed) => Ok(try_laws(alloc, store, texts, &typed, words)?),
         Err(fault) => Ok(fault_line(alloc, fault)?),
     }
 }
@@ -79,8 +83,9 @@ fn try_files<S: Store>(alloc: Global, store: &mut S, words: &[Name]) -> Result<S
         Err(SchemaFault::Memory) => return Err(Memory),
     };
     let bytes = load(store, &words[1])?;
+    let texts: Vec<Box<dyn TextLens>> = Vec::new(alloc);
     match read_lens(alloc, &bytes) {
-        Ok(program) => Ok(try_program(alloc, store, program, &source, &words[2..])?),
+        Ok(program) => Ok(try_program(alloc, store, program, &source, &texts, &words[2..])?),
         Err(LensFault::BadLens { line }) => Ok(line_of(alloc, "BadLens", line)?),
         Err(LensFault::Memory) => Err(Memory),
     }

@@ -1,5 +1,5 @@
 //! The laws, tried on trees.
-ghost use Rattle.std.specs.Prelude.{◌≡◌, IfOk, All, true};
+ghost use Rattle.std.specs.Prelude.{◌≡◌, IfOk, All, true, map};
 ghost use Rattle.hm_types.specs.Checks.{Trees};
 ghost use Rattle.lens_trials.specs.Trials.{FitsTrees};
 
@@ -9,13 +9,17 @@ use hm_tree::{Memory, Tree};
 use hm_types::Typed;
 
 /// Whether the lens keeps the laws on trees of its source, with each of them before each other one.
-pub fn are_lawful(typed: &Typed, trees: &[Tree]) -> Result<bool, Memory>
-    requires fits { FitsTrees typed.now }
+pub fn are_lawful(
+    texts: &[Box<dyn TextLens>],
+    typed: &Typed,
+    trees: &[Tree],
+) -> Result<bool, Memory>
+    requires fits { FitsTrees (map (λ b. meaning b) texts.now) typed.now }
     requires members { All (Trees typed.now.source) trees.now }
     ensures { IfOk result (λ lawful. lawful ≡ true) }
 {
     for tree in trees {
-        if !is_lawful(typed, tree, trees)? {
+        if !is_lawful(texts, typed, tree, trees)? {
             return Ok(false);
         }
     }
@@ -23,60 +27,68 @@ pub fn are_lawful(typed: &Typed, trees: &[Tree]) -> Result<bool, Memory>
 }
 
 // Whether it does with one tree.
-fn is_lawful(typed: &Typed, tree: &Tree, trees: &[Tree]) -> Result<bool, Memory>
-    requires fits { FitsTrees typed.now }
+fn is_lawful(
+    texts: &[Box<dyn TextLens>],
+    typed: &Typed,
+    tree: &Tree,
+    trees: &[Tree],
+) -> Result<bool, Memory>
+    requires fits { FitsTrees (map (λ b. meaning b) texts.now) typed.now }
     requires tree { Trees typed.now.source tree.now }
     requires members { All (Trees typed.now.source) trees.now }
     ensures { IfOk result (λ lawful. lawful ≡ true) }
 {
-    if !comes_back(typed, tree)? {
+    if !comes_back(texts, typed, tree)? {
         return Ok(false);
     }
-    if !shows_anew(typed, tree)? {
+    if !shows_anew(texts, typed, tree)? {
         return Ok(false);
     }
-    Ok(all_show_again(typed, tree, trees)?)
+    Ok(all_show_again(texts, typed, tree, trees)?)
 }
 
 // What is shown of a tree is a member of the view, and put back it is the tree.
-fn comes_back(typed: &Typed, tree: &Tree) -> Result<bool, Memory>
-    requires fits { FitsTrees typed.now }
+fn comes_back(texts: &[Box<dyn TextLens>], typed: &Typed, tree: &Tree) -> Result<bool, Memory>
+    requires fits { FitsTrees (map (λ b. meaning b) texts.now) typed.now }
     requires tree { Trees typed.now.source tree.now }
     ensures { IfOk result (λ same. same ≡ true) }
 {
-    let texts: Vec<Box<dyn TextLens>> = Vec::new(tree.allocator());
-    let shown = get(&typed.program, &texts, tree)?;
+    let shown = get(&typed.program, texts, tree)?;
     if !typed.view.member(&shown) {
         return Ok(false);
     }
-    let back = put(&typed.program, &texts, &shown, Some(tree))?;
+    let back = put(&typed.program, texts, &shown, Some(tree))?;
     Ok(back.same(tree))
 }
 
 // What is shown of a tree, put with no tree from before, is a member of the source and shows the same.
-fn shows_anew(typed: &Typed, tree: &Tree) -> Result<bool, Memory>
-    requires fits { FitsTrees typed.now }
+fn shows_anew(texts: &[Box<dyn TextLens>], typed: &Typed, tree: &Tree) -> Result<bool, Memory>
+    requires fits { FitsTrees (map (λ b. meaning b) texts.now) typed.now }
     requires tree { Trees typed.now.source tree.now }
     ensures { IfOk result (λ same. same ≡ true) }
 {
-    let texts: Vec<Box<dyn TextLens>> = Vec::new(tree.allocator());
-    let shown = get(&typed.program, &texts, tree)?;
-    let new = put(&typed.program, &texts, &shown, None)?;
+    let shown = get(&typed.program, texts, tree)?;
+    let new = put(&typed.program, texts, &shown, None)?;
     if !typed.source.member(&new) {
         return Ok(false);
     }
-    let again = get(&typed.program, &texts, &new)?;
+    let again = get(&typed.program, texts, &new)?;
     Ok(again.same(&shown))
 }
 
-fn all_show_again(typed: &Typed, before: &Tree, trees: &[Tree]) -> Result<bool, Memory>
-    requires fits { FitsTrees typed.now }
+fn all_show_again(
+    texts: &[Box<dyn TextLens>],
+    typed: &Typed,
+    before: &Tree,
+    trees: &[Tree],
+) -> Result<bool, Memory>
+    requires fits { FitsTrees (map (λ b. meaning b) texts.now) typed.now }
     requires before { Trees typed.now.source before.now }
     requires members { All (Trees typed.now.source) trees.now }
     ensures { IfOk result (λ same. same ≡ true) }
 {
     for tree in trees {
-        if !shows_again(typed, before, tree)? {
+        if !shows_again(texts, typed, before, tree)? {
             return Ok(false);
         }
     }
@@ -84,18 +96,22 @@ fn all_show_again(typed: &Typed, before: &Tree, trees: &[Tree]) -> Result<bool, 
 }
 
 // What is shown of a tree, put with another one from before, is a member of the source and shows the same.
-fn shows_again(typed: &Typed, before: &Tree, tree: &Tree) -> Result<bool, Memory>
-    requires fits { FitsTrees typed.now }
+fn shows_again(
+    texts: &[Box<dyn TextLens>],
+    typed: &Typed,
+    before: &Tree,
+    tree: &Tree,
+) -> Result<bool, Memory>
+    requires fits { FitsTrees (map (λ b. meaning b) texts.now) typed.now }
     requires before { Trees typed.now.source before.now }
     requires tree { Trees typed.now.source tree.now }
     ensures { IfOk result (λ same. same ≡ true) }
 {
-    let texts: Vec<Box<dyn TextLens>> = Vec::new(tree.allocator());
-    let shown = get(&typed.program, &texts, tree)?;
-    let new = put(&typed.program, &texts, &shown, Some(before))?;
+    let shown = get(&typed.program, texts, tree)?;
+    let new = put(&typed.program, texts, &shown, Some(before))?;
     if !typed.source.member(&new) {
         return Ok(false);
     }
-    let again = get(&typed.program, &texts, &new)?;
+    let again = get(&typed.program, texts, &new)?;
     Ok(again.same(&shown))
 }
