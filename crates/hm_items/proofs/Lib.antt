@@ -1,0 +1,5 @@
+pub mod ReadBack
+pub mod Plans
+pub mod Contents
+pub mod Fitting
+pub mod Numbers

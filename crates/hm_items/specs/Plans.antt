@@ -1,0 +1,40 @@
+-- Items as numbers: an old item by where it stands in its file, a new one by its place under its key.
+use Rattle.std.specs.Prelude.{◌≡◌, ℕ, ◌+◌, ◌<◌, List, [], ◌∷◌, ◌++◌, length, get_or, slice_get, Option, drop}
+use Rattle.std.specs.List.{range_with_len}
+use Rattle.hm_tree.specs.Names.{Name, name_cmp}
+use Rattle.hm_items.specs.Items.{of_key, below_key, survivor, fresh}
+use Rattle.hm_items.specs.declared.planned.Slot.{Slot}
+
+-- keys with where they stand
+abbrev pub numbered : ℕ → List Name → List (Name × ℕ)
+numbered i [] = []
+numbered i (k ∷ ks) = (k, i) ∷ numbered (i + 1) ks
+
+-- the places under each key
+abbrev pub places : List (Name × ℕ) → List (Name × List ℕ)
+places [] = []
+places (e ∷ es) = (e.0, range_with_len 0 e.1) ∷ places es
+
+-- what a slot says
+abbrev pub slots_of : List (Name × ℕ) → List Slot → List (Name × Option ℕ × ℕ)
+slots_of wanted [] = []
+slots_of wanted (s ∷ ss) = ((get_or wanted s.edge ([], 0)).0, s.from, s.place) ∷ slots_of wanted ss
+
+-- how many of these keys each edge's is
+pub record AreCounts (wanted : List (Name × ℕ)) (keys : List Name) (counts : List ℕ) : Type 0 where
+  pub same : length counts ≡ length wanted
+  pub each : (i : ℕ) → i < length wanted → get_or counts i 0 ≡ length (of_key name_cmp (get_or wanted i ([], 0)).0 (numbered 0 keys))
+
+-- the places of each edge past a count
+abbrev pub past : List (Name × ℕ) → List ℕ → List (Name × Option ℕ × ℕ)
+past [] counts = []
+past (e ∷ es) [] = []
+past (e ∷ es) (c ∷ cs) = fresh name_cmp e.0 (drop c (range_with_len 0 e.1)) ++ past es cs
+
+-- the slot of an item behind items with these keys, if it survives
+abbrev pub next_survivor : List (Name × ℕ) → List Name → Name → ℕ → List (Name × Option ℕ × ℕ)
+next_survivor wanted keys k item = survivor name_cmp (k, item) (slice_get (below_key name_cmp k (places wanted)) (length (of_key name_cmp k (numbered 0 keys))))
+
+-- the places of one edge past a count
+abbrev pub past_at : List (Name × ℕ) → ℕ → ℕ → List (Name × Option ℕ × ℕ)
+past_at wanted i count = let e = get_or wanted i ([], 0) in fresh name_cmp e.0 (drop count (range_with_len 0 e.1))

@@ -1,0 +1,117 @@
+//! Which items of an old file survive where a new tree is written over it, and which are new.
+ghost use Rattle.std.specs.Prelude.{◌≡◌, ◌++◌, ◌∷◌, List, ◌<◌, T, IfOk, OnOk, [], length};
+ghost use Rattle.std.specs.FinMap.{is_sorted};
+ghost use Rattle.hm_tree.specs.Names.{Name as NameValue, name_cmp};
+ghost use Rattle.hm_items.specs.Items.{IsRewritten, kept};
+ghost use Rattle.hm_items.specs.Plans.{numbered, places, slots_of, AreCounts, past, past_at, next_survivor};
+
+use hm_tree::{Memory, Name, place_of};
+use std::alloc::Global;
+
+/// An item of the new file.
+#[derive(Clone, Copy, Debug, PartialEq, Eq)]
+pub struct Slot {
+    /// Its key, by where this stands among the keys of the new tree.
+    pub edge: usize,
+    /// The old item that survives as this one, by where it stood in its file; none where the item is new.
+    pub from: Option<usize>,
+    /// Where it stands in the list of its key.
+    pub place: usize,
+}
+
+/// The items of the new file, in its order: of the keys of the old items, in file order, and of the keys of the new tree in
+/// ascending order, each with how many items it is to have. One search for each old item, and no more steps than there are items.
+pub fn plan(alloc: Global, keys: &[Name], wanted: &[(Name, usize)]) -> Result<Vec<Slot>, Memory>
+    requires { T (is_sorted name_cmp wanted.now) }
+    ensures { IfOk result (λ slots. IsRewritten name_cmp (numbered 0 keys.now) (places wanted.now) (slots_of wanted.now slots.items)) }
+{
+    let mut counts = vec![in alloc; 0; wanted.len()]?;
+    let mut slots = Vec::new(alloc);
+    survivors(keys, wanted, &mut counts, &mut slots)?;
+    newcomers(wanted, &counts, &mut slots)?;
+    Ok(slots)
+}
+
+// The old items that survive; how many old items have each key is counted.
+fn survivors(
+    keys: &[Name],
+    wanted: &[(Name, usize)],
+    counts: &mut Vec<usize>,
+    slots: &mut Vec<Slot>,
+) -> Result<(), Memory>
+    requires sorted { T (is_sorted name_cmp wanted.now) }
+    requires counts { AreCounts wanted.now [] counts.old.items }
+    requires slots { slots.old.items ≡ [] }
+    ensures counts { OnOk result (AreCounts wanted.now keys.now counts.new.items) }
+    ensures slots { OnOk result (slots_of wanted.now slots.new.items ≡ kept name_cmp (places wanted.now) [] (numbered 0 keys.now)) }
+{
+    for item in 0..keys.len() {
+        visit(wanted, &keys[item], item, counts, slots)?;
+    }
+    Ok(())
+}
+
+// The next old item: it survives where the tree has something at its place.
+fn visit(
+    wanted: &[(Name, usize)],
+    key: &Name,
+    item: usize,
+    counts: &mut Vec<usize>,
+    slots: &mut Vec<Slot>,
+) -> Result<(), Memory>
+    requires sorted { T (is_sorted name_cmp wanted.now) }
+    requires counts { length counts.old.items ≡ length wanted.now }
+    ensures counts { OnOk result ((keys : List NameValue) → AreCounts wanted.now keys counts.old.items → AreCounts wanted.now (keys ++ key.now ∷ []) counts.new.items) }
+    ensures slots { OnOk result ((keys : List NameValue) → AreCounts wanted.now keys counts.old.items → slots_of wanted.now slots.new.items ≡ slots_of wanted.now slots.old.items ++ next_survivor wanted.now keys key.now item) }
+{
+    if let Ok(edge) = place_of(wanted, key) {
+        let place = counts[edge];
+        let Some(after) = place.checked_add(1) else {
+            return Err(Memory);
+        };
+        counts[edge] = after;
+        if place < wanted[edge].1 {
+            slots.push(Slot {
+                edge,
+                from: Some(item),
+                place,
+            })?;
+        }
+    }
+    Ok(())
+}
+
+// The new items, which stand at places past the old ones.
+fn newcomers(
+    wanted: &[(Name, usize)],
+    counts: &[usize],
+    slots: &mut Vec<Slot>,
+) -> Result<(), Memory>
+    requires { length counts.now ≡ length wanted.now }
+    ensures { OnOk result (slots_of wanted.now slots.new.items ≡ slots_of wanted.now slots.old.items ++ past wanted.now counts.now) }
+{
+    for edge in 0..wanted.len() {
+        append_past(wanted, edge, counts[edge], slots)?;
+    }
+    Ok(())
+}
+
+// The new items of an edge.
+fn append_past(
+    wanted: &[(Name, usize)],
+    edge: usize,
+    count: usize,
+    slots: &mut Vec<Slot>,
+) -> Result<(), Memory>
+    requires { edge < length wanted.now }
+    ensures { OnOk result (slots_of wanted.now slots.new.items ≡ slots_of wanted.now slots.old.items ++ past_at wanted.now edge count) }
+{
+    for place in count..wanted[edge].1 {
+        slots.push(Slot {
+            edge,
+            from: None,
+            place,
+        })?;
+    }
+    Ok(())
+}
