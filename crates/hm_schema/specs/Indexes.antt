@@ -1,5 +1,6 @@
--- What an index of the shapes of a node says: each listed name has a bit for each shape that has the name.
-use Rattle.std.specs.Prelude.{◌≡◌, ℕ, ◌+◌, ◌*◌, ◌<◌, ◌≤◌, IsTrue, List, Option, Some, length, get_or, slice_get}
+-- What an index of the shapes of a node says: each listed name has a bit for each shape that has the name, and each shape
+-- has a key, a name that it requires, or is among those without one.
+use Rattle.std.specs.Prelude.{◌≡◌, ◌⊎◌, ℕ, ◌+◌, ◌*◌, ◌<◌, ◌≤◌, IsTrue, List, Option, Some, length, get_or, slice_get}
 use Rattle.std.specs.Int.{bit_at}
 use Rattle.std.specs.FinSet.{contains}
 use Rattle.hm_tree.specs.Names.{Name}
@@ -23,15 +24,37 @@ abbrev pub AreMarked : NodeValue → ℕ → ℕ → List ℕ → Type 0
 AreMarked n first count words = (b : ℕ) (s : Shape) (k : Name) (p : ℕ) → b < count → slice_get n.shapes (first + b) ≡ Some s → IsTrue (has_name s k)
     → IsPlaceOf k n.children p → bit_of words p b ≡ 1
 
--- each listed name has a word, with the bits of 64 shapes from a place on
-pub record IsBlockOf (words : List ℕ) (first : ℕ) (n : NodeValue) : Type 0 where
-  pub one_each : length words ≡ length n.children
-  pub marked : AreMarked n first 64 words
+-- one of some names has the bit of a shape whose key it is
+pub record IsKey (children : List (Name × NodeId)) (keys : List ℕ) (b : ℕ) (names : Names) : Type 0 where
+  pub name : Name
+  pub among : IsTrue (contains names name)
+  pub place : ℕ
+  pub there : IsPlaceOf name children place
+  pub marked : bit_of keys place b ≡ 1
+
+-- a shape has no key, or its key is one of some names
+abbrev pub IsKeyAmong : List (Name × NodeId) → Block → ℕ → Names → Type 0
+IsKeyAmong children block b names = (bit_at block.free b ≡ 1) ⊎ IsKey children block.keys.items b names
+
+-- of so many shapes from a place on each has no key, or requires it
+abbrev pub AreKeyed : NodeValue → ℕ → ℕ → Block → Type 0
+AreKeyed n first count block = (b : ℕ) (s : Shape) → b < count → slice_get n.shapes (first + b) ≡ Some s → IsKeyAmong n.children block b s.required
+
+-- each listed name has its two words
+pub record HasWords (block : Block) (children : List (Name × NodeId)) : Type 0 where
+  pub words : length block.words.items ≡ length children
+  pub keys : length block.keys.items ≡ length children
+
+-- each listed name has its words, with the bits of 64 shapes from a place on
+pub record IsBlockOf (block : Block) (first : ℕ) (n : NodeValue) : Type 0 where
+  pub one_each : HasWords block n.children
+  pub marked : AreMarked n first 64 block.words.items
+  pub keyed : AreKeyed n first 64 block
 
 -- there is a block for each 64 shapes
 pub record IsIndexOf (x : ShapeIndex) (n : NodeValue) : Type 0 where
   pub all : length n.shapes ≤ length x.blocks.items * 64
-  pub each : (w : ℕ) (block : Block) → slice_get x.blocks.items w ≡ Some block → IsBlockOf block.words.items (w * 64) n
+  pub each : (w : ℕ) (block : Block) → slice_get x.blocks.items w ≡ Some block → IsBlockOf block (w * 64) n
 
 -- each node whose index is there has the right one
 abbrev pub AreIndexes : List Node → List (Option ShapeIndex) → Type 0
@@ -56,6 +79,11 @@ HasMark children words b k = (p : ℕ) → IsPlaceOf k children p → bit_of wor
 -- all names of a set have a bit, wherever they are listed
 abbrev pub HaveMarks : List (Name × NodeId) → List ℕ → ℕ → Names → Type 0
 HaveMarks children words b names = (k : Name) → IsTrue (contains names k) → HasMark children words b k
+
+-- a shape may fit names: all that are listed have its bit, and its key is among them
+pub record IsLeft (children : List (Name × NodeId)) (block : Block) (b : ℕ) (names : Names) : Type 0 where
+  pub marks : HaveMarks children block.words.items b names
+  pub key : IsKeyAmong children block b names
 
 -- there are as many words, and no bit is lost
 pub record IsKeeping (old new : List ℕ) : Type 0 where
