@@ -28,7 +28,7 @@ mod tests;
 mod tidying;
 mod twins;
 
-pub use copies::{append_copies, copy_names, copy_pairs, copy_shapes};
+pub use copies::{append_copies, copy_names, copy_nodes, copy_pairs, copy_shapes};
 pub use label::{Label, label_numbers, label_of};
 pub use listing::Listing;
 pub use named::Named;
