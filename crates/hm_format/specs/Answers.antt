@@ -1,0 +1,41 @@
+-- What the calls of a format answer, unless there was no memory.
+use Rattle.std.specs.Prelude.{◌≡◌, ℕ, List, Option, Some, None, Result, Ok, Err, Vec}
+use Rattle.std.specs.declared.alloc.Global.{Global}
+use Rattle.hm_tree.specs.Names.{Name}
+use Rattle.hm_tree.specs.Nodes.{Tree}
+use Rattle.hm_schema.specs.Values.{SchemaValue}
+use Rattle.hm_format.specs.declared.fault.FormatFault.{FormatFault}
+use Rattle.hm_format.specs.declared.fault.FormatFault.TheVariants.{BadOption, NotUtf8, BadItem, NoKey, TooDeep, Outside, Memory}
+
+-- the schema that is wanted, or the bad key
+abbrev pub GivesSchema : Result SchemaValue Name → Result SchemaValue FormatFault → Type 0
+GivesSchema wanted (Ok schema) = wanted ≡ Ok schema
+GivesSchema wanted (Err (BadOption key)) = wanted ≡ Err key
+GivesSchema wanted (Err Memory) = Unit {0}
+GivesSchema wanted (Err (NotUtf8 at)) = ⊥
+GivesSchema wanted (Err (BadItem number)) = ⊥
+GivesSchema wanted (Err (NoKey number)) = ⊥
+GivesSchema wanted (Err (TooDeep depth)) = ⊥
+GivesSchema wanted (Err (Outside path)) = ⊥
+
+-- what the bytes are read as
+abbrev pub Reads : (Result Tree FormatFault → Type 0) → Result Tree FormatFault → Type 0
+Reads reads (Ok tree) = reads (Ok tree)
+Reads reads (Err (BadOption key)) = reads (Err (BadOption key))
+Reads reads (Err (NotUtf8 at)) = reads (Err (NotUtf8 at))
+Reads reads (Err (BadItem number)) = reads (Err (BadItem number))
+Reads reads (Err (NoKey number)) = reads (Err (NoKey number))
+Reads reads (Err (TooDeep depth)) = reads (Err (TooDeep depth))
+Reads reads (Err (Outside path)) = reads (Err (Outside path))
+Reads reads (Err Memory) = Unit {0}
+
+-- the bytes that are wanted, or the depth that is over the limit
+abbrev pub Writes : Option ℕ → List ℕ → Result (Vec ℕ Global) FormatFault → Type 0
+Writes over wanted (Ok bytes) = (over ≡ None) × (bytes.items ≡ wanted)
+Writes over wanted (Err (TooDeep depth)) = over ≡ Some depth
+Writes over wanted (Err Memory) = Unit {0}
+Writes over wanted (Err (BadOption key)) = ⊥
+Writes over wanted (Err (NotUtf8 at)) = ⊥
+Writes over wanted (Err (BadItem number)) = ⊥
+Writes over wanted (Err (NoKey number)) = ⊥
+Writes over wanted (Err (Outside path)) = ⊥

@@ -1,0 +1,4 @@
+pub mod Options
+pub mod Formats
+pub mod Answers
+pub mod Plain
