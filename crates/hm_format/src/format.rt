@@ -13,22 +13,22 @@ use std::alloc::Global;
 /// How files of a kind are read as trees and written anew.
 pub trait Format: Drop {
     /// What it means.
-    ghost meaning: { Self → FormatMeaning };
+    ghost means: { Self → FormatMeaning };
 
     /// The number of the format.
     fn tag(&self) -> u8
-        ensures tag { result ≡ (meaning self.now).tag }
-        ensures lawful { IsLawful (meaning self.now) };
+        ensures tag { result ≡ (means self.now).tag }
+        ensures lawful { IsLawful (means self.now) };
 
     /// The schema of its trees under options, or the first key that is bad.
     fn schema(&self, alloc: Global, options: &Options) -> Result<Schema, FormatFault>
         requires { AreSound (options_value options.now) }
-        ensures { GivesSchema ((meaning self.now).schema_of (options_value options.now)) result };
+        ensures { GivesSchema ((means self.now).schema_of (options_value options.now)) result };
 
     /// The tree of a file, or why it has none.
     fn read(&self, alloc: Global, options: &Options, bytes: &[u8]) -> Result<Tree, FormatFault>
-        requires { MayRead (meaning self.now) (options_value options.now) }
-        ensures { Reads ((meaning self.now).reads (options_value options.now) bytes.now) result };
+        requires { MayRead (means self.now) (options_value options.now) }
+        ensures { Reads ((means self.now).reads (options_value options.now) bytes.now) result };
 
     /// The file of a tree, behind the file from before; `TooDeep` where the tree is over the limit.
     fn write(
@@ -38,6 +38,6 @@ pub trait Format: Drop {
         tree: &Tree,
         before: &[u8],
     ) -> Result<Vec<u8>, FormatFault>
-        requires { MayWrite (meaning self.now) (options_value options.now) tree.now before.now }
-        ensures { Writes ((meaning self.now).over tree.now) ((meaning self.now).written_of (options_value options.now) tree.now before.now) result };
+        requires { MayWrite (means self.now) (options_value options.now) tree.now before.now }
+        ensures { Writes ((means self.now).over tree.now) ((means self.now).written_of (options_value options.now) tree.now before.now) result };
 }

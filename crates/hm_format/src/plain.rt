@@ -33,7 +33,7 @@ pub struct Plain;
 impl Format for Plain {
     ghost use Rattle.hm_format.specs.Plain.{plain};
 
-    ghost meaning = { λ p. plain };
+    ghost means = { λ p. plain };
 
     fn tag(&self) -> u8 {
         6
