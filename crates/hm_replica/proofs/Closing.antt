@@ -1,0 +1,96 @@
+-- A replica that is opened and closed, by the laws of its format and of its lens.
+use Rattle.std.proofs.Common.{◌≡◌, ℕ, List, Some, None, Result, Ok, Err, sym, ap, subst, ◌∙◌}
+use Rattle.std.specs.Prelude.{Vec}
+use Rattle.std.specs.declared.alloc.Global.{Global}
+use Rattle.hm_tree.specs.Nodes.{Tree}
+use Rattle.hm_text_lens.specs.Meanings.{TextMeaning}
+use Rattle.hm_terms.specs.Shown.{Shows}
+use Rattle.hm_eval.specs.Conditions as may
+use Rattle.hm_types.specs.Checks.{Trees}
+use Rattle.hm_format.specs.declared.fault.FormatFault.{FormatFault}
+use Rattle.hm_format.specs.declared.fault.FormatFault.TheVariants.{BadOption, NotUtf8, BadItem, NoKey, TooDeep, Outside, Memory}
+use Rattle.hm_format.specs.Formats.{FormatMeaning, IsLawful, MayRead, MayWrite}
+use Rattle.hm_format.specs.Answers.{Writes}
+use Rattle.hm_replica.specs.Replicas.{ReplicaValue, TypedValue, options_in, main_in, setting_in, IsTyped, IsReplica, IsPut, IsClosed, Closes}
+
+module _ (m : FormatMeaning) (texts : List TextMeaning) (t : TypedValue) (laws : IsLawful m) (typed : IsTyped m texts t) where
+  abbrev pub may_read : MayRead m (options_in t)
+  may_read = record { sound = typed.sound; schema = t.source; has = typed.schema }
+
+  -- what is read may be shown, and is shown as a member of the view
+  pub member : (bytes : List ℕ) (c : Tree) → m.reads (options_in t) bytes (Ok c) → Trees t.source c
+  member bytes c read = laws.members (options_in t) t.source bytes c typed.schema read
+
+  pub may_show : (bytes : List ℕ) (c : Tree) → m.reads (options_in t) bytes (Ok c) → may.IsShown (setting_in texts t) (main_in t) c
+  may_show bytes c read = let one = typed.fits.shows c (member bytes c read) in record { tree = one.tree; is = one.is }
+
+  pub shown_member : (bytes : List ℕ) (c v : Tree) → m.reads (options_in t) bytes (Ok c) → Shows (setting_in texts t) (main_in t) c v → Trees t.view v
+  shown_member bytes c v read shown =
+      let one = typed.fits.shows c (member bytes c read) in
+      subst (Trees t.view) (sym (one.only v shown)) one.inside
+
+  module _ (r : ReplicaValue) (replica : IsReplica m texts t r) (shown : Tree) (there : Trees t.view shown) where
+    old : Trees t.source r.concrete
+    old = member r.bytes r.concrete replica.read
+
+    pub may_put : may.IsPut (setting_in texts t) (main_in t) shown (Some r.concrete)
+    may_put = let one = typed.fits.puts shown (Some r.concrete) there old in record { tree = one.tree; is = one.is }
+
+    new : (tree : Tree) → IsPut texts t r shown tree → Trees t.source tree
+    new tree put =
+        let one = typed.fits.puts shown (Some r.concrete) there old in
+        subst (Trees t.source) (sym (one.only tree put)) one.inside
+
+    pub may_write : (tree : Tree) (before : List ℕ) → before ≡ r.bytes → IsPut texts t r shown tree → MayWrite m (options_in t) tree before
+    may_write tree before is put = record {
+      options = may_read;
+      member = new tree put;
+      old = r.concrete;
+      read = subst (λ b. m.reads (options_in t) b (Ok r.concrete)) (sym is) replica.read;
+    }
+
+    -- an unchanged view is put back as the tree from before
+    back : (tree : Tree) → IsPut texts t r shown tree → shown ≡ r.view → tree ≡ r.concrete
+    back tree put same =
+        let one = typed.fits.puts shown (Some r.concrete) there old in
+        let again : IsPut texts t r shown r.concrete =
+        subst (λ v. IsPut texts t r v r.concrete) (sym same) (typed.fits.get_put r.concrete r.view old replica.shown) in
+        one.only tree put ∙ sym (one.only r.concrete again)
+
+    closed : (tree : Tree) (bytes : List ℕ) → IsPut texts t r shown tree → m.over tree ≡ None → bytes ≡ m.written_of (options_in t) tree r.bytes
+        → IsClosed m texts t r shown bytes
+    closed tree bytes put within is = record {
+      tree = tree;
+      put = put;
+      within = within;
+      written = is;
+      replica = record {
+        read = subst (λ b. m.reads (options_in t) b (Ok tree)) (sym is)
+            (laws.put_get (options_in t) t.source r.bytes r.concrete tree typed.schema replica.read (new tree put) within);
+        shown = typed.fits.put_get shown (Some r.concrete) tree there old put;
+      };
+      lens_keeps = typed.fits.keeps shown r.concrete tree there old put;
+      format_keeps = subst (m.keeps (options_in t) r.bytes) (sym is)
+          (laws.kept (options_in t) t.source r.bytes r.concrete tree typed.schema replica.read (new tree put) within);
+      unchanged = λ same.
+          is ∙ ap (λ (tree : Tree). m.written_of (options_in t) tree r.bytes) (back tree put same)
+          ∙ laws.get_put (options_in t) r.bytes r.concrete replica.read;
+    }
+
+    pub closes : (tree : Tree) (before : List ℕ) (result : Result (Vec ℕ Global) FormatFault) → before ≡ r.bytes → IsPut texts t r shown tree
+        → Writes (m.over tree) (m.written_of (options_in t) tree before) result → Closes m texts t r shown result
+    closes tree before (Ok bytes) is put h = closed tree bytes.items put h.0 (h.1 ∙ ap (m.written_of (options_in t) tree) is)
+    closes tree before (Err (TooDeep depth)) is put h = record { tree = tree; put = put; over = h }
+    closes tree before (Err Memory) is put h = tt
+    closes tree before (Err (BadOption key)) is put h = h
+    closes tree before (Err (NotUtf8 at)) is put h = h
+    closes tree before (Err (BadItem number)) is put h = h
+    closes tree before (Err (NoKey number)) is put h = h
+    closes tree before (Err (Outside path)) is put h = h
+
+    -- where the view is that of the replica, its own bytes are those that are written
+    pub stays : shown ≡ r.view → IsClosed m texts t r shown r.bytes
+    stays same =
+        closed r.concrete r.bytes (subst (λ v. IsPut texts t r v r.concrete) (sym same) (typed.fits.get_put r.concrete r.view old replica.shown))
+        (laws.within (options_in t) t.source r.bytes r.concrete typed.schema replica.read)
+        (sym (laws.get_put (options_in t) r.bytes r.concrete replica.read))

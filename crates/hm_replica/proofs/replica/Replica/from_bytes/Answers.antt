@@ -1,0 +1,10 @@
+use Rattle.std.proofs.Common.{map}
+use Rattle.hm_replica.specs.Replicas.{typed_value}
+use Rattle.hm_replica.proofs.Closing.{may_show}
+use Rattle.hm_replica.proofs.replica.Replica.from_bytes.Goals as goal
+
+pub get-requires : goal.get-requires
+get-requires g c =
+    may_show ((goal.Format-dyn g (c.args.format.now.vtable, c.args.format.now.value)).means c.args.format.now.value)
+    (map (λ b. (goal.TextLens-dyn g (b.vtable, b.value)).meaning b.value) c.args.texts.now) (typed_value c.args.typed.now) c.laws.ensures c.requires
+    c.deref.result.now c.in_ok-concrete.concrete c.in_ok-concrete.ensures
