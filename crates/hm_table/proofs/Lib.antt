@@ -31,3 +31,4 @@ mod TreeNode
 mod MemberNode
 pub mod Shifted
 mod ValueNode
+mod EqualNodes

@@ -9,6 +9,7 @@
 mod branching;
 mod copying;
 mod edges;
+mod equality;
 mod exact;
 mod graph;
 mod hiding;
@@ -37,6 +38,7 @@ mod vertex;
 
 pub use branching::branched;
 pub use copying::copied;
+pub use equality::{equal, equal_ends, equal_others};
 pub use exact::exactly;
 pub use hiding::hidden;
 pub use hoisting::hoisted;
