@@ -1,5 +1,5 @@
 -- One lens on each child.
-use Rattle.std.proofs.Common.{◌≡◌, ◌<◌, ◌+◌, ℕ, Bool, true, false, List, [], ◌∷◌, ◌++◌, length, slice_get, Option, Some, None, IfSome, refl, sym, ap, subst, ◌∙◌, arith, length-append}
+use Rattle.std.proofs.Common.{◌≡◌, ◌<◌, ◌+◌, ℕ, Bool, true, false, List, [], ◌∷◌, ◌++◌, length, slice_get, Option, Some, None, IfSome, refl, sym, ap, subst, ◌∙◌, arith}
 use Rattle.std.specs.Option.{option_map}
 use Rattle.std.proofs.lemmas.Option.{same_Some, none-some, slice_get_within, get_or_from_slice_get}
 use Rattle.hm_tree.specs.declared.class.Class.{Class}
@@ -128,15 +128,15 @@ module _ (c : Course) (number : ℕ) (l : Lens) (old : Nodes) (known : Memo) (i 
         (λ m q x at b. omega (arith, slice_get_within n.children q (m, x) at, count)) refl f.fault
 
     pub each_view : (new : Nodes) (j : NodeId) (o : Option (Class × NodeId)) → AreFormed mid → length js ≡ length n.children
-        → AreOthersLed (scope_of c) old mid (on others) n.other o → new ≡ mid ++ replaced n js o ∷ [] → j.place ≡ length mid
+        → AreOthersLed (scope_of c) old mid (on others) n.other o → Extends mid new → slice_get new j.place ≡ Some (replaced n js o)
         → IsView (scope_of c) old new (each l) i j
-    each_view new j o formed count other is place = record {
-      in_range = omega (arith, place, ap length is, length-append mid (replaced n js o ∷ []));
+    each_view new j o formed count other grows here = record {
+      in_range = slice_get_within new j.place (replaced n js o) here;
       goes = λ types t. goes_each (record { is = label; plain = plain })
-          (view_label (scope_of c) old mid new on i j n js o r.start.formed e formed at_i led count other is place)
+          (view_label (scope_of c) old mid new on i j n js o r.start.formed e formed at_i led count other grows here)
           (λ s can. let x = can_next (length old) n node_well s can in
-          step_goes (scope_of c) old mid new on i j n js o r.start.formed e formed at_i led count other is place s l (ap (λ b. where_it_can b l) can) x.0 x.1 types t)
-          (λ s can. step_stays (scope_of c) old mid new on i j n js o r.start.formed e formed at_i led count other is place s (ap (λ b. where_it_can b l) can));
+          step_goes (scope_of c) old mid new on i j n js o r.start.formed e formed at_i led count other grows here s l (ap (λ b. where_it_can b l) can) x.0 x.1 types t)
+          (λ s can. step_stays (scope_of c) old mid new on i j n js o r.start.formed e formed at_i led count other grows here s (ap (λ b. where_it_can b l) can));
     }
 
     pub each_pushed : (new : Nodes) (h : Extends mid new) (j : NodeId) (p : ℕ) → length js ≡ p → AreFormed mid

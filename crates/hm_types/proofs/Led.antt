@@ -26,10 +26,6 @@ use Rattle.hm_types.specs.Below.{IsLed, AreLed, AreOthersLed}
 use Rattle.hm_types.proofs.Entries.{found_at, at_found, once_at, beside_at, there, pushed_at, set_at}
 use Rattle.hm_types.proofs.Growing.{inside, same_form, view_later}
 
-last : {X : Type 0} (xs : List X) (x : X) → slice_get (xs ++ x ∷ []) (length xs) ≡ Some x
-last [] x = refl
-last (y ∷ xs) x = last xs x
-
 none_found : {X Y : Type 0} (k : Name) (ds : List (Name × X)) (es : List (Name × Y)) → is_some (find name_cmp k ds) ≡ is_some (find name_cmp k es)
     → find name_cmp k es ≡ None → find name_cmp k ds ≡ None
 none_found k ds es same e = go (find name_cmp k ds) (same ∙ ap is_some e)
@@ -124,15 +120,9 @@ record IsStep (scope : Scope) (old end : Nodes) (o : Option Lens) (x y : Option 
 module _ (scope : Scope) (old end new : Nodes) (on : Step → Option Lens) (i j : NodeId) (n : NodeValue) (js : List NodeId) (o : Option (Class × NodeId))
     (start : AreFormed old) (more : Extends old end) (formed : AreFormed end) (at : slice_get old i.place ≡ Some n)
     (led : AreLed scope old end (λ k. on (named k)) n.children js) (count : length js ≡ length n.children) (other : AreOthersLed scope old end (on others) n.other o)
-    (is : new ≡ end ++ replaced n js o ∷ []) (place : j.place ≡ length end) where
+    (grows : Extends end new) (here : slice_get new j.place ≡ Some (replaced n js o)) where
   well : IsWellFormedNode (length old) n
   well = formed_at old i n start at
-
-  grows : Extends end new
-  grows = record { more = replaced n js o ∷ []; is = is }
-
-  here : slice_get new j.place ≡ Some (replaced n js o)
-  here = ap (slice_get new) place ∙ ap (λ nodes. slice_get nodes (length end)) is ∙ last end (replaced n js o)
 
   pub view_label : form new j [] ≡ Some (label_of n)
   view_label = ap (option_map label_of) here ∙ ap Some (λ t. record { shapes = n.shapes; children = names n.children js count t; other = class n.other o other t; twins = n.twins })

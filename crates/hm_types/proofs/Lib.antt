@@ -24,3 +24,5 @@ mod FitsOver
 mod CheckSteps
 mod Beginning
 pub mod Exactly
+mod StandsOver
+mod AlikeLists

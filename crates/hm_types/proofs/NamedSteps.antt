@@ -1,5 +1,5 @@
 -- A lens for the child of each of some names.
-use Rattle.std.proofs.Common.{◌≡◌, ◌<◌, ◌+◌, ℕ, zero, suc, MatchOption, Bool, true, false, cond, IsTrue, IsSome, List, [], ◌∷◌, ◌++◌, take, drop, length, map, slice_get, slice_set, is_some, Option, Some, None, IfSome, Contains, refl, sym, ap, subst, ◌∙◌, arith, length-append}
+use Rattle.std.proofs.Common.{◌≡◌, ◌<◌, ◌+◌, ℕ, zero, suc, MatchOption, Bool, true, false, cond, IsTrue, IsSome, List, [], ◌∷◌, ◌++◌, take, drop, length, map, slice_get, slice_set, is_some, Option, Some, None, IfSome, Contains, refl, sym, ap, subst, ◌∙◌, arith}
 use mathlib.Core.Bool.{false≢true, true≢false}
 use Rattle.std.specs.Ordering.{eq_by_cmp}
 use Rattle.std.specs.Option.{option_map, option_or}
@@ -289,15 +289,15 @@ module _ (c : Course) (number : ℕ) (rows : Terms) (old : Nodes) (known : Memo)
 
     pub named_view : (mid new : Nodes) (e : Extends old mid) (js : List NodeId) (j : NodeId) → AreFormed mid → n.twins ≡ [] → AreListed (label_of n) (lenses_of rows)
         → AreLed (scope_of c) old mid (λ k. lens_at k (lenses_of rows)) n.children js → length js ≡ length n.children
-        → new ≡ mid ++ replaced n js n.other ∷ [] → j.place ≡ length mid → IsView (scope_of c) old new (among (lenses_of rows)) i j
-    named_view mid new e js j formed plain listed led count is place = record {
-      in_range = omega (arith, place, ap length is, length-append mid (replaced n js n.other ∷ []));
+        → Extends mid new → slice_get new j.place ≡ Some (replaced n js n.other) → IsView (scope_of c) old new (among (lenses_of rows)) i j
+    named_view mid new e js j formed plain listed led count grows at_j = record {
+      in_range = slice_get_within new j.place (replaced n js n.other) at_j;
       goes = λ types t. goes_among (record { is = label; plain = plain }) listed
-          (view_label (scope_of c) old mid new on i j n js n.other r.start.formed e formed at_i led count (none_led mid e) is place)
+          (view_label (scope_of c) old mid new on i j n js n.other r.start.formed e formed at_i led count (none_led mid e) grows at_j)
           (λ k l f. let x = listed_child n k (listed k (subst IsSome (sym f) refl)) in
-          step_goes (scope_of c) old mid new on i j n js n.other r.start.formed e formed at_i led count (none_led mid e) is place (named k) l f x.0 x.1 types t)
-          (λ k f. step_stays (scope_of c) old mid new on i j n js n.other r.start.formed e formed at_i led count (none_led mid e) is place (named k) f)
-          (step_stays (scope_of c) old mid new on i j n js n.other r.start.formed e formed at_i led count (none_led mid e) is place others refl);
+          step_goes (scope_of c) old mid new on i j n js n.other r.start.formed e formed at_i led count (none_led mid e) grows at_j (named k) l f x.0 x.1 types t)
+          (λ k f. step_stays (scope_of c) old mid new on i j n js n.other r.start.formed e formed at_i led count (none_led mid e) grows at_j (named k) f)
+          (step_stays (scope_of c) old mid new on i j n js n.other r.start.formed e formed at_i led count (none_led mid e) grows at_j others refl);
     }
 
 -- ---- the place of a row's name

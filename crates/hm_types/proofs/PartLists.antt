@@ -23,7 +23,7 @@ set_first : (old inside : List Part) (p q : Part) → slice_set (old ++ (p ∷ i
 set_first [] inside p q = refl
 set_first (x ∷ old) inside p q = ap (λ l. x ∷ l) (set_first old inside p q)
 
-head_inside : (l : Lens) → parts_of l ≡ l ∷ parts_inside l
+pub head_inside : (l : Lens) → parts_of l ≡ l ∷ parts_inside l
 head_inside l = let b = begins l in b.1 ∙ ap (λ xs. l ∷ xs) (sym (ap behind_head b.1))
 
 pub size_inside : (l : Lens) → 1 + length (parts_inside l) ≡ size_of l
@@ -70,6 +70,14 @@ module _ (rows : Terms) (i : ℕ) (row : Name × Term) (at : slice_get rows i �
       ∙ ap (λ l. old ++ map part_of (xs ++ l)) (sym (append-nil ys))
       ∙ ap (λ l. old ++ map part_of l) (sym (parts_all_append (take i rows) (row ∷ [])))
       ∙ ap (λ r. old ++ map part_of (parts_of_all (lenses_of r))) (sym (one_more rows i row at))
+
+  pub lenses_next : (old mid new : List Lens) → mid ≡ old ++ parts_of_all (lenses_of (take i rows)) → new ≡ mid ++ parts_of (lens_of row.1)
+      → new ≡ old ++ parts_of_all (lenses_of (take (i + 1) rows))
+  lenses_next old mid new e f =
+      let xs = parts_of_all (lenses_of (take i rows)) in
+      let ys = parts_of (lens_of row.1) in
+      f ∙ ap (λ l. l ++ ys) e ∙ append_assoc old xs ys ∙ ap (λ l. old ++ (xs ++ l)) (sym (append-nil ys))
+      ∙ ap (λ l. old ++ l) (sym (parts_all_append (take i rows) (row ∷ []))) ∙ ap (λ r. old ++ parts_of_all (lenses_of r)) (sym (one_more rows i row at))
 
   pub texts_next : HaveTexts (lenses_of (take i rows)) → HasTexts (lens_of row.1) → HaveTexts (lenses_of (take (i + 1) rows))
   texts_next h k = subst (λ r. HaveTexts (lenses_of r)) (sym (one_more rows i row at)) (texts_append (take i rows) (row ∷ []) h (k, tt))

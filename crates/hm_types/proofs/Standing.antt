@@ -103,7 +103,7 @@ stand_once all n l k s t =
 -- ---- how many lenses the lens of a number has
 
 module _ (all : List Lens) (n : ℕ) (l : Lens) (s : StandFrom all n (parts_of l)) where
-  here : slice_get all (n - 1) ≡ Some l
+  pub here : slice_get all (n - 1) ≡ Some l
   here =
       let b = begins l in
       let first : StandFrom all (suc (length s.before)) (l ∷ b.0) = subst (λ xs. StandFrom all (suc (length s.before)) xs) b.1 (subst (λ n. StandFrom all n (parts_of l)) s.number s) in

@@ -1,5 +1,5 @@
 -- What a lens is checked with, and what is found of it.
-use Rattle.std.specs.Prelude.{◌≡◌, ◌<◌, ◌^◌, ℕ, suc, T, List, map, length, Some, All, Contains, find as find_first}
+use Rattle.std.specs.Prelude.{◌≡◌, ◌<◌, ◌^◌, ℕ, suc, T, List, map, length, Some, slice_get, All, Contains, find as find_first}
 use Rattle.std.specs.Option.{option_map}
 use Rattle.std.specs.FinMap.{find, is_sorted}
 use Rattle.hm_tree.specs.Names.{Name, name_cmp}
@@ -18,7 +18,8 @@ use Rattle.hm_types.specs.declared.texts.TextType.{TextType}
 use Rattle.hm_types.specs.declared.memo.Memo.{Memo}
 use Rattle.hm_types.specs.Numbers.{parts_of, StandFrom}
 use Rattle.hm_types.specs.Parts.{part_of}
-use Rattle.hm_types.specs.Memos.{entry}
+use Rattle.hm_types.specs.Memos.{Knows}
+use Rattle.hm_types.specs.Alike.{AreAlike}
 
 -- names of definitions with the nodes of their sources and views
 abbrev pub Declared : Type 0
@@ -62,10 +63,10 @@ pub record IsView (scope : Scope) (old new : Nodes) (l : Lens) (i j : NodeId) : 
   pub in_range : j.place < length new
   pub goes : (types : Types) → AreTypes old scope types → Goes types l (form old i) (form new j)
 
--- what is remembered of a lens at a node is its view
+-- what is remembered of the lens at a place at a node is its view
 pub record IsMemo (c : Course) (nodes : Nodes) (memo : Memo) : Type 0 where
-  pub in_range : (n : ℕ) (i j : NodeId) → entry memo n i ≡ Some j → i.place < length nodes
-  pub each : (n : ℕ) (i j : NodeId) → entry memo n i ≡ Some j → (l : Lens) → StandFrom (lenses_in c) n (parts_of l)
+  pub in_range : (n : ℕ) (i j : NodeId) → Knows memo n i j → i.place < length nodes
+  pub each : (n : ℕ) (i j : NodeId) → Knows memo n i j → (l : Lens) → slice_get (lenses_in c) n ≡ Some l
       → IsView (scope_of c) nodes nodes l i j
 
 -- nodes that lead to one another, a sound one among them, and definitions
@@ -78,6 +79,9 @@ pub record IsStart (nodes : Nodes) (scope : Scope) (i : NodeId) : Type 0 where
 -- the lenses of a course are known by their numbers, which are in range
 pub record IsSized (c : Course) : Type 0 where
   pub parts : c.parts.now ≡ map part_of (lenses_in c)
+  -- what is found of a lens is remembered under the place of an equal one
+  pub count : length c.alike.now ≡ length (lenses_in c)
+  pub alike : AreAlike (lenses_in c) c.alike.now
   pub room : suc (length (lenses_in c)) < 2 ^ 64
 
 -- all that lenses are checked with

@@ -1,4 +1,5 @@
 pub mod Numbers
+pub mod Alike
 pub mod Parts
 pub mod Memos
 pub mod Courses

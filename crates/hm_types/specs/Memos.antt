@@ -1,26 +1,29 @@
--- What is remembered: the views of lenses, by their numbers, at nodes.
-use Rattle.std.specs.Prelude.{◌≡◌, ◌⊎◌, ℕ, ◌/◌, ◌%◌, List, Option, Some, None, get_or, option_and_then}
-use Rattle.std.specs.Ordering.{ordering_then, nat_cmp}
-use Rattle.std.specs.declared.cmp.Ordering.{Ordering}
-use Rattle.std.specs.BTreeMap.{get}
+-- What is remembered: the views of lenses, by their places, at nodes.
+use Rattle.std.specs.Prelude.{◌≡◌, ◌⊎◌, ℕ, List, Option, Some, slice_get}
 use Rattle.hm_schema.specs.declared.node.NodeId.{NodeId}
-use Rattle.hm_types.specs.declared.memo.Page.{Page}
+use Rattle.hm_types.specs.declared.memo.Known.{Known}
 use Rattle.hm_types.specs.declared.memo.Memo.{Memo}
 
-abbrev pub key_cmp : ℕ × ℕ → ℕ × ℕ → Ordering
-key_cmp x y = ordering_then (nat_cmp x.0 y.0) (nat_cmp x.1 y.1)
+abbrev pub known : ℕ → NodeId → NodeId → Known
+known n i j = record { lens = n; at = i.place; view = j }
 
--- the view at a place of a page
-abbrev pub view_at : ℕ → Page → Option NodeId
-view_at place page = get_or page.views.items place None
+-- a slot has this
+pub record HasKnown (slots : List (Option Known)) (x : Known) : Type 0 where
+  pub slot : ℕ
+  pub is : slice_get slots slot ≡ Some (Some x)
 
-abbrev pub entry : Memo → ℕ → NodeId → Option NodeId
-entry memo n i = option_and_then (view_at (i.place % 64)) (get key_cmp memo.pages (n, i.place / 64))
+-- the view of a lens at a node is remembered
+abbrev pub Knows : Memo → ℕ → NodeId → NodeId → Type 0
+Knows memo n i j = HasKnown memo.slots.items (known n i j)
 
--- a page has no views but those that it had, and one
-pub record Puts (old new : List (Option NodeId)) (place : ℕ) (view : NodeId) : Type 0 where
-  pub each : (k : ℕ) (v : NodeId) → get_or new k None ≡ Some v → (get_or old k None ≡ Some v) ⊎ ((k ≡ place) × (v ≡ view))
+-- slots have nothing but what others have
+pub record AreAmong (new old : List (Option Known)) : Type 0 where
+  pub each : (k : ℕ) (x : Known) → slice_get new k ≡ Some (Some x) → HasKnown old x
+
+-- they have nothing but what they had, and one thing more
+pub record AreKept (old new : List (Option Known)) (y : Known) : Type 0 where
+  pub each : (k : ℕ) (x : Known) → slice_get new k ≡ Some (Some x) → HasKnown old x ⊎ (x ≡ y)
 
 -- nothing is remembered but what was, and one view
 pub record Remembers (old new : Memo) (n : ℕ) (i j : NodeId) : Type 0 where
-  pub each : (m : ℕ) (k v : NodeId) → entry new m k ≡ Some v → (entry old m k ≡ Some v) ⊎ ((m ≡ n) × (k ≡ i) × (v ≡ j))
+  pub each : (m : ℕ) (k v : NodeId) → Knows new m k v → Knows old m k v ⊎ ((m ≡ n) × (k ≡ i) × (v ≡ j))

@@ -8,6 +8,7 @@ ghost use Rattle.hm_types.specs.Courses.{scoped, IsStart, IsView, IsAt};
 ghost use Rattle.hm_types.specs.Checks.{HasDistinctRows};
 ghost use Rattle.hm_types.specs.Bodies.{IsTypedBody, IsMistypedBody};
 
+use crate::alike::alike;
 use crate::course::Course;
 use crate::fault::TypeFault;
 use crate::memo::Memo;
@@ -39,11 +40,13 @@ pub fn view_of(
     ensures fault { IfErr result (IsTold definition (IsAt (scoped texts.now declared.now) table.old (lens_of term.now) 1 at)) }
 {
     let parts = parts(alloc, term)?;
+    let alike = alike(alloc, term)?;
     let course = Course {
         alloc,
         definition,
         root: term,
         parts: &parts,
+        alike: &alike,
         texts,
         declared,
     };

@@ -9,6 +9,7 @@
 //! it goes from there to a node, whatever the definitions that it calls do, or a condition isn't met.
 #![tactic(auto)]
 
+mod alike;
 mod body;
 mod checking;
 mod course;
@@ -17,6 +18,7 @@ mod fault;
 mod leaves;
 mod memo;
 mod numbers;
+mod over;
 mod parts;
 mod texts;
 mod typed;

@@ -1,98 +1,130 @@
 //! What was found before.
 //!
-//! The views of a lens stand at the places of their sources, in pages of 64 places: the places of what is reached from one
-//! node often lie close together, and then a map of pages has few entries. A page goes no further than to the last place
-//! of which it has a view, and there is none where nothing is remembered.
-ghost use Rattle.std.specs.Prelude.{◌≡◌, ℕ, None, [], get_or};
-ghost use Rattle.hm_types.specs.Memos.{entry, Puts, Remembers};
+//! The views of lenses stand in slots, each at the first free one on a way that begins where its lens and its source say.
+//! At the most half of the slots are taken, so that a way is short. That a view is found again isn't proved, only that
+//! what is found was remembered.
+ghost use Rattle.std.specs.Prelude.{◌≡◌, ◌<◌, ℕ, Some, IfOk, IfSome, length, slice_get};
+ghost use Rattle.hm_types.specs.Memos.{Knows, Remembers, AreKept, AreAmong};
 ghost use Rattle.hm_schema.specs.declared.node.NodeId.{NodeId as NodeValue};
 
 use hm_schema::NodeId;
 use hm_tree::Memory;
 use std::alloc::Global;
-use std::collections::BTreeMap;
 
-// How many places a page has.
-const PLACES: usize = 64;
-
-/// The views of a lens at the places of a page, as far as there are such.
-#[derive(Drop)]
-pub struct Page {
-    pub views: Vec<Option<NodeId>>,
+/// The view of the lens at a place at the node at a place.
+#[derive(Clone, Copy)]
+pub struct Known {
+    pub lens: usize,
+    pub at: usize,
+    pub view: NodeId,
 }
 
-impl Page {
-    // A page without views.
-    fn new(alloc: Global) -> Page
-        ensures { result.views.items ≡ [] }
-    {
-        Page {
-            views: Vec::new(alloc),
-        }
-    }
-
-    // The view at a place, if there is one.
-    fn at(&self, place: usize) -> Option<NodeId>
-        ensures { result ≡ get_or self.now.views.items place None }
-    {
-        if place < self.views.len() {
-            self.views[place]
-        } else {
-            None
-        }
-    }
-
-    // Puts a view at a place. Where there is no memory none is put.
-    fn put(&mut self, place: usize, view: NodeId) -> Result<(), Memory>
-        ensures { Puts self.old.views.items self.new.views.items place view }
-    {
-        while self.views.len() <= place {
-            self.views.push(None)?;
-        }
-        self.views[place] = Some(view);
-        Ok(())
-    }
-}
-
-/// The views of lenses, by the number of the lens and the page of the place of its source.
+/// The views of lenses at nodes.
 #[derive(Drop)]
 pub struct Memo {
-    pub pages: BTreeMap<(usize, usize), Page>,
+    pub slots: Vec<Option<Known>>,
+    count: usize,
     alloc: Global,
 }
 
 impl Memo {
     /// Nothing is remembered.
     pub fn new(alloc: Global) -> Memo
-        ensures { (n : ℕ) (i : NodeValue) → entry result n i ≡ None }
+        ensures { (n : ℕ) (i j : NodeValue) → ¬ (Knows result n i j) }
     {
         Memo {
-            pages: BTreeMap::new(alloc),
+            slots: Vec::new(alloc),
+            count: 0,
             alloc,
         }
     }
 
     /// The view of a lens at a node, if it is remembered.
-    pub fn recall(&self, number: usize, at: NodeId) -> Option<NodeId>
-        ensures { result ≡ entry self.now number at }
+    pub fn recall(&self, lens: usize, at: NodeId) -> Option<NodeId>
+        ensures { IfSome result (Knows self.now lens at) }
     {
-        match self.pages.get(&(number, at.place / PLACES)) {
-            Some(page) => page.at(at.place % PLACES),
-            None => None,
+        let count = self.slots.len();
+        for step in 0..count {
+            match read(&self.slots, slot_at(count, lens, at.place, step)) {
+                Some(known) if known.lens == lens && known.at == at.place => {
+                    return Some(known.view);
+                }
+                Some(_) => (),
+                None => return None,
+            }
         }
+        None
     }
 
     /// Remembers a view.
-    pub fn remember(&mut self, number: usize, at: NodeId, view: NodeId) -> Result<(), Memory>
-        ensures { Remembers self.old self.new number at view }
+    pub fn remember(&mut self, lens: usize, at: NodeId, view: NodeId) -> Result<(), Memory>
+        ensures { Remembers self.old self.new lens at view }
     {
-        let key = (number, at.place / PLACES);
-        if let Some(page) = self.pages.get_mut(&key) {
-            return page.put(at.place % PLACES, view);
+        if self.count >= self.slots.len() / 2 {
+            self.slots = larger(self.alloc, &self.slots)?;
         }
-        let mut page = Page::new(self.alloc);
-        page.put(at.place % PLACES, view)?;
-        self.pages.insert(key, page)?;
+        let known = Known {
+            lens,
+            at: at.place,
+            view,
+        };
+        put(&mut self.slots, known);
+        self.count = self.count.saturating_add(1);
         Ok(())
     }
+}
+
+// Twice as many slots with the same views.
+fn larger(alloc: Global, slots: &[Option<Known>]) -> Result<Vec<Option<Known>>, Memory>
+    ensures { IfOk result (λ v. AreAmong v.items slots.now) }
+{
+    let mut more = vec![in alloc; None; slots.len().saturating_mul(2).max(64)]?;
+    for slot in slots {
+        if let Some(known) = slot {
+            put(&mut more, *known);
+        }
+    }
+    Ok(more)
+}
+
+// What is in a slot, if there is such a slot and it isn't free.
+fn read(slots: &[Option<Known>], slot: usize) -> Option<Known>
+    ensures { IfSome result (λ known. slice_get slots.now slot ≡ Some (Some known)) }
+{
+    if slot < slots.len() {
+        slots[slot]
+    } else {
+        None
+    }
+}
+
+// Puts a view into the first free slot on its way.
+fn put(slots: &mut Vec<Option<Known>>, known: Known)
+    ensures { AreKept slots.old.items slots.new.items known }
+{
+    if let Some(slot) = free_slot(slots, known.lens, known.at) {
+        slots[slot] = Some(known);
+    }
+}
+
+fn free_slot(slots: &[Option<Known>], lens: usize, at: usize) -> Option<usize>
+    ensures { IfSome result (λ slot. slot < length slots.now) }
+{
+    let count = slots.len();
+    for step in 0..count {
+        let slot = slot_at(count, lens, at, step);
+        if slot < count && slots[slot].is_none() {
+            return Some(slot);
+        }
+    }
+    None
+}
+
+// The slot at a step of a way among so many slots, a power of two. The places of nodes that are next to one another begin next
+// to one another, eight at a time, since such are often asked for together; the steps are of nine slots, so that the ways of
+// these soon part.
+fn slot_at(count: usize, lens: usize, at: usize, step: usize) -> usize {
+    let mixed = (lens.wrapping_mul(0x9e37_79b9) ^ (at / 8)).wrapping_mul(0x9e37_79b9_7f4a_7c15);
+    let begin = (mixed / 0x1_0000_0000).wrapping_mul(8).wrapping_add(at % 8);
+    begin.wrapping_add(step.wrapping_mul(9)) & count.wrapping_sub(1)
 }

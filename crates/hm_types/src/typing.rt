@@ -3,7 +3,7 @@ ghost use Rattle.std.specs.Prelude.{◌≡◌, ◌↔◌, ◌<◌, ◌+◌, IsTr
 ghost use Rattle.hm_schema.specs.Values.{NodeValue};
 ghost use Rattle.hm_terms.specs.Lenses.{sequence, fork, each, among, items, on_concrete, on_view};
 ghost use Rattle.hm_terms.specs.Programs.{lens_of, lenses_of};
-ghost use Rattle.hm_typing.specs.Forms.{label_of};
+ghost use Rattle.hm_typing.specs.Forms.{form, label_of};
 ghost use Rattle.hm_typing.specs.Typing.{AreListed};
 ghost use Rattle.hm_types.specs.Numbers.{parts_of};
 ghost use Rattle.hm_types.specs.Courses.{scope_of, IsReady, IsGrown, IsView, IsAt};
@@ -15,12 +15,13 @@ use crate::course::Course;
 use crate::fault::TypeFault;
 use crate::leaves::{called, constant, copy, hide, hoist, plunge, text};
 use crate::memo::Memo;
-use crate::numbers::behind;
+use crate::numbers::{behind, like};
+use crate::over::over;
 use crate::unmet::unmet;
 use hm_schema::NodeId;
 use hm_table::{
-    Table, branched, count, is_plain, items_of, joined, lets_some_in, list_of, listed, lists,
-    merged, other, parted, place_of, same, targets,
+    Table, branched, count, equal, is_plain, items_of, joined, lets_some_in, list_of, listed,
+    lists, merged, other, parted, place_of, same, targets,
 };
 use hm_terms::Term;
 use hm_tree::{Class, Name, NameSet};
@@ -47,11 +48,12 @@ pub fn view(
     ensures view { IfOk result (IsView (scope_of course.now) table.old table.new (lens_of term.now) at) }
     ensures fault { IfErr result (IsTold course.now.definition (IsAt (scope_of course.now) table.old (lens_of term.now) number at)) }
 {
-    if let Some(view) = memo.recall(number, at) {
+    let lens = like(course, number);
+    if let Some(view) = memo.recall(lens, at) {
         return Ok(view);
     }
     let view = anew(course, table, memo, term, number, at)?;
-    memo.remember(number, at, view)?;
+    memo.remember(lens, at, view)?;
     Ok(view)
 }
 
@@ -233,7 +235,7 @@ fn by_view(
     };
     let (one, two) = both(course, table, memo, terms, number, sides)?;
     match merged(course.alloc, table, one, two, shown)? {
-        Some(view) => Ok(view),
+        Some(view) => Ok(first_equal(table, at, view)),
         None => Err(unmet(course, number, 13)),
     }
 }
@@ -282,7 +284,7 @@ fn on_each(
         next.push(on_listed(course, table, memo, inner, number, at, place)?)?;
     }
     let others = on_other(course, table, memo, inner, number, at)?;
-    Ok(table.add_like(at, next, others)?)
+    Ok(over(table, at, next, others)?)
 }
 
 // What stands below the listed name at a place then.
@@ -363,7 +365,7 @@ fn on_named(
         number = behind(course, number);
     }
     let others = other(table, at);
-    Ok(table.add_like(at, next, others)?)
+    Ok(over(table, at, next, others)?)
 }
 
 // Whether each named lens is for a name that is listed.
@@ -377,4 +379,18 @@ fn are_listed(table: &Table, rows: &[(Name, Term)], at: NodeId) -> bool
         }
     }
     true
+}
+
+// The first of two nodes, if they are equal, else the second. So what is found at the first isn't looked for at the second.
+fn first_equal(table: &Table, first: NodeId, second: NodeId) -> NodeId
+    requires first { first.place < length table.now }
+    requires second { second.place < length table.now }
+    ensures in_range { result.place < length table.now }
+    ensures form { form table.now result ≡ form table.now second }
+{
+    if equal(table, first, second) {
+        first
+    } else {
+        second
+    }
 }

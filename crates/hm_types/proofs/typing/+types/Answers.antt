@@ -1,4 +1,4 @@
-use Rattle.std.proofs.Common.{rules, ◌≡◌, ◌<◌, ◌+◌, [], length, take, ◌++◌, ◌∷◌, slice_get, slice_set, Some, None, refl, sym, ap, subst, ◌∙◌, arith}
+use Rattle.std.proofs.Common.{rules, ◌≡◌, ◌<◌, ◌+◌, [], length, take, slice_get, slice_set, Some, None, refl, sym, ap, subst, ◌∙◌, arith}
 use mathlib.Core.Bool.{false≢true}
 use Rattle.std.proofs.lemmas.List.{take_all, length-map, length-set}
 use Rattle.std.proofs.lemmas.Option.{same_Some, slice_get_read}
@@ -11,7 +11,8 @@ use Rattle.hm_schema.specs.Values.{NodeValue}
 use Rattle.hm_terms.specs.Lenses.{sequence, fork, each, among, items, on_concrete, on_view, lens_at}
 use Rattle.hm_terms.specs.Programs.{lens_of, lenses_of}
 use Rattle.hm_terms.proofs.Rows.{each_items}
-use Rattle.hm_typing.specs.Forms.{named, others, can_be}
+use Rattle.hm_typing.specs.Forms.{named, others, can_be, form}
+use Rattle.hm_typing.specs.Sources.{MergeView}
 use Rattle.hm_typing.specs.Typing.{goes_identity}
 use Rattle.hm_typing.specs.Faults.{size_of}
 use Rattle.hm_table.specs.Tables.{replaced}
@@ -37,17 +38,19 @@ use Rattle.hm_types.proofs.typing.+types.Goals as goal
 
 pub view-returns-in-Some-clause-view : goal.view-returns-in-Some-clause-view
 view-returns-in-Some-clause-view t c =
-    recalled c.args.course.now c.args.table.now c.args.memo.now (lens_of c.args.term.now) c.args.number c.args.at c.in-Some.view c.requires
-    (sym c.recall.ensures ∙ c.in-Some.is)
+    recalled c.args.course.now c.args.table.now c.args.memo.now (lens_of c.args.term.now) c.args.number c.like-lens.result c.args.at
+    (c.like-lens.ensures (lens_of c.args.term.now) c.requires.stand) c.in-Some.view c.requires c.in-Some.ensures
 
 pub view-returns-in_err-remember-clause-grown : goal.view-returns-in_err-remember-clause-grown
 view-returns-in_err-remember-clause-grown t c =
-    remembered c.args.course.now c.args.table.now c.args.memo.now (lens_of c.args.term.now) c.args.number c.args.at c.requires c.anew.new.table c.anew.new.memo
+    remembered c.args.course.now c.args.table.now c.args.memo.now (lens_of c.args.term.now) c.args.number c.like-lens.result c.args.at
+    (c.like-lens.ensures (lens_of c.args.term.now) c.requires.stand) c.requires c.anew.new.table c.anew.new.memo
     c.remember.new.self c.in_ok-view.view c.in_ok-view.ensures.grown c.in_ok-view.ensures.view c.remember.ensures
 
 pub view-returns-clause-grown : goal.view-returns-clause-grown
 view-returns-clause-grown t c =
-    remembered c.args.course.now c.args.table.now c.args.memo.now (lens_of c.args.term.now) c.args.number c.args.at c.requires c.anew.new.table c.anew.new.memo
+    remembered c.args.course.now c.args.table.now c.args.memo.now (lens_of c.args.term.now) c.args.number c.like-lens.result c.args.at
+    (c.like-lens.ensures (lens_of c.args.term.now) c.requires.stand) c.requires c.anew.new.table c.anew.new.memo
     c.remember.new.self c.in_ok-view.view c.in_ok-view.ensures.grown c.in_ok-view.ensures.view c.remember.ensures
 
 pub anew-returns-in-Id-clause-view : goal.anew-returns-in-Id-clause-view
@@ -349,7 +352,8 @@ by_view-returns-in-None-2-clause-grown t c =
 
 pub by_view-returns-in-Some-2-clause-view : goal.by_view-returns-in-Some-2-clause-view
 by_view-returns-in-Some-2-clause-view t c =
-    view_view c.args.course.now c.args.number c.args.name.now c.args.shown.now (lens_of c.args.terms.now.first.now) (lens_of c.args.terms.now.second.now) c.args.table.now c.args.memo.now c.args.at c.requires c.branched.new.table c.branched.ensures.extends c.in-Some.sides.0 c.in-Some.sides.1 (rw c.in-Some.is at c.in_ok-sides.ensures.branched) c.both.new.table c.in_ok-one.one c.in_ok-one.two c.in_ok-one.ensures.views c.merged.new.table c.in-Some-2.view (rw c.in-Some-2.is at c.in_ok-view.ensures.in_range) (rw c.in-Some-2.is at c.in_ok-view.ensures.merged)
+    view_view c.args.course.now c.args.number c.args.name.now c.args.shown.now (lens_of c.args.terms.now.first.now) (lens_of c.args.terms.now.second.now) c.args.table.now c.args.memo.now c.args.at c.requires c.branched.new.table c.branched.ensures.extends c.in-Some.sides.0 c.in-Some.sides.1 (rw c.in-Some.is at c.in_ok-sides.ensures.branched) c.both.new.table c.in_ok-one.one c.in_ok-one.two c.in_ok-one.ensures.views c.merged.new.table c.first_equal.result c.first_equal.ensures.in_range
+    (subst (MergeView c.args.shown.now (form c.both.new.table c.in_ok-one.one) (form c.both.new.table c.in_ok-one.two)) (sym c.first_equal.ensures.form) (rw c.in-Some-2.is at c.in_ok-view.ensures.merged))
 
 pub by_view-returns-in-None-2-clause-fault : goal.by_view-returns-in-None-2-clause-fault
 by_view-returns-in-None-2-clause-fault t c =
@@ -479,8 +483,8 @@ on_each-returns-in_err-others-clause-fault t c =
     c.loop-place.next.items (i.led n.0 n.1) ((c.if-not-is_plain.ensures n.0 n.1).0 refl) (i.count ∙ end ∙ c.count-place-end.ensures n.0 n.1) a (f n.0 now))
     c.in_err-others.field-0.0 c.in_err-others.ensures.fault)
 
-pub on_each-add_like-requires : goal.on_each-add_like-requires
-on_each-add_like-requires t c =
+pub on_each-over-requires : goal.on_each-over-requires
+on_each-over-requires t c =
     let n = there c.args.table.now c.args.at.place c.requires.start.in_range in
     let i = c.loop-place.invariant in
     let g = c.in_ok-others.ensures.grown in
@@ -496,15 +500,25 @@ on_each-add_like-requires t c =
     can_replace ds c.args.table.now c.on_other.new.table (λ s. where_it_can (can_be n.0 s) l) c.args.at n.0 c.loop-place.next.items c.in_ok-others.others later led
     (i.count ∙ end ∙ c.count-place-end.ensures n.0 n.1) other
 
+pub on_each-returns-in_err-over-clause-grown : goal.on_each-returns-in_err-over-clause-grown
+on_each-returns-in_err-over-clause-grown t c =
+    let n = there c.args.table.now c.args.at.place c.requires.start.in_range in
+    let i = c.loop-place.invariant in
+    let g = grown_then c.args.course.now c.args.table.now c.loop-place.table c.on_other.new.table c.loop-place.memo c.on_other.new.memo i.grown c.in_ok-others.ensures.grown in
+    let later = extends_at c.args.table.now c.on_other.new.table c.args.at.place g.extends c.requires.start.in_range ∙ n.1 in
+    grown_last c.args.course.now c.on_other.new.table c.over.new.table c.on_other.new.memo
+    (declared_grown c.args.table.now c.on_other.new.table c.requires.start.formed g.extends (scope_of c.args.course.now) c.requires.start.declared)
+    c.args.table.now g c.over.ensures.formed c.over.ensures.extends
+
 pub on_each-returns-clause-grown : goal.on_each-returns-clause-grown
 on_each-returns-clause-grown t c =
     let n = there c.args.table.now c.args.at.place c.requires.start.in_range in
     let i = c.loop-place.invariant in
     let g = grown_then c.args.course.now c.args.table.now c.loop-place.table c.on_other.new.table c.loop-place.memo c.on_other.new.memo i.grown c.in_ok-others.ensures.grown in
     let later = extends_at c.args.table.now c.on_other.new.table c.args.at.place g.extends c.requires.start.in_range ∙ n.1 in
-    grown_last c.args.course.now c.on_other.new.table c.add_like.new.self c.on_other.new.memo
+    grown_last c.args.course.now c.on_other.new.table c.over.new.table c.on_other.new.memo
     (declared_grown c.args.table.now c.on_other.new.table c.requires.start.formed g.extends (scope_of c.args.course.now) c.requires.start.declared)
-    c.args.table.now g c.add_like.ensures.formed (record { more = _; is = c.in_ok-add_like.ensures.node n.0 later })
+    c.args.table.now g c.over.ensures.formed c.over.ensures.extends
 
 pub on_each-returns-clause-view : goal.on_each-returns-clause-view
 on_each-returns-clause-view t c =
@@ -522,8 +536,8 @@ on_each-returns-clause-view t c =
     let other = each_others c.args.course.now c.args.number l c.args.table.now c.args.memo.now c.args.at c.requires n.0 n.1 c.loop-place.table i.grown.extends
     c.loop-place.next.items (i.led n.0 n.1) plain c.on_other.new.table c.in_ok-others.others (c.in_ok-others.ensures.below n.0 now) in
     each_view c.args.course.now c.args.number l c.args.table.now c.args.memo.now c.args.at c.requires n.0 n.1 c.on_other.new.table g.extends
-    c.loop-place.next.items led plain c.add_like.new.self c.in_ok-add_like.field-0 c.in_ok-others.others g.formed
-    (i.count ∙ end ∙ c.count-place-end.ensures n.0 n.1) other (c.in_ok-add_like.ensures.node n.0 later) c.in_ok-add_like.ensures.place
+    c.loop-place.next.items led plain c.over.new.table c.in_ok-over.field-0 c.in_ok-others.others g.formed
+    (i.count ∙ end ∙ c.count-place-end.ensures n.0 n.1) other c.over.ensures.extends (c.in_ok-over.ensures.node n.0 later)
 
 -- ---- the listed names, and all others
 
@@ -759,8 +773,8 @@ on_named-loop-row-preserved t c =
       count = λ m e. length-set c.loop-row.next.items c.unwrap-place.result c.in_ok-next-2.field-0 ∙ i.count m e;
     }
 
-pub on_named-add_like-requires : goal.on_named-add_like-requires
-on_named-add_like-requires t c =
+pub on_named-over-requires : goal.on_named-over-requires
+on_named-over-requires t c =
     let n = there c.args.table.now c.args.at.place c.requires.start.in_range in
     let i = c.loop-row.invariant in
     let now = extends_at c.args.table.now c.loop-row.table c.args.at.place i.grown.extends c.requires.start.in_range ∙ n.1 in
@@ -770,14 +784,23 @@ on_named-add_like-requires t c =
     (subst (λ o. AreOthersLed (scope_of c.args.course.now) c.args.table.now c.loop-row.table None n.0.other o) (sym (c.other-others.ensures n.0 now))
     (none_led c.args.course.now c.args.number c.args.rows.now c.args.table.now c.args.memo.now c.args.at c.requires n.0 n.1 c.loop-row.table i.grown.extends))
 
+pub on_named-returns-in_err-over-clause-grown : goal.on_named-returns-in_err-over-clause-grown
+on_named-returns-in_err-over-clause-grown t c =
+    let n = there c.args.table.now c.args.at.place c.requires.start.in_range in
+    let g = c.loop-row.invariant.grown in
+    let now = extends_at c.args.table.now c.loop-row.table c.args.at.place g.extends c.requires.start.in_range ∙ n.1 in
+    grown_last c.args.course.now c.loop-row.table c.over.new.table c.loop-row.memo
+    (declared_grown c.args.table.now c.loop-row.table c.requires.start.formed g.extends (scope_of c.args.course.now) c.requires.start.declared)
+    c.args.table.now g c.over.ensures.formed c.over.ensures.extends
+
 pub on_named-returns-clause-grown : goal.on_named-returns-clause-grown
 on_named-returns-clause-grown t c =
     let n = there c.args.table.now c.args.at.place c.requires.start.in_range in
     let g = c.loop-row.invariant.grown in
     let now = extends_at c.args.table.now c.loop-row.table c.args.at.place g.extends c.requires.start.in_range ∙ n.1 in
-    grown_last c.args.course.now c.loop-row.table c.add_like.new.self c.loop-row.memo
+    grown_last c.args.course.now c.loop-row.table c.over.new.table c.loop-row.memo
     (declared_grown c.args.table.now c.loop-row.table c.requires.start.formed g.extends (scope_of c.args.course.now) c.requires.start.declared)
-    c.args.table.now g c.add_like.ensures.formed (record { more = _; is = c.in_ok-add_like.ensures.node n.0 now })
+    c.args.table.now g c.over.ensures.formed c.over.ensures.extends
 
 pub on_named-returns-clause-view : goal.on_named-returns-clause-view
 on_named-returns-clause-view t c =
@@ -787,8 +810,7 @@ on_named-returns-clause-view t c =
     let all : take c.loop-row.row-index c.args.rows.now ≡ c.args.rows.now = take_all c.loop-row.row-index c.args.rows.now (search rules) in
     let led = subst (λ rows. AreLed (scope_of c.args.course.now) c.args.table.now c.loop-row.table (λ k. lens_at k (lenses_of rows)) n.0.children c.loop-row.next.items)
     all (i.led n.0 n.1) in
-    named_view c.args.course.now c.args.number c.args.rows.now c.args.table.now c.args.memo.now c.args.at c.requires n.0 n.1 c.loop-row.table c.add_like.new.self
-    i.grown.extends c.loop-row.next.items c.in_ok-add_like.field-0 i.grown.formed ((c.if-not-is_plain.ensures n.0 n.1).0 refl)
+    named_view c.args.course.now c.args.number c.args.rows.now c.args.table.now c.args.memo.now c.args.at c.requires n.0 n.1 c.loop-row.table c.over.new.table
+    i.grown.extends c.loop-row.next.items c.in_ok-over.field-0 i.grown.formed ((c.if-not-is_plain.ensures n.0 n.1).0 refl)
     ((c.if-not-are_listed.ensures n.0 n.1).0 refl) led (i.count n.0 n.1)
-    (c.in_ok-add_like.ensures.node n.0 now ∙ ap (λ o. c.loop-row.table ++ replaced n.0 c.loop-row.next.items o ∷ []) (c.other-others.ensures n.0 now))
-    c.in_ok-add_like.ensures.place
+    c.over.ensures.extends (c.in_ok-over.ensures.node n.0 now ∙ ap (λ o. Some (replaced n.0 c.loop-row.next.items o)) (c.other-others.ensures n.0 now))
