@@ -7,3 +7,4 @@ mod Steps
 mod Formed
 mod Assembled
 pub mod Twins
+mod RisingShapes

@@ -2,3 +2,4 @@ pub mod Ends
 pub mod Marks
 pub mod Visiting
 pub mod Writing
+pub mod Rising

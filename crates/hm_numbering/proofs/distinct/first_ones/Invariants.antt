@@ -1,7 +1,7 @@
 use Rattle.std.proofs.Common.{[], take}
 use Rattle.hm_typing.specs.Numbering.{IsDistinct}
 use Rattle.hm_numbering.proofs.Shapes.{HasShapes}
-use Rattle.hm_numbering.proofs.distinct.distinct.Given as goal
+use Rattle.hm_numbering.proofs.distinct.first_ones.Given as goal
 
 abbrev pub invariant-loop-shape : goal.invariant-loop-shape
 invariant-loop-shape l = record {
