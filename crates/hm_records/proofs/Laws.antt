@@ -1,0 +1,69 @@
+-- One reading of all bytes, and what is written is read back.
+use Rattle.std.proofs.Common.{◌≡◌, ◌≢◌, ℕ, Bool, true, false, List, [], ◌∷◌, refl, sym, ap, subst, ◌∙◌}
+use Rattle.std.specs.Prelude.{◌↔◌, IsTrue, IsUtf8, Result, Ok, Err, All, length}
+use Rattle.std.proofs.lemmas.List.Elements.{All-cons}
+use Rattle.csv.specs.declared.parser.State.TheVariants as st
+use Rattle.csv.specs.Reading.{AreRecords, default_config, strip_bom}
+use Rattle.hm_records.specs.Rows.{Fields, AreGood}
+use Rattle.hm_records.specs.Reads.{Sheet, IsSheet, ReadsRecords}
+use Rattle.hm_records.specs.Written.{written}
+use Rattle.hm_records.specs.declared.fault.RecordsFault.{RecordsFault}
+use Rattle.hm_records.specs.declared.fault.RecordsFault.TheVariants.{NotUtf8, BadItem, Memory}
+use Rattle.hm_records.proofs.Once.{all_once, good_no_bad, bad_once}
+use Rattle.hm_records.proofs.Texts.{reached_text, stripped_text}
+use Rattle.hm_records.proofs.ReadBack.{written_utf8, stripped, marked, back}
+
+same_answer : {P : Type 0} (a b : Bool) → IsTrue a ↔ P → IsTrue b ↔ P → a ≡ b
+same_answer true true h k = refl
+same_answer true false h k = let t = k.1 (h.0 refl) in let bad : ⊥ = cc in absurd bad
+same_answer false true h k = let t = h.1 (k.0 refl) in let bad : ⊥ = cc in absurd bad
+same_answer false false h k = refl
+
+sheet_once : (bytes : List ℕ) (a b : Sheet) → IsSheet bytes a → IsSheet bytes b → a ≡ b
+sheet_once bytes a b h k =
+    let mark = same_answer a.mark b.mark h.marked k.marked in
+    let rows = all_once st.StartRecord (strip_bom bytes) a.rows b.rows h.rows.all k.rows.all in
+    (λ i. record { mark = mark i; rows = rows i })
+
+-- two results that bytes are read as are equal
+pub records_once : (bytes : List ℕ) (r q : Result Sheet RecordsFault) → ReadsRecords bytes r → ReadsRecords bytes q → r ≡ q
+records_once bytes (Ok a) (Ok b) h k = ap Ok (sheet_once bytes a b h k)
+records_once bytes (Ok a) (Err (NotUtf8 at)) h k = absurd (k.broken h.text)
+records_once bytes (Ok a) (Err (BadItem number)) h k = absurd (good_no_bad bytes a.rows number h.rows.all h.rows.some h.rows.good k.1)
+records_once bytes (Ok a) (Err Memory) h k = absurd k
+records_once bytes (Err (NotUtf8 at)) (Ok b) h k = absurd (h.broken k.text)
+records_once bytes (Err (BadItem number)) (Ok b) h k = absurd (good_no_bad bytes b.rows number k.rows.all k.rows.some k.rows.good h.1)
+records_once bytes (Err Memory) (Ok b) h k = absurd h
+records_once bytes (Err (NotUtf8 at)) (Err (NotUtf8 place)) h k = ap (λ n. Err (NotUtf8 n)) (h.place ∙ sym k.place)
+records_once bytes (Err (NotUtf8 at)) (Err (BadItem number)) h k = absurd (h.broken k.0)
+records_once bytes (Err (NotUtf8 at)) (Err Memory) h k = absurd k
+records_once bytes (Err (BadItem number)) (Err (NotUtf8 at)) h k = absurd (k.broken h.0)
+records_once bytes (Err (BadItem one)) (Err (BadItem other)) h k = ap (λ n. Err (BadItem n)) (bad_once bytes one other h.1 k.1)
+records_once bytes (Err (BadItem number)) (Err Memory) h k = absurd k
+records_once bytes (Err Memory) (Err other) h k = absurd h
+
+-- the fields of what is read are texts
+pub records_text : (bytes : List ℕ) (sheet : Sheet) → IsSheet bytes sheet → All (All IsUtf8) sheet.rows
+records_text bytes sheet h =
+    reached_text st.StartRecord (strip_bom bytes) sheet.rows h.rows.all.0 h.rows.all.1 (stripped_text bytes h.text) h.rows.all.2
+
+nothing : (fields : Fields) → length fields ≡ 0 → fields ≡ []
+nothing [] e = refl
+nothing (field ∷ fields) e = let bad : ⊥ = cc in absurd bad
+
+-- a header with a field that isn't marked, and others of its length, all of texts, are read from what is written of them
+pub written_reads : (mark : Bool) (header : Fields) (others : List Fields) → header ≢ [] → AreGood (header ∷ others) → All (All IsUtf8) (header ∷ others)
+    → ReadsRecords (written mark (header ∷ others)) (Ok (record { mark = mark; rows = header ∷ others }))
+written_reads mark header others some good texts =
+    let long : length header ≢ 0 = λ e. some (nothing header e) in
+    let each : All (λ (row : Fields). row ≢ []) others = λ k d l e. long (sym (good.1 k d l) ∙ ap length e) in
+    record {
+      text = written_utf8 mark (header ∷ others) texts;
+      marked = marked mark header others some good.0;
+      rows = record {
+        all = subst (λ (x : List ℕ). AreRecords default_config st.StartRecord x (header ∷ others)) (sym (stripped mark header others some good.0))
+            (back (header ∷ others) (All-cons (λ (row : Fields). row ≢ []) header others some each));
+        some = λ e. cc;
+        good = good;
+      };
+    }
