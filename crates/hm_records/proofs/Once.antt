@@ -1,6 +1,5 @@
 -- The records of bytes are determined, and so is the first bad one.
-use Rattle.std.proofs.Common.{◌≡◌, ◌≢◌, ◌⊎◌, ℕ, suc, ◌+◌, ◌<◌, List, [], ◌∷◌, ◌++◌, length, Option, Some, None, refl, sym, ap, ◌∙◌, subst, inl, inr, arith, length-append}
-use Rattle.std.specs.Prelude.{All}
+use Rattle.std.proofs.Common.{◌≡◌, ◌≢◌, ◌⊎◌, ℕ, ◌+◌, List, [], ◌∷◌, ◌++◌, length, Option, Some, None, refl, sym, ap, ◌∙◌, subst, inl, inr, arith, length-append}
 use Rattle.std.proofs.Math.Seq.{get_or-append_seam}
 use Rattle.csv.specs.Machine.{Read, next_record}
 use Rattle.csv.specs.Reading.{AreRecords, Reached, default_config, strip_bom}
@@ -120,9 +119,9 @@ bad_once bytes one other (inl h) (inl k) = h.0 ∙ sym k.0
 bad_once bytes one other (inl h) (inr k) = absurd (none_first bytes other h.1 k)
 bad_once bytes one other (inr h) (inl k) = absurd (none_first bytes one k.1 h)
 bad_once bytes one other (inr h) (inr k) = elim (compared st.StartRecord (strip_bom bytes) h.before k.before h.row k.row h.stand k.stand) [
-    | inl e ↦ h.place ∙ ap (λ (l : List Fields). length l + 1) e ∙ sym k.place
-    | inr apart ↦ elim apart [
-      | inl longer ↦ absurd (good_row h.before h.row longer.0 (subst AreGood longer.1 k.good) h.bad)
-      | inr shorter ↦ absurd (good_row k.before k.row shorter.0 (subst AreGood shorter.1 h.good) k.bad)
-    ]
+  | inl e ↦ h.place ∙ ap (λ (l : List Fields). length l + 1) e ∙ sym k.place
+  | inr apart ↦ elim apart [
+    | inl longer ↦ absurd (good_row h.before h.row longer.0 (subst AreGood longer.1 k.good) h.bad)
+    | inr shorter ↦ absurd (good_row k.before k.row shorter.0 (subst AreGood shorter.1 h.good) k.bad)
   ]
+]

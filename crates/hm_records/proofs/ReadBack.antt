@@ -1,5 +1,5 @@
 -- What is written of texts is UTF-8, stands behind no byte-order mark that isn't asked for, and has its records.
-use Rattle.std.proofs.Common.{◌≡◌, ◌≢◌, ℕ, ◌+◌, ◌<◌, Bool, true, false, List, [], ◌∷◌, ◌++◌, length, Some, refl, sym, ap, ◌∙◌, subst, append_assoc, arith, inl, inr, ◌==◌}
+use Rattle.std.proofs.Common.{◌≡◌, ◌≢◌, ℕ, ◌<◌, Bool, true, false, List, [], ◌∷◌, ◌++◌, Some, refl, sym, ap, ◌∙◌, subst, append_assoc, arith, inl, inr, ◌==◌}
 use Rattle.std.specs.Prelude.{All, IsTrue, ◌↔◌, if◌then◌else◌}
 use Rattle.std.specs.List.{flat_map, list_any}
 use Rattle.std.specs.Str.{IsUtf8}
@@ -7,7 +7,7 @@ use Rattle.std.proofs.lemmas.Bool.{cases_Bool, cases_lt}
 use Rattle.std.proofs.lemmas.List.Elements.{All-head, All-tail}
 use Rattle.std.proofs.lemmas.Str.{IsUtf8-nil, IsUtf8-append, IsUtf8-encode, encode_ascii}
 use lib.Utf8.{scalar, scalars, encode, encodes, low_scalar}
-use Rattle.csv.specs.Machine.{Read, next_record}
+use Rattle.csv.specs.Machine.{next_record}
 use Rattle.csv.specs.Reading.{AreRecords, Reached, default_config, strip_bom}
 use Rattle.csv.specs.Writing.{default_writer, escaped, field_text, fields_text, is_blank, needs_byte, read_back, row_text}
 use Rattle.csv.specs.declared.parser.State.TheVariants as st
@@ -48,16 +48,16 @@ quote_utf8 = ascii 34 (omega arith)
 
 field_utf8 : (field : List ℕ) → IsUtf8 field → IsUtf8 (field_text default_writer field)
 field_utf8 field u = elim (cases_Bool (list_any (needs_byte default_writer) field)) [
-    | inl e ↦ rw e (IsUtf8-append (34 ∷ []) (escaped default_writer field ++ 34 ∷ []) quote_utf8 (IsUtf8-append (escaped default_writer field) (34 ∷ []) (escaped_utf8 field u) quote_utf8))
-    | inr e ↦ rw e u
-  ]
+  | inl e ↦ rw e (IsUtf8-append (34 ∷ []) (escaped default_writer field ++ 34 ∷ []) quote_utf8 (IsUtf8-append (escaped default_writer field) (34 ∷ []) (escaped_utf8 field u) quote_utf8))
+  | inr e ↦ rw e u
+]
 
 fields_utf8 : (fields : Fields) → All IsUtf8 fields → IsUtf8 (fields_text default_writer fields)
 unfolding fields_text
 fields_utf8 [] all = IsUtf8-nil
 fields_utf8 (field ∷ fields) all =
     IsUtf8-append (44 ∷ []) (field_text default_writer field ++ fields_text default_writer fields) (ascii 44 (omega arith))
-      (IsUtf8-append (field_text default_writer field) (fields_text default_writer fields) (field_utf8 field (All-head IsUtf8 field fields all)) (fields_utf8 fields (All-tail IsUtf8 field fields all)))
+    (IsUtf8-append (field_text default_writer field) (fields_text default_writer fields) (field_utf8 field (All-head IsUtf8 field fields all)) (fields_utf8 fields (All-tail IsUtf8 field fields all)))
 
 -- what ends a record
 abbrev end_of : Bool → List ℕ
@@ -71,8 +71,8 @@ row_utf8 : (row : Fields) → All IsUtf8 row → IsUtf8 (row_text default_writer
 row_utf8 [] all = end_utf8 (is_blank default_writer [])
 row_utf8 (field ∷ fields) all =
     IsUtf8-append (field_text default_writer field ++ fields_text default_writer fields) (end_of (is_blank default_writer (field ∷ fields)))
-      (IsUtf8-append (field_text default_writer field) (fields_text default_writer fields) (field_utf8 field (All-head IsUtf8 field fields all)) (fields_utf8 fields (All-tail IsUtf8 field fields all)))
-      (end_utf8 (is_blank default_writer (field ∷ fields)))
+    (IsUtf8-append (field_text default_writer field) (fields_text default_writer fields) (field_utf8 field (All-head IsUtf8 field fields all)) (fields_utf8 fields (All-tail IsUtf8 field fields all)))
+    (end_utf8 (is_blank default_writer (field ∷ fields)))
 
 rows_utf8 : (rows : List Fields) → All (All IsUtf8) rows → IsUtf8 (flat_map (row_text default_writer) rows)
 rows_utf8 [] all = IsUtf8-nil
@@ -108,9 +108,9 @@ mark_front (a ∷ b ∷ c ∷ rest) d tail l m =
 
 field_unmarked : (field : List ℕ) (d : ℕ) (tail : List ℕ) → d < 128 → ¬ (BeginsWithMark field) → ¬ (BeginsWithMark (field_text default_writer field ++ d ∷ tail))
 field_unmarked field d tail l plain = elim (cases_Bool (list_any (needs_byte default_writer) field)) [
-    | inl e ↦ rw e (λ m. quoted (m.0) (escaped default_writer field ++ 34 ∷ []) m.1)
-    | inr e ↦ rw e (λ m. plain (mark_front field d tail l m))
-  ]
+  | inl e ↦ rw e (λ m. quoted (m.0) (escaped default_writer field ++ 34 ∷ []) m.1)
+  | inr e ↦ rw e (λ m. plain (mark_front field d tail l m))
+]
   where
     quoted : (rest x : List ℕ) → (34 ∷ x) ++ d ∷ tail ≡ byte_order_mark ++ rest → ⊥
     quoted rest x q = cc
@@ -122,9 +122,9 @@ rows_unmarked (field ∷ fields) others some plain =
     let more = flat_map (row_text default_writer) others in
     let a = after_field fields blank in
     let text : row_text default_writer (field ∷ fields) ++ more ≡ field_text default_writer field ++ a.0 ∷ (a.1 ++ more) =
-        append_assoc (field_text default_writer field ++ fields_text default_writer fields) (end_of blank) more
-        ∙ append_assoc (field_text default_writer field) (fields_text default_writer fields) (end_of blank ++ more)
-        ∙ ap (λ l. field_text default_writer field ++ l) (sym (append_assoc (fields_text default_writer fields) (end_of blank) more) ∙ ap (λ l. l ++ more) a.2) in
+    append_assoc (field_text default_writer field ++ fields_text default_writer fields) (end_of blank) more
+    ∙ append_assoc (field_text default_writer field) (fields_text default_writer fields) (end_of blank ++ more)
+    ∙ ap (λ l. field_text default_writer field ++ l) (sym (append_assoc (fields_text default_writer fields) (end_of blank) more) ∙ ap (λ l. l ++ more) a.2) in
     λ m. field_unmarked field a.0 (a.1 ++ more) a.3 plain (subst BeginsWithMark text m)
 
 pub stripped : (mark : Bool) (header : Fields) (others : List Fields) → header ≢ [] → ¬ (IsMarked header) → strip_bom (written mark (header ∷ others)) ≡ flat_map (row_text default_writer) (header ∷ others)

@@ -1,6 +1,6 @@
 -- The records that a reader has given, and why it gives no more.
 use Rattle.std.proofs.Common.{◌≡◌, ◌≢◌, ℕ, ◌+◌, true, false, List, [], ◌∷◌, ◌++◌, length, map, Option, Some, None, refl, sym, ap, ◌∙◌, subst, inl, inr}
-use Rattle.std.specs.Prelude.{All, IfSome, Result, Ok, Err, IfErr, IsErrAnd}
+use Rattle.std.specs.Prelude.{IfSome, Result, Ok, Err, IfErr, IsErrAnd}
 use Rattle.std.proofs.lemmas.List.Elements.{All-nil, All-push}
 use Rattle.csv.specs.Machine.{Read, next_record}
 use Rattle.csv.specs.Reading.{Reached, NextIs, ReadsNext, ExplainsRead, source_of, pending_of, default_config, strip_bom}

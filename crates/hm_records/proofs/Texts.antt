@@ -1,7 +1,7 @@
 -- The marks of the format are ASCII, so fields that are read from UTF-8 are UTF-8.
-use Rattle.std.proofs.Common.{◌≡◌, ◌⊎◌, ℕ, ◌+◌, ◌*◌, ◌/◌, ◌%◌, ◌<◌, ◌≤◌, Bool, true, false, ◌&&◌, List, [], ◌∷◌, ◌++◌, Option, Some, None, refl, sym, ap, ◌∙◌, subst, append_assoc, append-nil, inl, inr, arith, ne_eqb, ◌==◌}
+use Rattle.std.proofs.Common.{◌≡◌, ◌⊎◌, ℕ, ◌+◌, ◌/◌, ◌<◌, ◌≤◌, Bool, true, false, ◌&&◌, List, [], ◌∷◌, ◌++◌, Option, refl, sym, ap, ◌∙◌, subst, append_assoc, inl, inr, arith, ne_eqb, ◌==◌}
 use Rattle.std.specs.Prelude.{All, IfSome}
-use Rattle.std.specs.Str.{IsUtf8, encode_utf8_all}
+use Rattle.std.specs.Str.{IsUtf8}
 use Rattle.std.proofs.lemmas.Bool.{cases_Bool, eqb-true, cases_lt, lt-ltb, le-ltb, cond-true, cond-false}
 use Rattle.std.proofs.lemmas.List.Elements.{All-nil, All-cons, All-push}
 use Rattle.std.proofs.lemmas.Str.{IsUtf8-nil, IsUtf8-append, IsUtf8-encode, encode_ascii, encode_same}
@@ -37,12 +37,12 @@ high_4 c = (omega arith, (high_next (c / 4096), (high_next (c / 64), (high_next 
 pub high_encode : (c : ℕ) → 128 ≤ c → High (encode c)
 unfolding encode
 high_encode c l = subst High (sym (cond-false _ _ _ (le-ltb c 128 l))) (elim (cases_lt c 2048) [
-    | inl h ↦ subst High (sym (cond-true _ _ _ (lt-ltb c 2048 h))) (high_2 c)
-    | inr g ↦ subst High (sym (cond-false _ _ _ (le-ltb c 2048 g))) (elim (cases_lt c 65536) [
-      | inl h ↦ subst High (sym (cond-true _ _ _ (lt-ltb c 65536 h))) (high_3 c)
-      | inr k ↦ subst High (sym (cond-false _ _ _ (le-ltb c 65536 k))) (high_4 c)
-    ])
+  | inl h ↦ subst High (sym (cond-true _ _ _ (lt-ltb c 2048 h))) (high_2 c)
+  | inr g ↦ subst High (sym (cond-false _ _ _ (le-ltb c 2048 g))) (elim (cases_lt c 65536) [
+    | inl h ↦ subst High (sym (cond-true _ _ _ (lt-ltb c 65536 h))) (high_3 c)
+    | inr k ↦ subst High (sym (cond-false _ _ _ (le-ltb c 65536 k))) (high_4 c)
   ])
+])
 
 pub other : (b n : ℕ) → 128 ≤ b → n < 128 → (b == n) ≡ false
 other b n l h = ne_eqb b n (λ e. omega arith)
@@ -80,12 +80,12 @@ joined : (s : State) (fields : Fields) (field x tail : List ℕ) → High x
 unfolding next_record
 joined s fields field [] tail h = (s, field, refl, inr refl)
 joined s fields field (b ∷ rest) tail h = elim (joins_field s b h.0) [
-    | inl e ↦ (st.InField, (field ++ b ∷ []) ++ rest, (rw e (run-copies default_config st.InField fields (field ++ b ∷ []) rest tail (runs_field rest h.1))), inl (append_assoc field (b ∷ []) rest))
-    | inr more ↦ elim more [
-      | inl e ↦ (st.InQuoted, (field ++ b ∷ []) ++ rest, (rw e (run-copies default_config st.InQuoted fields (field ++ b ∷ []) rest tail (runs_quoted rest h.1))), inl (append_assoc field (b ∷ []) rest))
-      | inr comment ↦ (st.InComment, field, (rw comment (skips fields field (b ∷ rest) tail h)), inr refl)
-    ]
+  | inl e ↦ (st.InField, (field ++ b ∷ []) ++ rest, (rw e (run-copies default_config st.InField fields (field ++ b ∷ []) rest tail (runs_field rest h.1))), inl (append_assoc field (b ∷ []) rest))
+  | inr more ↦ elim more [
+    | inl e ↦ (st.InQuoted, (field ++ b ∷ []) ++ rest, (rw e (run-copies default_config st.InQuoted fields (field ++ b ∷ []) rest tail (runs_quoted rest h.1))), inl (append_assoc field (b ∷ []) rest))
+    | inr comment ↦ (st.InComment, field, (rw comment (skips fields field (b ∷ rest) tail h)), inr refl)
   ]
+]
 
 -- ---- the fields of a record, and what stands behind it
 
@@ -186,9 +186,9 @@ stripped_text [] u = u
 stripped_text (a ∷ []) u = u
 stripped_text (a ∷ b ∷ []) u = u
 stripped_text (a ∷ b ∷ c ∷ rest) u = elim (cases_Bool (is_bom a b c)) [
-    | inl e ↦ rw e (behind_mark rest (subst IsUtf8 (is_mark a b c rest e) u))
-    | inr e ↦ rw e u
-  ]
+  | inl e ↦ rw e (behind_mark rest (subst IsUtf8 (is_mark a b c rest e) u))
+  | inr e ↦ rw e u
+]
 
 pub strip_unmarked : (bytes : List ℕ) → ¬ (BeginsWithMark bytes) → strip_bom bytes ≡ bytes
 unfolding strip_bom
@@ -196,9 +196,9 @@ strip_unmarked [] plain = refl
 strip_unmarked (a ∷ []) plain = refl
 strip_unmarked (a ∷ b ∷ []) plain = refl
 strip_unmarked (a ∷ b ∷ c ∷ rest) plain = elim (cases_Bool (is_bom a b c)) [
-    | inl e ↦ absurd (plain (rest, is_mark a b c rest e))
-    | inr e ↦ rw e refl
-  ]
+  | inl e ↦ absurd (plain (rest, is_mark a b c rest e))
+  | inr e ↦ rw e refl
+]
 
 pub strip_marked : (rest : List ℕ) → strip_bom (byte_order_mark ++ rest) ≡ rest
 unfolding strip_bom

@@ -65,7 +65,7 @@ pub appended : (a b : RecordsWriter) (row : Fields)
     → (mark : Bool) (rows : List Fields) → HasWritten a mark rows → HasWritten b mark (rows ++ row ∷ [])
 appended a b row text fields shown setup mark rows has =
     let more : Appends (shows a.writer) (shows b.writer) (row_text lenient row) =
-        subst (λ (cfg : WriterBuilder). Appends (shows a.writer) (shows b.writer) (row_text cfg row)) has.setup (text has.fields has.shows (plain_style a.writer has.setup)) in
+    subst (λ (cfg : WriterBuilder). Appends (shows a.writer) (shows b.writer) (row_text cfg row)) has.setup (text has.fields has.shows (plain_style a.writer has.setup)) in
     record {
       setup = setup ∙ has.setup;
       fields = fields;

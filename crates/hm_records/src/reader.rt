@@ -6,14 +6,11 @@ ghost use Rattle.hm_records.specs.Rows.{BeginsWithMark, IsMarked};
 ghost use Rattle.hm_records.specs.Reads.{AreRows, RowsFaults, RefusesRow, Tells, StopsAt, ReadsRecords, UnlessMemory, shown};
 
 use crate::fault::RecordsFault;
-use crate::records::Records;
+use crate::records::{BYTE_ORDER_MARK, Records};
 use csv::{ByteRecord, Error, ErrorKind, ReaderBuilder};
 use hm_tree::Memory;
 use std::alloc::Global;
 use std::str;
-
-// U+FEFF in UTF-8.
-const BYTE_ORDER_MARK: [u8; 3] = [0xEF, 0xBB, 0xBF];
 
 /// The records of a file.
 pub fn read_records(alloc: Global, bytes: &[u8]) -> Result<Records, RecordsFault>

@@ -57,15 +57,18 @@ fn what_is_no_file_of_records(rt: HostRuntime) -> Result<(), Fail> {
 #[test]
 fn what_is_written_is_read(rt: HostRuntime) -> Result<(), Fail> {
     let alloc = rt.alloc();
-    let old = read_records(alloc, b"name,note\r\nx,\"1\r\n2\"\r\n\"\",\"a \"\"b\"\"\"\r\n")?;
+    let old = read_records(
+        alloc,
+        b"name,note\r\nx,\"1\r\n2\"\r\n\"\",\"a \"\"b\"\"\"\r\n",
+    )?;
+    assert!(rt; old.rows.len() == 3);
     let mut writer = RecordsWriter::new(alloc, true)?;
     for row in &old.rows {
         writer.append_record(row)?;
     }
     writer.append_fields(&[b"y".as_slice(), b"".as_slice()])?;
     let text = writer.finish()?;
-    assert_eq!(
-        rt;
+    assert_eq!(rt;
         text.as_slice(),
         b"\xEF\xBB\xBFname,note\nx,\"1\r\n2\"\n,\"a \"\"b\"\"\"\ny,\n".as_slice()
     );

@@ -3,6 +3,7 @@ ghost use Rattle.std.specs.Prelude.{◌≡◌, ◌++◌, ◌∷◌, [], Bool, Li
 ghost use Rattle.csv.specs.Records.{fields_of};
 ghost use Rattle.hm_records.specs.Rows.{Fields};
 
+use crate::records::BYTE_ORDER_MARK;
 use csv::{ByteRecord, Writer, WriterBuilder};
 use hm_tree::Memory;
 use std::alloc::Global;
@@ -22,7 +23,7 @@ impl RecordsWriter {
     {
         let mut text = Vec::new(alloc);
         if mark {
-            text.extend_from_slice(&[0xEF, 0xBB, 0xBF])?;
+            text.extend_from_slice(&BYTE_ORDER_MARK)?;
         }
         Ok(RecordsWriter {
             writer: WriterBuilder::new().flexible(true).from_writer(text),

@@ -1,4 +1,3 @@
-use Rattle.std.proofs.Common.{◌≡◌}
 use Rattle.csv.specs.Records.{fields_of}
 use Rattle.hm_records.proofs.Rows.{marked_some, marked_none}
 use Rattle.hm_records.proofs.reader.is_marked.Goals as goal

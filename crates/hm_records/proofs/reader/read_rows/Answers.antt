@@ -1,9 +1,9 @@
-use Rattle.std.proofs.Common.{Bor, List, ℕ, ◌≡◌, ◌∙◌, ap, sym, refl, rules, inl, inr, true, map, Some, ◌∷◌, [], length}
+use Rattle.std.proofs.Common.{Bor, List, ℕ, ◌≡◌, ◌∙◌, sym, refl, rules, inl, inr, map, Some, ◌∷◌, []}
 use Rattle.std.proofs.lemmas.List.{map-append, length-map}
 use Rattle.csv.specs.Reading.{Reached, default_config, strip_bom}
 use Rattle.csv.specs.Records.{fields_of}
 use Rattle.csv.specs.declared.parser.State.TheVariants as st
-use Rattle.csv.proofs.ReadFacts.{rows-end, rows-more}
+use Rattle.csv.proofs.ReadFacts.{rows-more}
 use Rattle.hm_records.specs.Reads.{RowsFaults}
 use Rattle.hm_records.proofs.Rows.{expects_more, map_nil, refused_by, refused_row, told}
 use Rattle.hm_records.proofs.reader.read_rows.Goals as goal
@@ -47,7 +47,7 @@ returns-in_err-keep-in-Ok-clause-fault c =
     let inv = c.loop-row.invariant in
     let s = rw (c.in-Some.is, c.in-Ok.is) at ((c.next.ensures.steps inv.2 inv.0).0 inv.1) in
     let why = refused_row (λ (s : Bor (List ℕ)). Some s.now) c.loop-row.row-iterator.rdr c.next.new.self.rdr c.args.bytes.now (map fields_of c.loop-row.rows.items) (fields_of c.in-Ok.row) inv.4 c.in_err-keep-in-Ok.field-0.0
-      inv.3 inv.5 inv.6 inv.7 s.0.0 c.in_err-keep-in-Ok.ensures.fault in
+    inv.3 inv.5 inv.6 inv.7 s.0.0 c.in_err-keep-in-Ok.ensures.fault in
     told c.from_residual.result c.in_err-keep-in-Ok.field-0.0 (RowsFaults c.args.bytes.now) c.from_residual.ensures.1 why
 
 pub returns-in-Err-clause-fault : goal.returns-in-Err-clause-fault
@@ -55,4 +55,4 @@ returns-in-Err-clause-fault c =
     let inv = c.loop-row.invariant in
     let s = rw (c.in-Some.is, c.in-Err.is) at ((c.next.ensures.steps inv.2 inv.0).0 inv.1) in
     refused_by (λ (s : Bor (List ℕ)). Some s.now) c.loop-row.row-iterator.rdr c.next.new.self.rdr c.args.bytes.now (map fields_of c.loop-row.rows.items) inv.4 c.in-Err.error.kind c.refusal.result c.len.result
-      inv.3 inv.5 inv.6 inv.7 inv.8 (simp length-map (search rules)) s c.refusal.ensures
+    inv.3 inv.5 inv.6 inv.7 inv.8 (simp length-map (search rules)) s c.refusal.ensures
