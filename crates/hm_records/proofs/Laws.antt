@@ -1,7 +1,7 @@
 -- One reading of all bytes, and what is written is read back.
 use Rattle.std.proofs.Common.{◌≡◌, ◌≢◌, ℕ, Bool, true, false, List, [], ◌∷◌, refl, sym, ap, subst, ◌∙◌}
 use Rattle.std.specs.Prelude.{◌↔◌, IsTrue, IsUtf8, Result, Ok, Err, All, length}
-use Rattle.std.proofs.lemmas.List.Elements.{All-cons}
+use Rattle.std.proofs.lemmas.List.Elements.{All-cons, All-head}
 use Rattle.csv.specs.declared.parser.State.TheVariants as st
 use Rattle.csv.specs.Reading.{AreRecords, default_config, strip_bom}
 use Rattle.hm_records.specs.Rows.{Fields, AreGood}
@@ -11,6 +11,7 @@ use Rattle.hm_records.specs.declared.fault.RecordsFault.{RecordsFault}
 use Rattle.hm_records.specs.declared.fault.RecordsFault.TheVariants.{NotUtf8, BadItem, Memory}
 use Rattle.hm_records.proofs.Once.{all_once, good_no_bad, bad_once}
 use Rattle.hm_records.proofs.Texts.{reached_text, stripped_text}
+use Rattle.hm_records.proofs.Filled.{reached_filled}
 use Rattle.hm_records.proofs.ReadBack.{written_utf8, stripped, marked, back}
 
 same_answer : {P : Type 0} (a b : Bool) → IsTrue a ↔ P → IsTrue b ↔ P → a ≡ b
@@ -51,19 +52,38 @@ nothing : (fields : Fields) → length fields ≡ 0 → fields ≡ []
 nothing [] e = refl
 nothing (field ∷ fields) e = let bad : ⊥ = cc in absurd bad
 
+sheet_written : (mark : Bool) (header : Fields) (others : List Fields) → All (λ row. row ≢ []) (header ∷ others) → AreGood (header ∷ others) → All (All IsUtf8) (header ∷ others)
+    → IsSheet (written mark (header ∷ others)) (record { mark = mark; rows = header ∷ others })
+sheet_written mark header others filled good texts =
+    let some = All-head (λ (row : Fields). row ≢ []) header others filled in
+    record {
+      text = written_utf8 mark (header ∷ others) texts;
+      marked = marked mark header others some good.0;
+      rows = record {
+        all = subst (λ (x : List ℕ). AreRecords default_config st.StartRecord x (header ∷ others)) (sym (stripped mark header others some good.0)) (back (header ∷ others) filled);
+        some = λ e. cc;
+        good = good;
+      };
+    }
+
 -- a header with a field that isn't marked, and others of its length, all of texts, are read from what is written of them
 pub written_reads : (mark : Bool) (header : Fields) (others : List Fields) → header ≢ [] → AreGood (header ∷ others) → All (All IsUtf8) (header ∷ others)
     → ReadsRecords (written mark (header ∷ others)) (Ok (record { mark = mark; rows = header ∷ others }))
 written_reads mark header others some good texts =
     let long : length header ≢ 0 = λ e. some (nothing header e) in
     let each : All (λ (row : Fields). row ≢ []) others = λ k d l e. long (sym (good.1 k d l) ∙ ap length e) in
-    record {
-      text = written_utf8 mark (header ∷ others) texts;
-      marked = marked mark header others some good.0;
-      rows = record {
-        all = subst (λ (x : List ℕ). AreRecords default_config st.StartRecord x (header ∷ others)) (sym (stripped mark header others some good.0))
-            (back (header ∷ others) (All-cons (λ (row : Fields). row ≢ []) header others some each));
-        some = λ e. cc;
-        good = good;
-      };
-    }
+    sheet_written mark header others (All-cons (λ (row : Fields). row ≢ []) header others some each) good texts
+
+-- each record that is read has a field
+pub records_filled : (bytes : List ℕ) (sheet : Sheet) → IsSheet bytes sheet → All (λ row. row ≢ []) sheet.rows
+records_filled bytes sheet h = reached_filled st.StartRecord (strip_bom bytes) sheet.rows h.rows.all.0 h.rows.all.1 h.rows.all.2
+
+again : (mark : Bool) (rows : List Fields) → rows ≢ [] → All (λ row. row ≢ []) rows → AreGood rows → All (All IsUtf8) rows
+    → IsSheet (written mark rows) (record { mark = mark; rows = rows })
+again mark [] some filled good texts = absurd (some refl)
+again mark (header ∷ others) some filled good texts = sheet_written mark header others filled good texts
+
+-- so what is read is read again from what is written of it
+pub rewritten_reads : (bytes : List ℕ) (sheet : Sheet) → IsSheet bytes sheet → ReadsRecords (written sheet.mark sheet.rows) (Ok sheet)
+rewritten_reads bytes sheet h =
+    again sheet.mark sheet.rows h.rows.some (records_filled bytes sheet h) h.rows.good (records_text bytes sheet h)

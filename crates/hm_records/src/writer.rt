@@ -41,10 +41,10 @@ impl RecordsWriter {
     }
 
     /// Appends a record. Nothing is promised of what is written after there was no memory.
-    pub fn append_record(&mut self, record: &ByteRecord) -> Result<(), Memory>
-        ensures { OnOk result ((mark : Bool) (rows : List Fields) → HasWritten self.old mark rows → HasWritten self.new mark (rows ++ fields_of record.now ∷ [])) }
+    pub fn append_record(&mut self, row: &ByteRecord) -> Result<(), Memory>
+        ensures { OnOk result ((mark : Bool) (rows : List Fields) → HasWritten self.old mark rows → HasWritten self.new mark (rows ++ fields_of row.now ∷ [])) }
     {
-        if self.writer.write_byte_record(record).is_err() {
+        if self.writer.write_byte_record(row).is_err() {
             return Err(Memory);
         }
         Ok(())

@@ -8,5 +8,5 @@ pub returns : goal.returns
 returns c =
     let e = c.write_byte_record.ensures in
     let ok = sym c.is_err.ensures.value ∙ c.if-is_err.false in
-    appended c.args.self.now (record { writer = c.write_byte_record.new.self }) (fields_of c.args.record.now)
+    appended c.args.self.now (record { writer = c.write_byte_record.new.self }) (fields_of c.args.row.now)
     (on-ok _ ok e.bytes) (on-ok _ ok e.ended) (on-ok _ ok e.clean) (on-ok _ ok e.setup)
