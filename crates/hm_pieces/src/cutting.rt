@@ -1,0 +1,102 @@
+//! Cutting a field into its pieces.
+ghost use Rattle.std.specs.Prelude.{◌≡◌, ◌∷◌, [], ℕ, List, true, false, All, IsUtf8, IfOk, OnOk};
+ghost use Rattle.hm_pieces.specs.Pieces.{pieces as pieces_in, is_special, stroke};
+ghost use Rattle.hm_pieces.specs.Cutting.{all_bytes, joined};
+
+use hm_tree::Memory;
+use std::alloc::Global;
+
+// What was read of a field: its whole pieces, the piece that is read, and whether a `\` stands before what is left.
+#[derive(Drop)]
+struct Cut {
+    whole: Vec<Vec<u8>>,
+    piece: Vec<u8>,
+    behind_backslash: bool,
+}
+
+/// The pieces of a field, each of which is UTF-8.
+pub fn pieces(alloc: Global, field: &str) -> Result<Vec<Vec<u8>>, Memory>
+    ensures pieces { IfOk result (λ found. all_bytes found ≡ pieces_in field.now) }
+    ensures utf8 { IfOk result (λ found. All (λ p. IsUtf8 p.items) found.items) }
+{
+    cut_bytes(alloc, field.as_bytes())
+}
+
+// The pieces of some bytes.
+fn cut_bytes(alloc: Global, field: &[u8]) -> Result<Vec<Vec<u8>>, Memory>
+    ensures { IfOk result (λ found. all_bytes found ≡ pieces_in field.now) }
+{
+    let mut cut = Cut {
+        whole: Vec::new(alloc),
+        piece: Vec::new(alloc),
+        behind_backslash: false,
+    };
+    if field.is_empty() {
+        return Ok(cut.whole);
+    }
+    for byte in field {
+        take_byte(alloc, &mut cut, *byte)?;
+    }
+    finish(cut)
+}
+
+pub(crate) fn is_special(byte: u8) -> bool
+    ensures { result ≡ is_special byte }
+{
+    byte == b'|' || byte == b'\\'
+}
+
+// Reads one byte more.
+fn take_byte(alloc: Global, cut: &mut Cut, byte: u8) -> Result<(), Memory>
+    ensures { OnOk result ((rest : List ℕ) → joined cut.new rest ≡ joined cut.old (byte ∷ rest)) }
+{
+    if cut.behind_backslash {
+        return take_behind(cut, byte);
+    }
+    match byte {
+        b'|' => end_piece(alloc, cut),
+        b'\\' => {
+            cut.behind_backslash = true;
+            Ok(())
+        }
+        _ => Ok(cut.piece.push(byte)?),
+    }
+}
+
+// Reads a byte behind a `\`.
+fn take_behind(cut: &mut Cut, byte: u8) -> Result<(), Memory>
+    requires { cut.old.behind_backslash ≡ true }
+    ensures { OnOk result ((rest : List ℕ) → joined cut.new rest ≡ joined cut.old (byte ∷ rest)) }
+{
+    cut.behind_backslash = false;
+    if is_special(byte) {
+        return Ok(cut.piece.push(byte)?);
+    }
+    cut.piece.push(b'\\')?;
+    Ok(cut.piece.push(byte)?)
+}
+
+// Ends the piece that is read, behind a `|`.
+fn end_piece(alloc: Global, cut: &mut Cut) -> Result<(), Memory>
+    requires { cut.old.behind_backslash ≡ false }
+    ensures { OnOk result ((rest : List ℕ) → joined cut.new rest ≡ joined cut.old (stroke ∷ rest)) }
+{
+    let piece = std::mem::replace(&mut cut.piece, Vec::new(alloc));
+    Ok(cut.whole.push(piece)?)
+}
+
+// All pieces, where nothing is left to be read.
+fn finish(cut: Cut) -> Result<Vec<Vec<u8>>, Memory>
+    ensures { IfOk result (λ all. all_bytes all ≡ joined cut []) }
+{
+    let Cut {
+        mut whole,
+        mut piece,
+        behind_backslash,
+    } = cut;
+    if behind_backslash {
+        piece.push(b'\\')?;
+    }
+    whole.push(piece)?;
+    Ok(whole)
+}
