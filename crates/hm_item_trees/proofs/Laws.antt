@@ -1,0 +1,32 @@
+-- A file of items has one tree.
+use Rattle.std.proofs.Common.{◌≡◌, List, [], ◌∷◌, refl, sym, ap, ◌∙◌, subst}
+use Rattle.hm_tree.specs.Names.{Name, name_cmp}
+use Rattle.hm_tree.specs.Nodes.{Tree, edges}
+use Rattle.hm_tree.specs.NodeLaws.{same_edges, tree_unmarked}
+use Rattle.hm_tree.proofs.Sorted.{name_total, name_one}
+use Rattle.hm_terms.specs.Parts.{HasItems, none_left, and_then, head, tail}
+use Rattle.hm_items.proofs.ReadBack.{grouped_once}
+use Rattle.hm_item_trees.specs.ItemTrees.{AreLists, IsItemTree}
+
+same : (t u : Tree) → edges t ≡ edges u → t ≡ u
+same t u = same_edges t u (tree_unmarked t) (tree_unmarked u)
+
+one_list : (xs : List Tree) (t u : Tree) → HasItems t xs → HasItems u xs → t ≡ u
+one_list [] t u (none_left a) (none_left b) = same t u (a ∙ sym b)
+one_list (x ∷ xs) t u (and_then {r = r} a h) (and_then {r = q} b g) =
+    same t u (a ∙ ap (λ (z : Tree). (head, x) ∷ (tail, z) ∷ []) (one_list xs r q h g) ∙ sym b)
+
+one_below : (es fs : List (Name × Tree)) (ls : List (Name × List Tree)) → AreLists es ls → AreLists fs ls → es ≡ fs
+one_below [] [] [] a b = refl
+one_below [] (f ∷ fs) [] a b = absurd b
+one_below (e ∷ es) fs [] a b = absurd a
+one_below [] fs (l ∷ ls) a b = absurd a
+one_below (e ∷ es) [] (l ∷ ls) a b = absurd b
+one_below (e ∷ es) (f ∷ fs) (l ∷ ls) a b =
+    λ i. ((a.0.0 ∙ sym b.0.0) i, one_list l.1 e.1 f.1 a.0.1 b.0.1 i) ∷ one_below es fs ls a.1 b.1 i
+
+-- items have one tree at the most
+pub item_tree_once : (items : List (Name × Tree)) (t u : Tree) → IsItemTree items t → IsItemTree items u → t ≡ u
+item_tree_once items t u a b =
+    same t u (one_below (edges t) (edges u) b.lists
+    (subst (AreLists (edges t)) (grouped_once name_cmp name_total name_one items a.lists b.lists a.grouped b.grouped) a.below) b.below)

@@ -1,0 +1,2 @@
+pub mod ItemTrees
+pub mod Gathered

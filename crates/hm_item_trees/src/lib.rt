@@ -1,0 +1,12 @@
+//! The trees of files that are lists of items, as an address book or a calendar is.
+//!
+//! Such a file has items in an order, each with a key, and what it shows of each is a tree. Its own tree has below each key
+//! the list of the items with that key, in file order (`specs/ItemTrees`): so two people of one name are two items of one
+//! list.
+#![tactic(auto)]
+
+mod gathering;
+#[cfg(test)]
+mod tests;
+
+pub use gathering::item_tree;

@@ -1,0 +1,59 @@
+//! Files of items, with expected trees by hand.
+use super::*;
+use hm_parts::{list_build, value};
+use hm_tree::{Memory, Name, Tree};
+use std::alloc::Global;
+use std::process::Abort;
+use std::test::Fail;
+
+fn shown(alloc: Global, text: &str) -> Result<Tree, Memory> {
+    value(alloc, Name::from_text(alloc, text)?)
+}
+
+fn add(alloc: Global, items: &mut Vec<(Name, Tree)>, key: &str, text: &str) -> Result<(), Memory> {
+    items.push((Name::from_text(alloc, key)?, shown(alloc, text)?))?;
+    Ok(())
+}
+
+fn expect_list(
+    rt: &impl Abort,
+    alloc: Global,
+    tree: &Tree,
+    key: &str,
+    texts: &[&str],
+) -> Result<(), Fail> {
+    let mut wanted = Vec::new(alloc);
+    for text in texts {
+        wanted.push(shown(alloc, text)?)?;
+    }
+    let Some(list) = tree.child(&Name::from_text(alloc, key)?) else {
+        assert!(rt; false, "{key}");
+        return Ok(());
+    };
+    assert!(rt; list.same(&list_build(wanted)?), "{key}");
+    Ok(())
+}
+
+#[test]
+fn items_with_one_key_are_a_list(rt: HostRuntime) -> Result<(), Fail> {
+    let alloc = rt.alloc();
+    let mut items = Vec::new(alloc);
+    add(alloc, &mut items, "Bob", "1")?;
+    add(alloc, &mut items, "Alice", "2")?;
+    add(alloc, &mut items, "Bob", "3")?;
+    add(alloc, &mut items, "", "4")?;
+    add(alloc, &mut items, "Bob", "2")?;
+    let tree = item_tree(alloc, items)?;
+    assert_eq!(rt; tree.count(), 3);
+    expect_list(&rt, alloc, &tree, "Bob", &["1", "3", "2"])?;
+    expect_list(&rt, alloc, &tree, "Alice", &["2"])?;
+    expect_list(&rt, alloc, &tree, "", &["4"])?;
+    Ok(())
+}
+
+#[test]
+fn no_item_is_the_empty_tree(rt: HostRuntime) -> Result<(), Fail> {
+    let alloc = rt.alloc();
+    assert_eq!(rt; item_tree(alloc, Vec::new(alloc))?.count(), 0);
+    Ok(())
+}
