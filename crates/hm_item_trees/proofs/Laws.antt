@@ -1,12 +1,14 @@
--- A file of items has one tree.
+-- A file of items has one tree, which can be taken apart.
+use Rattle.std.proofs.lemmas.List.Elements.{All-nil, All-cons}
+use Rattle.std.specs.Prelude.{All}
 use Rattle.std.proofs.Common.{◌≡◌, List, [], ◌∷◌, refl, sym, ap, ◌∙◌, subst}
 use Rattle.hm_tree.specs.Names.{Name, name_cmp}
 use Rattle.hm_tree.specs.Nodes.{Tree, edges}
 use Rattle.hm_tree.specs.NodeLaws.{same_edges, tree_unmarked}
 use Rattle.hm_tree.proofs.Sorted.{name_total, name_one}
-use Rattle.hm_terms.specs.Parts.{HasItems, none_left, and_then, head, tail}
+use Rattle.hm_terms.specs.Parts.{HasItems, IsList, none_left, and_then, no_items, an_item, head, tail}
 use Rattle.hm_items.proofs.ReadBack.{grouped_once}
-use Rattle.hm_item_trees.specs.ItemTrees.{AreLists, IsItemTree}
+use Rattle.hm_item_trees.specs.ItemTrees.{HasLists, AreLists, IsItemTree}
 
 same : (t u : Tree) → edges t ≡ edges u → t ≡ u
 same t u = same_edges t u (tree_unmarked t) (tree_unmarked u)
@@ -30,3 +32,17 @@ pub item_tree_once : (items : List (Name × Tree)) (t u : Tree) → IsItemTree i
 item_tree_once items t u a b =
     same t u (one_below (edges t) (edges u) b.lists
     (subst (AreLists (edges t)) (grouped_once name_cmp name_total name_one items a.lists b.lists a.grouped b.grouped) a.below) b.below)
+
+is_list : (xs : List Tree) (t : Tree) → HasItems t xs → IsList t
+is_list [] t (none_left nil) = no_items nil
+is_list (x ∷ xs) t (and_then {r = r} item h) = an_item item tt (is_list xs r h)
+
+each_is_list : (es : List (Name × Tree)) (ls : List (Name × List Tree)) → AreLists es ls → All (λ (e : Name × Tree). IsList e.1) es
+each_is_list [] [] h = All-nil (λ (e : Name × Tree). IsList e.1)
+each_is_list [] (l ∷ ls) h = absurd h
+each_is_list (e ∷ es) [] h = absurd h
+each_is_list (e ∷ es) (l ∷ ls) h = All-cons (λ (e : Name × Tree). IsList e.1) e es (is_list l.1 e.1 h.0.1) (each_is_list es ls h.1)
+
+-- the tree of items has lists, so that it can be taken apart
+pub has_lists : (items : List (Name × Tree)) (t : Tree) → IsItemTree items t → HasLists t
+has_lists items t is = each_is_list (edges t) is.lists is.below

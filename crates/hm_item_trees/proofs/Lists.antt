@@ -5,7 +5,7 @@ use Rattle.std.specs.declared.alloc.Global.{Global}
 use Rattle.std.specs.declared.cmp.Ordering.TheVariants.{Less}
 use Rattle.std.specs.List.{AllZip, AllByRecursion}
 use Rattle.std.specs.List.Sorted.{IsStrictlySortedBy}
-use Rattle.std.proofs.lemmas.List.{append-nil}
+use Rattle.std.proofs.lemmas.List.{append-nil, map-append}
 use Rattle.std.specs.Option.{unwrap_or}
 use Rattle.std.specs.Ordering.{eq_by_cmp, is_lt}
 use Rattle.std.specs.Str.{is_utf8}
@@ -23,19 +23,23 @@ use Rattle.hm_item_trees.specs.Gathered.{Gathered, list_of, lists_of, held, item
 abbrev Entries : Type 0
 Entries = List (Name × Vec Tree Global)
 
--- an edge stands for an entry: below the name of both is the list of its items
+-- an edge and an entry: below the name of both is the list of its items
+abbrev pub IsListOf : Name × Tree → Name × Vec Tree Global → Type 0
+IsListOf e p = (e.0 ≡ p.0) × HasItems e.1 p.1.items
+
+-- and the name is UTF-8, so that the edge may be one of a tree
 abbrev pub StandsFor : Name × Tree → Name × Vec Tree Global → Type 0
-StandsFor e p = (e.0 ≡ p.0) × HasItems e.1 p.1.items × T (is_utf8 e.0)
+StandsFor e p = IsListOf e p × T (is_utf8 e.0)
 
 abbrev pub StandFor : List (Name × Tree) → Entries → Type 0
 StandFor es ps = AllZip StandsFor es ps
 
-pub one_more : (es : List (Name × Tree)) (ps : Entries) (e : Name × Tree) (p : Name × Vec Tree Global) → StandFor es ps → StandsFor e p
-    → StandFor (es ++ e ∷ []) (ps ++ p ∷ [])
-one_more [] [] e p h s = (s, tt)
-one_more [] (q ∷ ps) e p h s = absurd h
-one_more (f ∷ es) [] e p h s = absurd h
-one_more (f ∷ es) (q ∷ ps) e p h s = (h.0, one_more es ps e p h.1 s)
+module _ {A B : Type 0} (R : A → B → Type 0) where
+  pub one_more : (xs : List A) (ys : List B) (x : A) (y : B) → AllZip R xs ys → R x y → AllZip R (xs ++ x ∷ []) (ys ++ y ∷ [])
+  one_more [] [] x y h r = (r, tt)
+  one_more [] (z ∷ ys) x y h r = absurd h
+  one_more (w ∷ xs) [] x y h r = absurd h
+  one_more (w ∷ xs) (z ∷ ys) x y h r = (h.0, one_more xs ys x y h.1 r)
 
 -- where no entry is left, the edges stand for all
 pub all_stand : (es : List (Name × Tree)) (taken left all ps : Entries) → StandFor es taken → taken ++ left ≡ all → left ≡ [] → all ≡ ps → StandFor es ps
@@ -46,19 +50,32 @@ names : (es : List (Name × Tree)) (ps : Entries) → StandFor es ps → keys_of
 names [] [] h = refl
 names [] (q ∷ ps) h = absurd h
 names (f ∷ es) [] h = absurd h
-names (f ∷ es) (q ∷ ps) h = λ i. h.0.0 i ∷ names es ps h.1 i
+names (f ∷ es) (q ∷ ps) h = λ i. h.0.0.0 i ∷ names es ps h.1 i
 
 texts : (es : List (Name × Tree)) (ps : Entries) → StandFor es ps → T (are_texts es)
 texts [] [] h = tt
 texts [] (q ∷ ps) h = absurd h
 texts (f ∷ es) [] h = absurd h
-texts (f ∷ es) (q ∷ ps) h = both _ _ h.0.2 (texts es ps h.1)
+texts (f ∷ es) (q ∷ ps) h = both _ _ h.0.1 (texts es ps h.1)
 
-lists : (es : List (Name × Tree)) (ps : Entries) → StandFor es ps → AreLists es (map list_of ps)
+-- what holds of an edge and an entry holds of the edge and the list of the entry's items
+lists : (es : List (Name × Tree)) (ps : Entries) → AllZip IsListOf es ps → AreLists es (map list_of ps)
 lists [] [] h = tt
 lists [] (q ∷ ps) h = absurd h
 lists (f ∷ es) [] h = absurd h
-lists (f ∷ es) (q ∷ ps) h = ((h.0.0, h.0.1), lists es ps h.1)
+lists (f ∷ es) (q ∷ ps) h = (h.0, lists es ps h.1)
+
+pub one_list_more : (es : List (Name × Tree)) (ps : Entries) (e : Name × Tree) (p : Name × Vec Tree Global) → AreLists es (map list_of ps)
+    → IsListOf e p → AreLists (es ++ e ∷ []) (map list_of (ps ++ p ∷ []))
+one_list_more es ps e p h r =
+    subst (AreLists (es ++ e ∷ [])) (sym (map-append list_of ps (p ∷ [])))
+    (one_more (λ (e : Name × Tree) (l : Name × List Tree). (e.0 ≡ l.0) × HasItems e.1 l.1) es (map list_of ps) e (list_of p) h r)
+
+standing_lists : (es : List (Name × Tree)) (ps : Entries) → StandFor es ps → AllZip IsListOf es ps
+standing_lists [] [] h = tt
+standing_lists [] (q ∷ ps) h = absurd h
+standing_lists (f ∷ es) [] h = absurd h
+standing_lists (f ∷ es) (q ∷ ps) h = (h.0.0, standing_lists es ps h.1)
 
 module _ {X : Type 0} where
   above : (n : Name) (es : List (Name × X)) → AllByRecursion (λ m. name_cmp n m ≡ Less) (keys_of es) → T (Rattle.std.specs.FinMap.Entries.below_all name_cmp n es)
@@ -114,5 +131,5 @@ made_tree items m es t is h ascend filled each = record {
     };
     each = λ k. ap (λ o. unwrap_or o []) (found k m.entries) ∙ held_of (get name_cmp m k) ∙ each k;
   };
-  below = subst (λ l. AreLists l (lists_of m)) (sym (ap edges is ∙ edges-node es (made_edges es m.entries h ascend))) (lists es m.entries h);
+  below = subst (λ l. AreLists l (lists_of m)) (sym (ap edges is ∙ edges-node es (made_edges es m.entries h ascend))) (lists es m.entries (standing_lists es m.entries h));
 }

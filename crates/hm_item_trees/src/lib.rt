@@ -2,11 +2,14 @@
 //!
 //! Such a file has items in an order, each with a key, and what it shows of each is a tree. Its own tree has below each key
 //! the list of the items with that key, in file order (`specs/ItemTrees`): so two people of one name are two items of one
-//! list.
+//! list. `item_tree` makes that tree of items, and `item_lists` takes a tree apart into its lists, for the file to be written
+//! anew.
 #![tactic(auto)]
 
 mod gathering;
+mod listing;
 #[cfg(test)]
 mod tests;
 
 pub use gathering::item_tree;
+pub use listing::item_lists;

@@ -57,3 +57,21 @@ fn no_item_is_the_empty_tree(rt: HostRuntime) -> Result<(), Fail> {
     assert_eq!(rt; item_tree(alloc, Vec::new(alloc))?.count(), 0);
     Ok(())
 }
+
+#[test]
+#[tactic(auto, using(crate::proofs::Laws::has_lists))]
+fn a_tree_is_taken_apart_into_its_lists(rt: HostRuntime) -> Result<(), Fail> {
+    let alloc = rt.alloc();
+    let mut items = Vec::new(alloc);
+    add(alloc, &mut items, "Bob", "2")?;
+    add(alloc, &mut items, "Alice", "3")?;
+    add(alloc, &mut items, "Bob", "1")?;
+    let lists = item_lists(alloc, item_tree(alloc, items)?)?;
+    assert_eq!(rt; lists.len(), 2);
+    assert_eq!(rt; lists[0].0.text(), "Alice");
+    assert_eq!(rt; lists[1].0.text(), "Bob");
+    assert_eq!(rt; lists[1].1.len(), 2);
+    assert!(rt; lists[1].1[0].same(&shown(alloc, "2")?));
+    assert!(rt; lists[1].1[1].same(&shown(alloc, "1")?));
+    Ok(())
+}

@@ -3,7 +3,7 @@ use Rattle.std.proofs.lemmas.List.{append_assoc}
 use Rattle.std.proofs.lemmas.Result.{IfOk-weaker}
 use Rattle.std.specs.Prelude.{IsUtf8}
 use Rattle.hm_tree.proofs.Texts.{text_test}
-use Rattle.hm_item_trees.proofs.Lists.{StandFor, one_more, all_stand, made_edges, made_tree}
+use Rattle.hm_item_trees.proofs.Lists.{StandsFor, StandFor, one_more, all_stand, made_edges, made_tree}
 use Rattle.hm_item_trees.proofs.gathering.item_tree.Goals as goal
 
 pub loop-name-init : goal.loop-name-init
@@ -15,8 +15,8 @@ loop-name-init c = record {
 pub loop-name-preserved : goal.loop-name-preserved
 loop-name-preserved c = record {
   stand = subst (λ es. StandFor es (c.loop-name.yielded ++ (c.in-Some.name, c.in-Some.list) ∷ [])) (sym c.in_ok-push.ensures.items)
-      (one_more c.loop-name.edges.items c.loop-name.yielded (c.in-Some.name, c.in_ok-list_build.field-0) (c.in-Some.name, c.in-Some.list)
-      c.loop-name.invariant.stand (refl, c.in_ok-list_build.ensures, text_test c.in-Some.name (subst IsUtf8 c.push.view_is c.push.invariant)));
+      (one_more StandsFor c.loop-name.edges.items c.loop-name.yielded (c.in-Some.name, c.in_ok-list_build.field-0) (c.in-Some.name, c.in-Some.list)
+      c.loop-name.invariant.stand ((refl, c.in_ok-list_build.ensures), text_test c.in-Some.name (subst IsUtf8 c.push.view_is c.push.invariant)));
   whole =
       append_assoc c.loop-name.yielded ((c.in-Some.name, c.in-Some.list) ∷ []) c.next.new.self
       ∙ ap (λ left. c.loop-name.yielded ++ left) (sym c.in-Some.ensures.steps)
