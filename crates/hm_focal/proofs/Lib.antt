@@ -4,6 +4,7 @@ mod ReadUpTo
 mod Formats
 mod Heads
 mod Owns
+mod Once
 mod Placing
 mod Called
 mod LensNames

@@ -11,7 +11,8 @@
 //! Each stands on a line of its own, as `hm_node_lines` says of the others, whose gaps, words and names of edges these
 //! are; a term is as `hm_term_text` says. A file is read line by line, each as a line of a node and as one of the file's
 //! own; a line out of its place is neither, and declares nothing. The lines are judged one after another, up to the
-//! first bad one; where none is bad and the main line is there, they describe the program.
+//! first bad one; where none is bad and the main line is there, they describe the program. A file comes to one program or
+//! one bad line (`proofs/Laws`).
 //!
 //! A program that was read has one text (`specs/Writing`), which is read as the same program again.
 #![tactic(auto)]

@@ -30,8 +30,7 @@ pub record IsCounted (p : EntryValue → Bool) (es : List EntryValue) (n : ℕ) 
   pub counted : p entry ≡ true
   pub before : count_by p (take place es) ≡ n
 
-pub count_cons : (p : EntryValue → Bool) (e : EntryValue) (es : List EntryValue) (b : Bool) → p e ≡ b
-    → count_by p (e ∷ es) ≡ cond b 1 0 + count_by p es
+pub count_cons : {X : Type 0} (p : X → Bool) (e : X) (es : List X) (b : Bool) → p e ≡ b → count_by p (e ∷ es) ≡ cond b 1 0 + count_by p es
 count_cons p e es b h = sum_by-cons (λ x. cond (p x) 1 0) e es ∙ ap (λ (z : Bool). cond z 1 0 + count_by p es) h
 
 -- each number below the count is that of a line
@@ -57,7 +56,7 @@ counted p (e ∷ es) n h = go (λ m. counted p es m) (p e) refl n h
     go more false is n h = let c = count_cons p e es false is in further false n n is (omega arith) (more n (omega arith))
 
 -- more are counted before a later line, and in all
-pub more_before : (p : EntryValue → Bool) (es : List EntryValue) (i j : ℕ) (e : EntryValue) → slice_get es i ≡ Some e → p e ≡ true → i < j
+pub more_before : {X : Type 0} (p : X → Bool) (es : List X) (i j : ℕ) (e : X) → slice_get es i ≡ Some e → p e ≡ true → i < j
     → count_by p (take i es) < count_by p (take j es)
 more_before p [] i j e is told h = let f : ⊥ = cc in absurd f
 more_before p (d ∷ es) i zero e is told h = absurd (omega arith)
@@ -71,7 +70,7 @@ more_before p (d ∷ es) (suc i) (suc j) e is told h =
     let there = count_cons p d (take j es) (p d) refl in
     omega arith
 
-pub counted_below : (p : EntryValue → Bool) (es : List EntryValue) (i : ℕ) (e : EntryValue) → slice_get es i ≡ Some e → p e ≡ true
+pub counted_below : {X : Type 0} (p : X → Bool) (es : List X) (i : ℕ) (e : X) → slice_get es i ≡ Some e → p e ≡ true
     → count_by p (take i es) < count_by p es
 counted_below p es i e is told = subst (λ z. count_by p (take i es) < count_by p z) (take_all (length es) es (omega arith))
     (more_before p es i (length es) e is told (slice_get_within es i e is))

@@ -124,7 +124,7 @@ kind_once ts i j h k = same_kind ts i j (sym (first_is ts i h) ∙ first_is ts j
 
 -- ---- lines
 
-line_once : (line : List ℕ) (i j : NodeLineValue) → IsNodeLine line i → IsNodeLine line j → i ≡ j
+pub line_once : (line : List ℕ) (i j : NodeLineValue) → IsNodeLine line i → IsNodeLine line j → i ≡ j
 line_once line i j h k = kind_once k.tokens i j (line_tokens line i j h k) k.says
 
 entry_once : (line : List ℕ) (d e : EntryValue) → IsEntry line d → IsEntry line e → d ≡ e
@@ -138,7 +138,7 @@ entry_once line (says i) skipped h k = absurd (h.0 k)
 entry_once line (says i) unknown h k = absurd (k.1 i h.1)
 entry_once line (says i) (says j) h k = ap says (line_once line i j h.1 k.1)
 
-zip_once : {A B : Type 0} (R : A → B → Type 0) → ((x : A) (y z : B) → R x y → R x z → y ≡ z) → (xs : List A) (ys zs : List B) → AllZip R xs ys
+pub zip_once : {A B : Type 0} (R : A → B → Type 0) → ((x : A) (y z : B) → R x y → R x z → y ≡ z) → (xs : List A) (ys zs : List B) → AllZip R xs ys
     → AllZip R xs zs → ys ≡ zs
 zip_once R one [] [] [] h k = refl
 zip_once R one [] [] (z ∷ zs) h k = absurd k

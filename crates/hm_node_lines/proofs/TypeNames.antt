@@ -39,6 +39,14 @@ module _ (es : List EntryValue) where
       let name : l.0 ≡ w = same_Some l.0 w (sym here ∙ is) in
       subst (λ (v : Name). IsPlaceOf es v a) name (subst (IsPlaceOf es l.0) c.before (declared c.place l.1))
 
+  -- nodes are named in one way alone
+  pub names_are_one : (own xs ys : List Name) → AreTypeNames es own xs → AreTypeNames es own ys → xs ≡ ys
+  names_are_one own xs ys h k = go (names_empty_or es own)
+    where
+      go : NamesEmpty es own ⊎ (NamesEmpty es own → ⊥) → xs ≡ ys
+      go (inl it) = h.long it ∙ sym (k.long it)
+      go (inr not_it) = h.short not_it ∙ sym (k.short not_it)
+
   module _ (sound : HasNoBad (IsBadNodeLine es)) (own names : List Name) (types : List NodeValue) (n : AreTypeNames es own names)
       (t : AreNodesOf es own types) where
     pub type_count : length names ≡ length types
