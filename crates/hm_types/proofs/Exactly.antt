@@ -18,14 +18,15 @@ use Rattle.hm_types.specs.Checks.{IsFault, IsMistyped, in_definition, in_main, I
 use Rattle.hm_types.proofs.Entries.{found_once}
 use Rattle.hm_types.proofs.TextTypes.{known_names}
 
-module _ (texts : Classes) (p : ProgramValue) (s : SchemaValue) (well : IsWellFormed p) (shown : Form) (typed : IsTyped texts p (form s.nodes s.root) shown) where
-  mistyped_definition : (d : DefinitionValue) (a : At) → IsTypedDefinition texts p d → IsMistypedDefinition texts p d a → ⊥
+module _ (texts : Classes) (p : ProgramValue) where
+  pub mistyped_definition : (d : DefinitionValue) (a : At) → IsTypedDefinition texts p d → IsMistypedDefinition texts p d a → ⊥
   mistyped_definition d a t (no_view f) = never_both (types_of texts p) d.body 1 (form p.options.types d.source) t.view a t.goes f
   mistyped_definition d a t (other_view g f) = f (subst (λ v. IsSame v (form p.options.types d.view)) (goes_once (types_of texts p) t.goes g) t.same)
 
+module _ (texts : Classes) (p : ProgramValue) (s : SchemaValue) (well : IsWellFormed p) (shown : Form) (typed : IsTyped texts p (form s.nodes s.root) shown) where
   mistyped : (number : ℕ) (a : At) → IsMistyped texts p s number a → ⊥
   mistyped number a (in_definition {i = i} {n = n} {d = d} before at m) =
-      mistyped_definition d a (typed.definitions n d (found_once p.definitions well.definition_names i n d at)) m
+      mistyped_definition texts p d a (typed.definitions n d (found_once p.definitions well.definition_names i n d at)) m
   mistyped number a (in_main before f) = never_both (types_of texts p) p.main 1 (form s.nodes s.root) shown a typed.main f
 
   pub told_of_none : (e : TypeFault) → IsFault texts p s e → e ≡ Memory

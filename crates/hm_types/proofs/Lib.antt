@@ -24,5 +24,6 @@ mod FitsOver
 mod CheckSteps
 mod Beginning
 pub mod Exactly
+pub mod Once
 mod StandsOver
 mod AlikeLists

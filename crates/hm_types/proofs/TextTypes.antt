@@ -1,5 +1,5 @@
 -- Text lenses by their names: the classes between which they go, and the first one that isn't there.
-use Rattle.std.proofs.Common.{◌≡◌, ℕ, zero, suc, ◌+◌, ◌<◌, Bool, true, false, not, cond, is_some, IsSome, List, [], ◌∷◌, ◌++◌, length, map, take, drop, find, slice_get, append_assoc, Option, Some, None, All, refl, sym, ap, subst, ◌∙◌, arith}
+use Rattle.std.proofs.Common.{◌≡◌, ℕ, zero, suc, ◌+◌, Bool, true, false, not, cond, is_some, IsSome, List, [], ◌∷◌, ◌++◌, map, take, drop, find, slice_get, append_assoc, Option, Some, None, All, refl, sym, ap, subst, ◌∙◌, arith}
 use Rattle.std.specs.Option.{option_map, option_or}
 use Rattle.std.specs.Ordering.{eq_by_cmp}
 use Rattle.std.proofs.lemmas.Bool.{true≢false}

@@ -1,5 +1,5 @@
 -- What the check of a program answers: it is typed, or the first condition isn't met.
-use Rattle.std.specs.Prelude.{◌≡◌, ◌<◌, ◌+◌, ℕ, List, length, Some, slice_get, All}
+use Rattle.std.specs.Prelude.{◌≡◌, ◌<◌, ◌+◌, ℕ, List, length, Some, slice_get, All, Result, Ok, Err}
 use Rattle.hm_tree.specs.Names.{Name}
 use Rattle.hm_tree.specs.Nodes.{Tree}
 use Rattle.hm_tree.specs.States.{state}
@@ -119,3 +119,11 @@ IsFault texts p s (Mistyped definition term rule) = IsGuarded texts p × IsMisty
 IsFault texts p s (TwinLeft definition term) =
     IsGuarded texts p × (HasTwinsLeft texts p s × ((definition ≡ length p.definitions + 1) × IsFirstCopy p.main term))
 IsFault texts p s Memory = Unit {0}
+
+-- ---- what the check comes to
+
+-- with some text lenses and a source: the view of the main lens, or what is wrong with the program, but no want of memory
+abbrev pub Checks : List TextMeaning → ProgramValue → SchemaValue → Result SchemaValue TypeFault → Type 0
+Checks texts p s (Ok view) = (shown : Form) × IsTyped (classes_in texts) p (form s.nodes s.root) shown × IsNumbered shown view
+Checks texts p s (Err Memory) = ⊥
+Checks texts p s (Err fault) = IsFault (classes_in texts) p s fault
