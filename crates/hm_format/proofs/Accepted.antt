@@ -1,5 +1,5 @@
 -- The values of a key obey its rule, where no key is bad.
-use Rattle.std.proofs.Common.{◌≡◌, ℕ, suc, ◌<◌, Bool, true, false, not, cond, ◌&&◌, ◌||◌, IsTrue, List, [], ◌∷◌, ◌++◌, length, unwrap_or, Option, Some, None, refl, sym, ap, ◌∙◌, arith}
+use Rattle.std.proofs.Common.{◌≡◌, ℕ, suc, ◌<◌, Bool, true, false, not, cond, ◌&&◌, ◌||◌, IsTrue, List, [], ◌∷◌, ◌++◌, length, unwrap_or, Option, Some, None, Ok, refl, sym, ap, ◌∙◌, arith}
 use Rattle.std.specs.List.{find, list_all, list_any}
 use Rattle.std.specs.Option.{option_map, option_or}
 use Rattle.std.specs.declared.cmp.Ordering.{Ordering}
@@ -10,19 +10,19 @@ use Rattle.std.specs.FinMap as map
 use Rattle.std.specs.FinSet.{contains-from_list}
 use Rattle.hm_tree.specs.Names.{Name, name_cmp}
 use Rattle.hm_tree.proofs.Sorted.{name_total, name_one}
-use Rattle.hm_schema.specs.Values.{OptionsValue}
-use Rattle.hm_format.specs.Options.{Rule, Rules, Pairs, is_among, has_double, exceeds, values_of, breaks, is_bad, first_bad, is_missing, bad_key, place_of}
+use Rattle.hm_schema.specs.Values.{OptionsValue, SchemaValue}
+use Rattle.hm_format.specs.Options.{Rule, Rules, Pairs, is_among, has_double, exceeds, values_of, breaks, is_bad, first_bad, is_missing, bad_key, accepted, place_of}
 
-equal : (o : Ordering) → is_eq o ≡ true → o ≡ Equal
+pub equal : (o : Ordering) → is_eq o ≡ true → o ≡ Equal
 equal Less e = let no : ⊥ = cc in absurd no
 equal Equal e = refl
 equal Greater e = let no : ⊥ = cc in absurd no
 
-neither : (a b : Bool) → (a || b) ≡ false → (a ≡ false) × (b ≡ false)
+pub neither : (a b : Bool) → (a || b) ≡ false → (a ≡ false) × (b ≡ false)
 neither true b e = let no : ⊥ = cc in absurd no
 neither false b e = (refl, e)
 
-not_false : (b : Bool) → not b ≡ false → b ≡ true
+pub not_false : (b : Bool) → not b ≡ false → b ≡ true
 not_false true e = refl
 not_false false e = let no : ⊥ = cc in absurd no
 
@@ -75,7 +75,7 @@ module _ (rules : Rules) (declared : List Name) where
 
 -- ---- of all keys
 
-first_none : (a b : Option Name) → option_or a b ≡ None → (a ≡ None) × (b ≡ None)
+pub first_none : (a b : Option Name) → option_or a b ≡ None → (a ≡ None) × (b ≡ None)
 first_none None b e = (refl, e)
 first_none (Some x) b e = let no : ⊥ = cc in absurd no
 
@@ -91,6 +91,18 @@ none_missing rules o none = go (find (is_missing o.pairs) rules) (first_none _ _
     go : (found : Option (Name × Rule)) → option_map (λ r. r.0) found ≡ None → found ≡ None
     go None e = refl
     go (Some r) e = let no : ⊥ = cc in absurd no
+
+-- ---- options that are accepted
+
+-- their schema is the wanted one
+pub schema_given : (bad : Option Name) (wanted s : SchemaValue) → accepted bad wanted ≡ Ok s → wanted ≡ s
+schema_given None wanted s e = cc
+schema_given (Some key) wanted s e = let no : ⊥ = cc in absurd no
+
+-- and no key of theirs is bad
+pub no_bad_key : (bad : Option Name) (wanted s : SchemaValue) → accepted bad wanted ≡ Ok s → bad ≡ None
+no_bad_key None wanted s e = refl
+no_bad_key (Some key) wanted s e = let no : ⊥ = cc in absurd no
 
 -- ---- the place of a name that is declared
 

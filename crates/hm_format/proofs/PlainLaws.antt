@@ -1,9 +1,8 @@
 -- The format of texts of trees meets the laws.
-use Rattle.std.proofs.Common.{◌≡◌, ◌≢◌, ℕ, ◌≤◌, nat_lt, List, [], length, Option, Some, None, Result, Ok, Err, refl, sym, ap, subst, ◌∙◌, arith}
+use Rattle.std.proofs.Common.{◌≡◌, ◌≢◌, ℕ, ◌≤◌, nat_lt, List, [], length, Some, None, Result, Ok, Err, refl, sym, ap, subst, ◌∙◌, arith}
 use Rattle.std.specs.Prelude.{IsUtf8}
 use Rattle.std.proofs.lemmas.Bool.{cond_both}
 use Rattle.std.proofs.lemmas.Bool.Decides.{nat_tests}
-use Rattle.hm_tree.specs.Names.{Name}
 use Rattle.hm_tree.specs.Nodes.{Tree, depth}
 use Rattle.hm_tree.specs.States.{Path, state}
 use Rattle.hm_tree.proofs.PathLaws.{first_once}
@@ -20,8 +19,10 @@ use Rattle.hm_schema.specs.Membership.{IsOutside, IsFirstOutside, HasNoTwins}
 use Rattle.hm_format.specs.declared.fault.FormatFault.{FormatFault}
 use Rattle.hm_format.specs.declared.fault.FormatFault.TheVariants.{BadOption, NotUtf8, BadItem, NoKey, TooDeep, Outside, Memory}
 use Rattle.hm_format.specs.Options.{AreSound, bad_key}
-use Rattle.hm_format.specs.Formats.{IsLawful, IsMemberTree, IsReadFault, HasSchema}
-use Rattle.hm_format.specs.Plain.{IsOutsideText, PlainReads, accepted, deepest, plain, plain_rules, plain_schema}
+use Rattle.hm_format.specs.Formats.{IsLawful, IsMemberTree, IsReadFault, HasSchema, deepest, depth_over}
+use Rattle.hm_format.proofs.Limits.{shallow, not_over}
+use Rattle.hm_format.proofs.Accepted.{schema_given, no_bad_key}
+use Rattle.hm_format.specs.Plain.{IsOutsideText, PlainReads, plain, plain_rules, plain_schema}
 
 -- a text is UTF-8
 text_utf8 : (t : Tree) (bytes : List ℕ) → IsTreeText t bytes → IsUtf8 bytes
@@ -96,25 +97,10 @@ read_faults s bytes Memory h = absurd h
 
 -- the schema of options that are the format's
 schema_is : (o : OptionsValue) (s : SchemaValue) → HasSchema plain o s → plain_schema o ≡ s
-schema_is o s = go (bad_key plain_rules o) (plain_schema o) s
-  where
-    go : (bad : Option Name) (wanted s : SchemaValue) → accepted bad wanted ≡ Ok s → wanted ≡ s
-    go None wanted s e = cc
-    go (Some key) wanted s e = let no : ⊥ = cc in absurd no
+schema_is o s = schema_given (bad_key plain_rules o) (plain_schema o) s
 
 pub none_bad : (o : OptionsValue) (s : SchemaValue) → HasSchema plain o s → bad_key plain_rules o ≡ None
-none_bad o s = go (bad_key plain_rules o) (plain_schema o)
-  where
-    go : (bad : Option Name) (wanted : SchemaValue) → accepted bad wanted ≡ Ok s → bad ≡ None
-    go None wanted e = refl
-    go (Some key) wanted e = let no : ⊥ = cc in absurd no
-
-shallow : (t : Tree) → plain.over t ≡ None → depth t ≤ deepest
-shallow t = cond_both (nat_lt deepest (depth t)) (Some (depth t)) None (λ o. o ≡ None → depth t ≤ deepest)
-    (λ is e. let no : ⊥ = cc in absurd no) (λ not _. grind (arith, nat_tests))
-
-not_over : (t : Tree) → depth t ≤ deepest → plain.over t ≡ None
-not_over t le = cond_both (nat_lt deepest (depth t)) (Some (depth t)) None (λ o. o ≡ None) (λ is. absurd (grind (arith, nat_tests))) (λ not. refl)
+none_bad o s = no_bad_key (bad_key plain_rules o) (plain_schema o) s
 
 twinless : (o : OptionsValue) → AreSound o → HasNoTwins (plain_schema o)
 twinless o sound i n at = (all_read (λ n. IsWellFormedNode (length o.types) n × (n.twins ≡ [])) o.types i.place n at sound.types).1
@@ -124,10 +110,11 @@ plain_lawful = record {
   read_once = λ o. read_once (plain_schema o);
   read_faults = λ o. read_faults (plain_schema o);
   no_twins = λ o s sound has. subst HasNoTwins (schema_is o s has) (twinless o sound);
-  members = λ o s bytes t has h. subst (λ s. IsMemberTree s t) (schema_is o s has) h.1;
+  members = λ o s bytes t sound has h. subst (λ s. IsMemberTree s t) (schema_is o s has) h.1;
   within = λ o s bytes t has h. not_over t h.0.shallow;
-  put_get = λ o s before old t has read member over.
-      (record { spelled = refl; shallow = shallow t over }, subst (λ s. IsMemberTree s t) (sym (schema_is o s has)) member);
-  get_put = λ o before t h. sym h.0.spelled;
-  kept = λ o s before old t has read member over. tt;
+  writes_once = λ o t before one other h k. h ∙ sym k;
+  put_get = λ o s before after old t sound has read member over made.
+      (record { spelled = made; shallow = shallow t over }, subst (λ s. IsMemberTree s t) (sym (schema_is o s has)) member);
+  get_put = λ o before t sound h. h.0.spelled;
+  kept = λ o s before after old t sound has read member over made. tt;
 }

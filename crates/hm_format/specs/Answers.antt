@@ -29,13 +29,13 @@ Reads reads (Err (TooDeep depth)) = reads (Err (TooDeep depth))
 Reads reads (Err (Outside path)) = reads (Err (Outside path))
 Reads reads (Err Memory) = Unit {0}
 
--- the bytes that are wanted, or the depth that is over the limit
-abbrev pub Writes : Option ℕ → List ℕ → Result (Vec ℕ Global) FormatFault → Type 0
-Writes over wanted (Ok bytes) = (over ≡ None) × (bytes.items ≡ wanted)
-Writes over wanted (Err (TooDeep depth)) = over ≡ Some depth
-Writes over wanted (Err Memory) = Unit {0}
-Writes over wanted (Err (BadOption key)) = ⊥
-Writes over wanted (Err (NotUtf8 at)) = ⊥
-Writes over wanted (Err (BadItem number)) = ⊥
-Writes over wanted (Err (NoKey number)) = ⊥
-Writes over wanted (Err (Outside path)) = ⊥
+-- what is written, or the depth that is over the limit
+abbrev pub Writes : Option ℕ → (List ℕ → Type 0) → Result (Vec ℕ Global) FormatFault → Type 0
+Writes over writes (Ok bytes) = (over ≡ None) × writes bytes.items
+Writes over writes (Err (TooDeep depth)) = over ≡ Some depth
+Writes over writes (Err Memory) = Unit {0}
+Writes over writes (Err (BadOption key)) = ⊥
+Writes over writes (Err (NotUtf8 at)) = ⊥
+Writes over writes (Err (BadItem number)) = ⊥
+Writes over writes (Err (NoKey number)) = ⊥
+Writes over writes (Err (Outside path)) = ⊥

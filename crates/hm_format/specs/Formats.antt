@@ -1,13 +1,20 @@
 -- What formats mean, and the laws that they meet (TOPLAS 2007, section 3: PutGet and GetPut).
-use Rattle.std.specs.Prelude.{◌≡◌, ℕ, List, Option, Some, None, Result, Ok, Err}
+use Rattle.std.specs.Prelude.{◌≡◌, ℕ, nat_lt, cond, List, Option, Some, None, Result, Ok, Err}
 use Rattle.hm_tree.specs.Names.{Name}
-use Rattle.hm_tree.specs.Nodes.{Tree}
+use Rattle.hm_tree.specs.Nodes.{Tree, depth}
 use Rattle.hm_tree.specs.States.{state}
 use Rattle.hm_schema.specs.Values.{SchemaValue, OptionsValue}
 use Rattle.hm_schema.specs.Membership.{IsMember, HasNoTwins}
 use Rattle.hm_format.specs.declared.fault.FormatFault.{FormatFault}
 use Rattle.hm_format.specs.declared.fault.FormatFault.TheVariants.{BadOption, NotUtf8, BadItem, NoKey, TooDeep, Outside, Memory}
 use Rattle.hm_format.specs.Options.{AreSound}
+
+-- a tree of a depth above 1,000 isn't written, and no bytes are read as one
+abbrev pub deepest : ℕ
+deepest = 1000
+
+abbrev pub depth_over : Tree → Option ℕ
+depth_over t = cond (nat_lt deepest (depth t)) (Some (depth t)) None
 
 pub record FormatMeaning : Type 1 where
   pub tag : ℕ
@@ -17,8 +24,8 @@ pub record FormatMeaning : Type 1 where
   pub reads : OptionsValue → List ℕ → Result Tree FormatFault → Type 0
   -- the depth of a tree, where it is over the limit
   pub over : Tree → Option ℕ
-  -- the bytes of a tree, behind the bytes from before
-  pub written_of : OptionsValue → Tree → List ℕ → List ℕ
+  -- what is written of a tree, behind the bytes from before
+  pub writes : OptionsValue → Tree → List ℕ → List ℕ → Type 0
   -- from the one bytes to the others all stays that the trees don't show
   pub keeps : OptionsValue → List ℕ → List ℕ → Type 0
 
@@ -59,13 +66,14 @@ pub record IsLawful (m : FormatMeaning) : Type 0 where
   -- schemas have no twins
   pub no_twins : (o : OptionsValue) (s : SchemaValue) → AreSound o → HasSchema m o s → HasNoTwins s
   -- what is read is a member of the schema, within the limit of depth
-  pub members : (o : OptionsValue) (s : SchemaValue) (bytes : List ℕ) (t : Tree) → HasSchema m o s → m.reads o bytes (Ok t) → IsMemberTree s t
+  pub members : (o : OptionsValue) (s : SchemaValue) (bytes : List ℕ) (t : Tree) → AreSound o → HasSchema m o s → m.reads o bytes (Ok t) → IsMemberTree s t
   pub within : (o : OptionsValue) (s : SchemaValue) (bytes : List ℕ) (t : Tree) → HasSchema m o s → m.reads o bytes (Ok t) → m.over t ≡ None
-  -- what is written is read as the tree
-  pub put_get : (o : OptionsValue) (s : SchemaValue) (before : List ℕ) (old t : Tree) → HasSchema m o s → m.reads o before (Ok old)
-      → IsMemberTree s t → m.over t ≡ None → m.reads o (m.written_of o t before) (Ok t)
+  -- of a tree one text is written, and it is read as the tree
+  pub writes_once : (o : OptionsValue) (t : Tree) (before one other : List ℕ) → m.writes o t before one → m.writes o t before other → one ≡ other
+  pub put_get : (o : OptionsValue) (s : SchemaValue) (before after : List ℕ) (old t : Tree) → AreSound o → HasSchema m o s → m.reads o before (Ok old)
+      → IsMemberTree s t → m.over t ≡ None → m.writes o t before after → m.reads o after (Ok t)
   -- and the bytes stay where they are read as the tree
-  pub get_put : (o : OptionsValue) (before : List ℕ) (t : Tree) → m.reads o before (Ok t) → m.written_of o t before ≡ before
+  pub get_put : (o : OptionsValue) (before : List ℕ) (t : Tree) → AreSound o → m.reads o before (Ok t) → m.writes o t before before
   -- what the trees don't show stays
-  pub kept : (o : OptionsValue) (s : SchemaValue) (before : List ℕ) (old t : Tree) → HasSchema m o s → m.reads o before (Ok old)
-      → IsMemberTree s t → m.over t ≡ None → m.keeps o before (m.written_of o t before)
+  pub kept : (o : OptionsValue) (s : SchemaValue) (before after : List ℕ) (old t : Tree) → AreSound o → HasSchema m o s → m.reads o before (Ok old)
+      → IsMemberTree s t → m.over t ≡ None → m.writes o t before after → m.keeps o before after

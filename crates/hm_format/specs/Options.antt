@@ -1,5 +1,5 @@
 -- Which options a format takes, by a table of its keys.
-use Rattle.std.specs.Prelude.{◌≡◌, ℕ, suc, Bool, true, false, not, cond, ◌&&◌, ◌||◌, nat_lt, All, List, [], ◌∷◌, ◌++◌, length, take, get_or, is_some, unwrap_or, Option, Some, None}
+use Rattle.std.specs.Prelude.{◌≡◌, ℕ, suc, Bool, true, false, not, cond, ◌&&◌, ◌||◌, nat_lt, All, List, [], ◌∷◌, ◌++◌, length, take, get_or, is_some, unwrap_or, Option, Some, None, Result, Ok, Err, IsUtf8}
 use Rattle.std.specs.List.{find, list_all, flat_map}
 use Rattle.std.specs.Option.{option_or, option_map}
 use Rattle.std.specs.Ordering.{eq_by_cmp}
@@ -7,7 +7,7 @@ use Rattle.std.specs.FinMap as map
 use Rattle.std.specs.FinSet.{from_list, contains}
 use Rattle.hm_tree.specs.Names.{Name, name_cmp}
 use Rattle.hm_tree.specs.Sets.{ascending}
-use Rattle.hm_schema.specs.Values.{OptionsValue}
+use Rattle.hm_schema.specs.Values.{OptionsValue, SchemaValue}
 use Rattle.hm_schema.specs.WellFormed.{IsWellFormedNode}
 use Rattle.hm_format.specs.declared.keys.Key.{Key}
 
@@ -82,10 +82,17 @@ first_missing rules pairs = option_map (λ r. r.0) (find (is_missing pairs) rule
 abbrev pub bad_key : Rules → OptionsValue → Option Name
 bad_key rules o = option_or (first_bad rules o.type_names [] o.pairs) (first_missing rules o.pairs)
 
--- ---- nodes
+-- the schema of options of which none is bad, or the key that is
+abbrev pub accepted : Option Name → SchemaValue → Result SchemaValue Name
+accepted None s = Ok s
+accepted (Some key) s = Err key
 
--- the nodes that a lens file declares: each has a name, is well formed among them, and has no twins
+-- ---- what is sound
+
+-- the options of a lens file: values are UTF-8, and the nodes that it declares each have a name, are well formed among them,
+-- and have no twins
 pub record AreSound (o : OptionsValue) : Type 0 where
+  pub texts : All (λ (p : Name × List Name). All IsUtf8 p.1) o.pairs
   pub named : length o.type_names ≡ length o.types
   pub types : All (λ n. IsWellFormedNode (length o.types) n × (n.twins ≡ [])) o.types
 

@@ -1,8 +1,8 @@
 -- The format of files that are the text of a tree (`hm_tree_text`). They hide nothing.
-use Rattle.std.specs.Prelude.{◌≡◌, ℕ, true, nat_lt, cond, List, [], ◌∷◌, codes, Option, Some, None, Result, Ok, Err, IsUtf8}
+use Rattle.std.specs.Prelude.{◌≡◌, ℕ, true, List, [], ◌∷◌, codes, Option, Some, None, Result, Ok, Err, IsUtf8}
 use Rattle.std.specs.Str.Lossy.{utf8_valid_len}
 use Rattle.hm_tree.specs.Names.{Name}
-use Rattle.hm_tree.specs.Nodes.{Tree, depth}
+use Rattle.hm_tree.specs.Nodes.{Tree}
 use Rattle.hm_tree.specs.States.{state}
 use Rattle.hm_tree_text.specs.Text.{tree_text}
 use Rattle.hm_tree_text.specs.Files.{IsTreeText}
@@ -12,8 +12,8 @@ use Rattle.hm_schema.specs.Values.{SchemaValue, OptionsValue}
 use Rattle.hm_schema.specs.Membership.{IsFirstOutside}
 use Rattle.hm_format.specs.declared.fault.FormatFault.{FormatFault}
 use Rattle.hm_format.specs.declared.fault.FormatFault.TheVariants.{BadOption, NotUtf8, BadItem, NoKey, TooDeep, Outside, Memory}
-use Rattle.hm_format.specs.Options.{Rules, AreSound, bad_key, values_of, place_of}
-use Rattle.hm_format.specs.Formats.{FormatMeaning, IsMemberTree}
+use Rattle.hm_format.specs.Options.{Rules, AreSound, accepted, bad_key, values_of, place_of}
+use Rattle.hm_format.specs.Formats.{FormatMeaning, IsMemberTree, depth_over}
 
 -- ---- the options: one node that the lens file declares
 
@@ -35,10 +35,6 @@ pub record IsAccepted (o : OptionsValue) : Type 0 where
   pub none_bad : bad_key plain_rules o ≡ None
 
 -- ---- reading
-
--- a tree of a depth above 1,000 isn't written, and its text isn't read
-abbrev pub deepest : ℕ
-deepest = 1000
 
 -- the text of a tree with a path at which its names aren't permitted, the first such one
 pub record IsOutsideText (s : SchemaValue) (bytes : List ℕ) (p : List Name) : Type 0 where
@@ -70,16 +66,12 @@ PlainReads s bytes (Err Memory) = ⊥
 
 -- ---- the format
 
-abbrev pub accepted : Option Name → SchemaValue → Result SchemaValue Name
-accepted None s = Ok s
-accepted (Some key) s = Err key
-
 abbrev pub plain : FormatMeaning
 plain = record {
   tag = 6;
   schema_of = λ o. accepted (bad_key plain_rules o) (plain_schema o);
   reads = λ o. PlainReads (plain_schema o);
-  over = λ t. cond (nat_lt deepest (depth t)) (Some (depth t)) None;
-  written_of = λ o t before. tree_text t;
+  over = depth_over;
+  writes = λ o t before after. after ≡ tree_text t;
   keeps = λ o before after. Unit {0};
 }

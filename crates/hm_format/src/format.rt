@@ -39,5 +39,5 @@ pub trait Format: Drop {
         before: &[u8],
     ) -> Result<Vec<u8>, FormatFault>
         requires { MayWrite (means self.now) (options_value options.now) tree.now before.now }
-        ensures { Writes ((means self.now).over tree.now) ((means self.now).written_of (options_value options.now) tree.now before.now) result };
+        ensures { Writes ((means self.now).over tree.now) ((means self.now).writes (options_value options.now) tree.now before.now) result };
 }

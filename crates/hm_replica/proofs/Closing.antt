@@ -1,5 +1,5 @@
 -- A replica that is opened and closed, by the laws of its format and of its lens.
-use Rattle.std.proofs.Common.{◌≡◌, ℕ, List, Some, None, Result, Ok, Err, sym, ap, subst, ◌∙◌}
+use Rattle.std.proofs.Common.{◌≡◌, ℕ, List, Some, None, Result, Ok, Err, refl, sym, ap, subst, ◌∙◌}
 use Rattle.std.specs.Prelude.{Vec}
 use Rattle.std.specs.declared.alloc.Global.{Global}
 use Rattle.hm_tree.specs.Nodes.{Tree}
@@ -19,7 +19,7 @@ module _ (m : FormatMeaning) (texts : List TextMeaning) (t : TypedValue) (laws :
 
   -- what is read may be shown, and is shown as a member of the view
   pub member : (bytes : List ℕ) (c : Tree) → m.reads (options_in t) bytes (Ok c) → Trees t.source c
-  member bytes c read = laws.members (options_in t) t.source bytes c typed.schema read
+  member bytes c read = laws.members (options_in t) t.source bytes c typed.sound typed.schema read
 
   pub may_show : (bytes : List ℕ) (c : Tree) → m.reads (options_in t) bytes (Ok c) → may.IsShown (setting_in texts t) (main_in t) c
   may_show bytes c read = let one = typed.fits.shows c (member bytes c read) in record { tree = one.tree; is = one.is }
@@ -28,6 +28,12 @@ module _ (m : FormatMeaning) (texts : List TextMeaning) (t : TypedValue) (laws :
   shown_member bytes c v read shown =
       let one = typed.fits.shows c (member bytes c read) in
       subst (Trees t.view) (sym (one.only v shown)) one.inside
+
+  -- a replica that is opened
+  pub opened : (bytes before : List ℕ) (c v : Tree) → before ≡ bytes → m.reads (options_in t) before (Ok c) → Shows (setting_in texts t) (main_in t) c v
+      → (bytes ≡ bytes) × IsReplica m texts t (record { bytes = bytes; concrete = c; view = v }) × Trees t.view v
+  opened bytes before c v same read shown =
+      (refl, record { read = subst (λ b. m.reads (options_in t) b (Ok c)) same read; shown = shown }, shown_member before c v read shown)
 
   module _ (r : ReplicaValue) (replica : IsReplica m texts t r) (shown : Tree) (there : Trees t.view shown) where
     old : Trees t.source r.concrete
@@ -57,29 +63,28 @@ module _ (m : FormatMeaning) (texts : List TextMeaning) (t : TypedValue) (laws :
         subst (λ v. IsPut texts t r v r.concrete) (sym same) (typed.fits.get_put r.concrete r.view old replica.shown) in
         one.only tree put ∙ sym (one.only r.concrete again)
 
-    closed : (tree : Tree) (bytes : List ℕ) → IsPut texts t r shown tree → m.over tree ≡ None → bytes ≡ m.written_of (options_in t) tree r.bytes
+    closed : (tree : Tree) (bytes : List ℕ) → IsPut texts t r shown tree → m.over tree ≡ None → m.writes (options_in t) tree r.bytes bytes
         → IsClosed m texts t r shown bytes
-    closed tree bytes put within is = record {
+    closed tree bytes put within made = record {
       tree = tree;
       put = put;
       within = within;
-      written = is;
+      written = made;
       replica = record {
-        read = subst (λ b. m.reads (options_in t) b (Ok tree)) (sym is)
-            (laws.put_get (options_in t) t.source r.bytes r.concrete tree typed.schema replica.read (new tree put) within);
+        read = laws.put_get (options_in t) t.source r.bytes bytes r.concrete tree typed.sound typed.schema replica.read (new tree put) within made;
         shown = typed.fits.put_get shown (Some r.concrete) tree there old put;
       };
       lens_keeps = typed.fits.keeps shown r.concrete tree there old put;
-      format_keeps = subst (m.keeps (options_in t) r.bytes) (sym is)
-          (laws.kept (options_in t) t.source r.bytes r.concrete tree typed.schema replica.read (new tree put) within);
+      format_keeps = laws.kept (options_in t) t.source r.bytes bytes r.concrete tree typed.sound typed.schema replica.read (new tree put) within made;
       unchanged = λ same.
-          is ∙ ap (λ (tree : Tree). m.written_of (options_in t) tree r.bytes) (back tree put same)
-          ∙ laws.get_put (options_in t) r.bytes r.concrete replica.read;
+          laws.writes_once (options_in t) r.concrete r.bytes bytes r.bytes
+          (subst (λ (tree : Tree). m.writes (options_in t) tree r.bytes bytes) (back tree put same) made)
+          (laws.get_put (options_in t) r.bytes r.concrete typed.sound replica.read);
     }
 
     pub closes : (tree : Tree) (before : List ℕ) (result : Result (Vec ℕ Global) FormatFault) → before ≡ r.bytes → IsPut texts t r shown tree
-        → Writes (m.over tree) (m.written_of (options_in t) tree before) result → Closes m texts t r shown result
-    closes tree before (Ok bytes) is put h = closed tree bytes.items put h.0 (h.1 ∙ ap (m.written_of (options_in t) tree) is)
+        → Writes (m.over tree) (m.writes (options_in t) tree before) result → Closes m texts t r shown result
+    closes tree before (Ok bytes) is put h = closed tree bytes.items put h.0 (subst (λ b. m.writes (options_in t) tree b bytes.items) is h.1)
     closes tree before (Err (TooDeep depth)) is put h = record { tree = tree; put = put; over = h }
     closes tree before (Err Memory) is put h = tt
     closes tree before (Err (BadOption key)) is put h = h
@@ -93,4 +98,4 @@ module _ (m : FormatMeaning) (texts : List TextMeaning) (t : TypedValue) (laws :
     stays same =
         closed r.concrete r.bytes (subst (λ v. IsPut texts t r v r.concrete) (sym same) (typed.fits.get_put r.concrete r.view old replica.shown))
         (laws.within (options_in t) t.source r.bytes r.concrete typed.schema replica.read)
-        (sym (laws.get_put (options_in t) r.bytes r.concrete replica.read))
+        (laws.get_put (options_in t) r.bytes r.concrete typed.sound replica.read)

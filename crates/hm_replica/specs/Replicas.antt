@@ -79,7 +79,7 @@ pub record IsClosed (m : FormatMeaning) (texts : List TextMeaning) (t : TypedVal
   pub tree : Tree
   pub put : IsPut texts t r shown tree
   pub within : m.over tree ≡ None
-  pub written : bytes ≡ m.written_of (options_in t) tree r.bytes
+  pub written : m.writes (options_in t) tree r.bytes bytes
   pub replica : IsReplica m texts t (record { bytes = bytes; concrete = tree; view = shown })
   pub lens_keeps : Keeps (setting_in texts t) (main_in t) r.concrete tree
   pub format_keeps : m.keeps (options_in t) r.bytes bytes

@@ -37,7 +37,7 @@ pub fn write(
     before: &[u8],
 ) -> Result<Vec<u8>, FormatFault>
     requires { MayWrite (means format.now) (options_value options.now) tree.now before.now }
-    ensures { Writes ((means format.now).over tree.now) ((means format.now).written_of (options_value options.now) tree.now before.now) result }
+    ensures { Writes ((means format.now).over tree.now) ((means format.now).writes (options_value options.now) tree.now before.now) result }
 {
     format.write(alloc, options, tree, before)
 }

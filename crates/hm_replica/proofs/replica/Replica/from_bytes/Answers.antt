@@ -1,6 +1,6 @@
 use Rattle.std.proofs.Common.{map}
 use Rattle.hm_replica.specs.Replicas.{typed_value}
-use Rattle.hm_replica.proofs.Closing.{may_show}
+use Rattle.hm_replica.proofs.Closing.{may_show, opened}
 use Rattle.hm_replica.proofs.replica.Replica.from_bytes.Goals as goal
 
 pub get-requires : goal.get-requires
@@ -8,3 +8,9 @@ get-requires g c =
     may_show ((goal.Format-dyn g (c.args.format.now.vtable, c.args.format.now.value)).means c.args.format.now.value)
     (map (λ b. (goal.TextLens-dyn g (b.vtable, b.value)).meaning b.value) c.args.texts.now) (typed_value c.args.typed.now) c.laws.ensures c.requires
     c.deref.result.now c.in_ok-concrete.concrete c.in_ok-concrete.ensures
+
+pub returns : goal.returns
+returns g c =
+    opened ((goal.Format-dyn g (c.args.format.now.vtable, c.args.format.now.value)).means c.args.format.now.value)
+    (map (λ b. (goal.TextLens-dyn g (b.vtable, b.value)).meaning b.value) c.args.texts.now) (typed_value c.args.typed.now) c.laws.ensures c.requires
+    c.args.bytes.items c.deref.result.now c.in_ok-concrete.concrete c.in_ok-view.view c.deref.ensures.value c.in_ok-concrete.ensures c.in_ok-view.ensures
