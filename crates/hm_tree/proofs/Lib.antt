@@ -17,10 +17,10 @@ pub mod Kept
 pub mod Presence
 mod Spelled
 mod LineEnds
-mod Classed
+pub mod Classed
 mod Compared
 mod Folded
-mod CleanText
+pub mod CleanText
 pub mod SpelledText
 pub mod NameSets
 mod SetEdits
