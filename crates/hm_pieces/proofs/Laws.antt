@@ -1,4 +1,5 @@
 -- What is written is read back: the pieces, and the texts of a field that is made anew.
+pub use Rattle.hm_pieces.proofs.Utf8Pieces.{pieces_utf8, written_utf8}
 use Rattle.std.proofs.Common.{◌≡◌, ℕ, suc, Bool, true, false, not, cond, ◌&&◌, ◌||◌, IsTrue, List, [], ◌∷◌, ◌++◌, get_or, map, filter, All, refl, sym, ap, ◌∙◌, arith}
 use Rattle.std.specs.Bool.{◌==◌}
 use Rattle.std.specs.List.{list_any}
@@ -108,7 +109,7 @@ either false true = refl
 either false false = refl
 
 -- a Filled name shows itself
-filled_shown : (n : Name) → IsFilled n → is_shown n ≡ true
+pub filled_shown : (n : Name) → IsFilled n → is_shown n ≡ true
 filled_shown n filled =
     ap is_text filled.clean
     ∙ list_any-from_Any (λ b. not (b == 32)) n

@@ -18,5 +18,5 @@ mod tests;
 mod writing;
 
 pub use cutting::pieces;
-pub use showing::{rewrite, texts};
+pub use showing::{is_text, rewrite, text_of, texts};
 pub use writing::write_pieces;

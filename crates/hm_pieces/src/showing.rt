@@ -35,8 +35,8 @@ pub fn rewrite(alloc: Global, field: &str, set: &NameSet) -> Result<Vec<u8>, Mem
     write_pieces(alloc, &new)
 }
 
-// The text of a piece.
-fn text_of(alloc: Global, piece: &[u8]) -> Result<Name, Memory>
+/// The cleaned text of a piece.
+pub fn text_of(alloc: Global, piece: &[u8]) -> Result<Name, Memory>
     requires { IsUtf8 piece.now }
     ensures { IfOk result (λ text. text ≡ cleaned piece.now) }
 {
@@ -46,8 +46,8 @@ fn text_of(alloc: Global, piece: &[u8]) -> Result<Name, Memory>
     }
 }
 
-// Whether a text isn't of spaces alone.
-fn is_text(text: &Name) -> bool
+/// Whether a text isn't of spaces alone.
+pub fn is_text(text: &Name) -> bool
     ensures { result ≡ is_text text.now }
 {
     text.bytes().iter().any(|byte| *byte != b' ')

@@ -4,4 +4,5 @@ mod Once
 mod Texts
 mod Filled
 mod ReadBack
+mod ColumnLaws
 pub mod Laws

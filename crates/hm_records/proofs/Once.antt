@@ -5,6 +5,7 @@ use Rattle.csv.specs.Machine.{Read, next_record}
 use Rattle.csv.specs.Reading.{AreRecords, Reached, default_config, strip_bom}
 use Rattle.csv.specs.declared.parser.State.{State}
 use Rattle.csv.specs.declared.parser.State.TheVariants as st
+use Rattle.hm_tree.specs.Names.{Name}
 use Rattle.hm_records.specs.Rows.{Fields, IsBad, AreGood}
 use Rattle.hm_records.specs.Reads.{AreAll, IsFirstBad, IsBadItem}
 
@@ -93,35 +94,35 @@ compared s xs (r ∷ rs) (q ∷ qs) row last h k =
     ]
 
 -- among good records none is bad
-pub good_row : (before : List Fields) (row : Fields) (more : List Fields) → AreGood (before ++ row ∷ more) → ¬ (IsBad before row)
-good_row [] row more good = good.0
-good_row (header ∷ others) row more good = λ bad.
+pub good_row : (names : List Name) (before : List Fields) (row : Fields) (more : List Fields) → AreGood names (before ++ row ∷ more) → ¬ (IsBad names before row)
+good_row names [] row more good = λ bad. bad good.0
+good_row names (header ∷ others) row more good = λ bad.
     let n : length (others ++ row ∷ more) ≡ length others + length (row ∷ more) = length-append others (row ∷ more) in
     let at = good.1 (length others) row (omega arith) in
     bad (ap length (sym (get_or-append_seam others row more row)) ∙ at)
 
 -- where all records are good, none is a bad one
-pub good_no_bad : (bytes : List ℕ) (rows : List Fields) (number : ℕ) → AreAll bytes rows → rows ≢ [] → AreGood rows → ¬ (IsBadItem bytes number)
-good_no_bad bytes rows number all some good (inl none) = some (all_once st.StartRecord (strip_bom bytes) rows [] all none.1)
-good_no_bad bytes rows number all some good (inr f) =
+pub good_no_bad : (names : List Name) (bytes : List ℕ) (rows : List Fields) (number : ℕ) → AreAll bytes rows → rows ≢ [] → AreGood names rows → ¬ (IsBadItem names bytes number)
+good_no_bad names bytes rows number all some good (inl none) = some (all_once st.StartRecord (strip_bom bytes) rows [] all none.1)
+good_no_bad names bytes rows number all some good (inr f) =
     let w = within st.StartRecord (strip_bom bytes) rows f.before f.row all f.stand in
-    good_row f.before f.row w.0 (subst AreGood w.1 good) f.bad
+    good_row names f.before f.row w.0 (subst (AreGood names) w.1 good) f.bad
 
-none_first : (bytes : List ℕ) (number : ℕ) → AreAll bytes [] → ¬ (IsFirstBad bytes number)
-none_first bytes number none f = absurd (no_cons (within st.StartRecord (strip_bom bytes) [] f.before f.row none f.stand))
+none_first : (names : List Name) (bytes : List ℕ) (number : ℕ) → AreAll bytes [] → ¬ (IsFirstBad names bytes number)
+none_first names bytes number none f = absurd (no_cons (within st.StartRecord (strip_bom bytes) [] f.before f.row none f.stand))
   where
     no_cons : (more : List Fields) × ([] ≡ f.before ++ f.row ∷ more) → ⊥
     no_cons w = let n = length-append f.before (f.row ∷ w.0) in let e : 0 ≡ length (f.before ++ f.row ∷ w.0) = ap length w.1 in omega arith
 
 -- a bad record has one number
-pub bad_once : (bytes : List ℕ) (one other : ℕ) → IsBadItem bytes one → IsBadItem bytes other → one ≡ other
-bad_once bytes one other (inl h) (inl k) = h.0 ∙ sym k.0
-bad_once bytes one other (inl h) (inr k) = absurd (none_first bytes other h.1 k)
-bad_once bytes one other (inr h) (inl k) = absurd (none_first bytes one k.1 h)
-bad_once bytes one other (inr h) (inr k) = elim (compared st.StartRecord (strip_bom bytes) h.before k.before h.row k.row h.stand k.stand) [
+pub bad_once : (names : List Name) (bytes : List ℕ) (one other : ℕ) → IsBadItem names bytes one → IsBadItem names bytes other → one ≡ other
+bad_once names bytes one other (inl h) (inl k) = h.0 ∙ sym k.0
+bad_once names bytes one other (inl h) (inr k) = absurd (none_first names bytes other h.1 k)
+bad_once names bytes one other (inr h) (inl k) = absurd (none_first names bytes one k.1 h)
+bad_once names bytes one other (inr h) (inr k) = elim (compared st.StartRecord (strip_bom bytes) h.before k.before h.row k.row h.stand k.stand) [
   | inl e ↦ h.place ∙ ap (λ (l : List Fields). length l + 1) e ∙ sym k.place
   | inr apart ↦ elim apart [
-    | inl longer ↦ absurd (good_row h.before h.row longer.0 (subst AreGood longer.1 k.good) h.bad)
-    | inr shorter ↦ absurd (good_row k.before k.row shorter.0 (subst AreGood shorter.1 h.good) k.bad)
+    | inl longer ↦ absurd (good_row names h.before h.row longer.0 (subst (AreGood names) longer.1 k.good) h.bad)
+    | inr shorter ↦ absurd (good_row names k.before k.row shorter.0 (subst (AreGood names) shorter.1 h.good) k.bad)
   ]
 ]

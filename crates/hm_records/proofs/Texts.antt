@@ -2,6 +2,8 @@
 use Rattle.std.proofs.Common.{◌≡◌, ◌⊎◌, ℕ, ◌+◌, ◌/◌, ◌<◌, ◌≤◌, Bool, true, false, ◌&&◌, List, [], ◌∷◌, ◌++◌, Option, refl, sym, ap, ◌∙◌, subst, append_assoc, inl, inr, arith, ne_eqb, ◌==◌}
 use Rattle.std.specs.Prelude.{All, IfSome}
 use Rattle.std.specs.Str.{IsUtf8}
+use Rattle.std.proofs.Common.{length, length-append}
+use Rattle.std.proofs.Math.Seq.{get_or-append_seam}
 use Rattle.std.proofs.lemmas.Bool.{cases_Bool, eqb-true, cases_lt, lt-ltb, le-ltb, cond-true, cond-false}
 use Rattle.std.proofs.lemmas.List.Elements.{All-nil, All-cons, All-push}
 use Rattle.std.proofs.lemmas.Str.{IsUtf8-nil, IsUtf8-append, IsUtf8-encode, encode_ascii, encode_same}
@@ -203,3 +205,11 @@ strip_unmarked (a ∷ b ∷ c ∷ rest) plain = elim (cases_Bool (is_bom a b c))
 pub strip_marked : (rest : List ℕ) → strip_bom (byte_order_mark ++ rest) ≡ rest
 unfolding strip_bom
 strip_marked rest = refl
+
+-- the fields of a record that is read of a text are texts
+pub row_text : (bytes : List ℕ) (rows : List Fields) (row : Fields) (s2 : State) (ys : List ℕ) → IsUtf8 bytes
+    → Reached default_config st.StartRecord (strip_bom bytes) (rows ++ row ∷ []) s2 ys → All IsUtf8 row
+row_text bytes rows row s2 ys text reached =
+    let all = reached_text st.StartRecord (strip_bom bytes) (rows ++ row ∷ []) s2 ys (stripped_text bytes text) reached in
+    let n = length-append rows (row ∷ []) in
+    subst (All IsUtf8) (get_or-append_seam rows row [] row) (all (length rows) row (omega arith))

@@ -1,6 +1,7 @@
 -- What bytes are read as: a byte-order mark and records, or why they aren't read.
 use Rattle.std.specs.Prelude.{◌≡◌, ◌≢◌, ◌⊎◌, ◌↔◌, ℕ, ◌+◌, Bool, IsTrue, List, [], ◌∷◌, ◌++◌, length, map, IsUtf8, Result, Ok, Err}
 use Rattle.std.specs.Str.Lossy.{utf8_valid_len}
+use Rattle.hm_tree.specs.Names.{Name}
 use Rattle.csv.specs.Reading.{AreRecords, Reached, default_config, strip_bom}
 use Rattle.csv.specs.Records.{fields_of}
 use Rattle.csv.specs.declared.parser.State.{State}
@@ -26,15 +27,15 @@ abbrev pub AreFirst : List ℕ → List Fields → Type 0
 AreFirst bytes rows = (state : State) × (rest : List ℕ) × Reached default_config st.StartRecord (strip_bom bytes) rows state rest
 
 -- these are all of them, a header and others, and none is bad
-pub record AreRows (bytes : List ℕ) (rows : List Fields) : Type 0 where
+pub record AreRows (names : List Name) (bytes : List ℕ) (rows : List Fields) : Type 0 where
   pub all : AreAll bytes rows
   pub some : rows ≢ []
-  pub good : AreGood rows
+  pub good : AreGood names rows
 
-pub record IsSheet (bytes : List ℕ) (sheet : Sheet) : Type 0 where
+pub record IsSheet (names : List Name) (bytes : List ℕ) (sheet : Sheet) : Type 0 where
   pub text : IsUtf8 bytes
   pub marked : IsTrue sheet.mark ↔ BeginsWithMark bytes
-  pub rows : AreRows bytes sheet.rows
+  pub rows : AreRows names bytes sheet.rows
 
 -- the bytes aren't UTF-8, and this is the length of the longest beginning that is
 pub record StopsAt (bytes : List ℕ) (at : ℕ) : Type 0 where
@@ -42,24 +43,24 @@ pub record StopsAt (bytes : List ℕ) (at : ℕ) : Type 0 where
   pub place : at ≡ utf8_valid_len bytes
 
 -- the record of this number, from 1, is bad, and none before it is
-pub record IsFirstBad (bytes : List ℕ) (number : ℕ) : Type 0 where
+pub record IsFirstBad (names : List Name) (bytes : List ℕ) (number : ℕ) : Type 0 where
   pub before : List Fields
   pub row : Fields
   pub stand : AreFirst bytes (before ++ row ∷ [])
-  pub good : AreGood before
-  pub bad : IsBad before row
+  pub good : AreGood names before
+  pub bad : IsBad names before row
   pub place : number ≡ length before + 1
 
 -- where there is no record, the header is missing
-abbrev pub IsBadItem : List ℕ → ℕ → Type 0
-IsBadItem bytes number = ((number ≡ 1) × AreAll bytes []) ⊎ IsFirstBad bytes number
+abbrev pub IsBadItem : List Name → List ℕ → ℕ → Type 0
+IsBadItem names bytes number = ((number ≡ 1) × AreAll bytes []) ⊎ IsFirstBad names bytes number
 
--- want of memory is nothing that bytes are read as
-abbrev pub ReadsRecords : List ℕ → Result Sheet RecordsFault → Type 0
-ReadsRecords bytes (Ok sheet) = IsSheet bytes sheet
-ReadsRecords bytes (Err (NotUtf8 at)) = StopsAt bytes at
-ReadsRecords bytes (Err (BadItem number)) = IsUtf8 bytes × IsBadItem bytes number
-ReadsRecords bytes (Err Memory) = ⊥
+-- what bytes are read as, where the header is to have columns of some names; want of memory is nothing of it
+abbrev pub ReadsRecords : List Name → List ℕ → Result Sheet RecordsFault → Type 0
+ReadsRecords names bytes (Ok sheet) = IsSheet names bytes sheet
+ReadsRecords names bytes (Err (NotUtf8 at)) = StopsAt bytes at
+ReadsRecords names bytes (Err (BadItem number)) = IsUtf8 bytes × IsBadItem names bytes number
+ReadsRecords names bytes (Err Memory) = ⊥
 
 -- a result is such, unless there was no memory
 abbrev pub UnlessMemory : {A : Type 0} → (Result A RecordsFault → Type 0) → Result A RecordsFault → Type 0
@@ -77,16 +78,16 @@ shown (Ok records) = Ok (sheet_of records)
 shown (Err fault) = Err fault
 
 -- what hinders the reading of the records themselves
-abbrev pub RowsFaults : List ℕ → RecordsFault → Type 0
-RowsFaults bytes (NotUtf8 at) = ⊥
-RowsFaults bytes (BadItem number) = IsBadItem bytes number
-RowsFaults bytes Memory = Unit {0}
+abbrev pub RowsFaults : List Name → List ℕ → RecordsFault → Type 0
+RowsFaults names bytes (NotUtf8 at) = ⊥
+RowsFaults names bytes (BadItem number) = IsBadItem names bytes number
+RowsFaults names bytes Memory = Unit {0}
 
 -- what hinders the keeping of a record behind others
-abbrev pub RefusesRow : List Fields → Fields → RecordsFault → Type 0
-RefusesRow rows row (NotUtf8 at) = ⊥
-RefusesRow rows row (BadItem number) = IsBad rows row × (number ≡ length rows + 1)
-RefusesRow rows row Memory = Unit {0}
+abbrev pub RefusesRow : List Name → List Fields → Fields → RecordsFault → Type 0
+RefusesRow names rows row (NotUtf8 at) = ⊥
+RefusesRow names rows row (BadItem number) = IsBad names rows row × (number ≡ length rows + 1)
+RefusesRow names rows row Memory = Unit {0}
 
 -- what an error of the crate tells behind so many records: of a record of another length, or else of want of memory
 abbrev pub Tells : ℕ → ErrorKind → RecordsFault → Type 0
