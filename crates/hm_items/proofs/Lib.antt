@@ -3,3 +3,4 @@ pub mod Plans
 pub mod Contents
 pub mod Fitting
 pub mod Numbers
+pub mod Lent

@@ -16,7 +16,8 @@ use Rattle.hm_tree.specs.Names.{Name, name_cmp}
 use Rattle.hm_tree.specs.Edges.{rank}
 use Rattle.hm_tree.proofs.Sorted.{name_total, name_one, rises, back_less, not_None}
 use Rattle.hm_items.specs.Items.{of_key, below_key, survivor, kept, fresh, added}
-use Rattle.hm_items.specs.Plans.{numbered, places, slots_of, AreCounts, past, past_at, next_survivor}
+use Rattle.std.proofs.lemmas.List.Elements.{All-push}
+use Rattle.hm_items.specs.Plans.{numbered, places, slots_of, IsWithin, AreWithin, AreCounts, past, past_at, next_survivor}
 use Rattle.hm_items.specs.declared.planned.Slot.{Slot}
 use Rattle.hm_items.proofs.ReadBack.{of_key-append, absent}
 
@@ -247,3 +248,8 @@ kept_more wanted keys k =
 -- what was read at a place, whatever stands for what isn't there
 pub read_at : {X : Type 0} (xs : List X) (i : ℕ) (x d : X) → i < length xs → x ≡ get_or xs i x → x ≡ get_or xs i d
 read_at xs i x d lt e = e ∙ get_or_default xs i x d lt
+
+-- one slot more that is within its bounds
+pub more_within : (wanted : List (Name × ℕ)) (count : ℕ) (old new : List Slot) (s : Slot) → AreWithin wanted count old → new ≡ old ++ s ∷ [] → IsWithin wanted count s
+    → AreWithin wanted count new
+more_within wanted count old new s all pushed one = subst (AreWithin wanted count) (sym pushed) (All-push (IsWithin wanted count) old s all one)

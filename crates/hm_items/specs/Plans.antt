@@ -1,5 +1,5 @@
 -- Items as numbers: an old item by where it stands in its file, a new one by its place under its key.
-use Rattle.std.specs.Prelude.{◌≡◌, ℕ, ◌+◌, ◌<◌, List, [], ◌∷◌, ◌++◌, length, get_or, slice_get, Option, drop}
+use Rattle.std.specs.Prelude.{◌≡◌, ℕ, ◌+◌, ◌<◌, All, IfSome, List, [], ◌∷◌, ◌++◌, length, get_or, slice_get, Option, drop}
 use Rattle.std.specs.List.{range_with_len}
 use Rattle.hm_tree.specs.Names.{Name, name_cmp}
 use Rattle.hm_items.specs.Items.{of_key, below_key, survivor, fresh}
@@ -19,6 +19,15 @@ places (e ∷ es) = (e.0, range_with_len 0 e.1) ∷ places es
 abbrev pub slots_of : List (Name × ℕ) → List Slot → List (Name × Option ℕ × ℕ)
 slots_of wanted [] = []
 slots_of wanted (s ∷ ss) = ((get_or wanted s.edge ([], 0)).0, s.from, s.place) ∷ slots_of wanted ss
+
+-- a slot is of an edge, at one of its places, and comes from one of so many old items, if from any
+pub record IsWithin (wanted : List (Name × ℕ)) (count : ℕ) (s : Slot) : Type 0 where
+  pub edge : s.edge < length wanted
+  pub place : s.place < (get_or wanted s.edge ([], 0)).1
+  pub from : IfSome s.from (λ i. i < count)
+
+abbrev pub AreWithin : List (Name × ℕ) → ℕ → List Slot → Type 0
+AreWithin wanted count slots = All (IsWithin wanted count) slots
 
 -- how many of these keys each edge's is
 pub record AreCounts (wanted : List (Name × ℕ)) (keys : List Name) (counts : List ℕ) : Type 0 where

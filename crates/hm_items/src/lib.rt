@@ -11,5 +11,6 @@
 mod planned;
 #[cfg(test)]
 mod tests;
+mod wanted;
 
 pub use planned::{Slot, plan};

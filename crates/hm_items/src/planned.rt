@@ -1,11 +1,13 @@
 //! Which items of an old file survive where a new tree is written over it, and which are new.
-ghost use Rattle.std.specs.Prelude.{◌≡◌, ◌++◌, ◌∷◌, List, ◌<◌, T, IfOk, OnOk, [], length};
+ghost use Rattle.std.specs.Prelude.{◌≡◌, ◌++◌, ◌∷◌, ℕ, List, ◌<◌, T, IfOk, OnOk, [], length};
 ghost use Rattle.std.specs.FinMap.{is_sorted};
 ghost use Rattle.hm_tree.specs.Names.{Name as NameValue, name_cmp};
 ghost use Rattle.hm_items.specs.Items.{IsRewritten, kept};
-ghost use Rattle.hm_items.specs.Plans.{numbered, places, slots_of, AreCounts, past, past_at, next_survivor};
+ghost use Rattle.hm_items.specs.Lent.{lent_counts};
+ghost use Rattle.hm_items.specs.Plans.{numbered, places, slots_of, AreCounts, AreWithin, past, past_at, next_survivor};
 
-use hm_tree::{Memory, Name, place_of};
+use crate::wanted::{count_at, place_of};
+use hm_tree::{Memory, Name};
 use std::alloc::Global;
 
 /// An item of the new file.
@@ -21,9 +23,10 @@ pub struct Slot {
 
 /// The items of the new file, in its order: of the keys of the old items, in file order, and of the keys of the new tree in
 /// ascending order, each with how many items it is to have. One search for each old item, and no more steps than there are items.
-pub fn plan(alloc: Global, keys: &[Name], wanted: &[(Name, usize)]) -> Result<Vec<Slot>, Memory>
-    requires { T (is_sorted name_cmp wanted.now) }
-    ensures { IfOk result (λ slots. IsRewritten name_cmp (numbered 0 keys.now) (places wanted.now) (slots_of wanted.now slots.items)) }
+pub fn plan(alloc: Global, keys: &[Name], wanted: &[(&Name, usize)]) -> Result<Vec<Slot>, Memory>
+    requires { T (is_sorted name_cmp (lent_counts wanted.now)) }
+    ensures within { IfOk result (λ slots. AreWithin (lent_counts wanted.now) (length keys.now) slots.items) }
+    ensures plan { IfOk result (λ slots. IsRewritten name_cmp (numbered 0 keys.now) (places (lent_counts wanted.now)) (slots_of (lent_counts wanted.now) slots.items)) }
 {
     let mut counts = vec![in alloc; 0; wanted.len()]?;
     let mut slots = Vec::new(alloc);
@@ -35,15 +38,16 @@ pub fn plan(alloc: Global, keys: &[Name], wanted: &[(Name, usize)]) -> Result<Ve
 // The old items that survive; how many old items have each key is counted.
 fn survivors(
     keys: &[Name],
-    wanted: &[(Name, usize)],
+    wanted: &[(&Name, usize)],
     counts: &mut Vec<usize>,
     slots: &mut Vec<Slot>,
 ) -> Result<(), Memory>
-    requires sorted { T (is_sorted name_cmp wanted.now) }
-    requires counts { AreCounts wanted.now [] counts.old.items }
+    requires sorted { T (is_sorted name_cmp (lent_counts wanted.now)) }
+    requires counts { AreCounts (lent_counts wanted.now) [] counts.old.items }
     requires slots { slots.old.items ≡ [] }
-    ensures counts { OnOk result (AreCounts wanted.now keys.now counts.new.items) }
-    ensures slots { OnOk result (slots_of wanted.now slots.new.items ≡ kept name_cmp (places wanted.now) [] (numbered 0 keys.now)) }
+    ensures counts { OnOk result (AreCounts (lent_counts wanted.now) keys.now counts.new.items) }
+    ensures slots { OnOk result (slots_of (lent_counts wanted.now) slots.new.items ≡ kept name_cmp (places (lent_counts wanted.now)) [] (numbered 0 keys.now)) }
+    ensures within { OnOk result (AreWithin (lent_counts wanted.now) (length keys.now) slots.new.items) }
 {
     for item in 0..keys.len() {
         visit(wanted, &keys[item], item, counts, slots)?;
@@ -53,16 +57,17 @@ fn survivors(
 
 // The next old item: it survives where the tree has something at its place.
 fn visit(
-    wanted: &[(Name, usize)],
+    wanted: &[(&Name, usize)],
     key: &Name,
     item: usize,
     counts: &mut Vec<usize>,
     slots: &mut Vec<Slot>,
 ) -> Result<(), Memory>
-    requires sorted { T (is_sorted name_cmp wanted.now) }
-    requires counts { length counts.old.items ≡ length wanted.now }
-    ensures counts { OnOk result ((keys : List NameValue) → AreCounts wanted.now keys counts.old.items → AreCounts wanted.now (keys ++ key.now ∷ []) counts.new.items) }
-    ensures slots { OnOk result ((keys : List NameValue) → AreCounts wanted.now keys counts.old.items → slots_of wanted.now slots.new.items ≡ slots_of wanted.now slots.old.items ++ next_survivor wanted.now keys key.now item) }
+    requires sorted { T (is_sorted name_cmp (lent_counts wanted.now)) }
+    requires counts { length counts.old.items ≡ length (lent_counts wanted.now) }
+    ensures counts { OnOk result ((keys : List NameValue) → AreCounts (lent_counts wanted.now) keys counts.old.items → AreCounts (lent_counts wanted.now) (keys ++ key.now ∷ []) counts.new.items) }
+    ensures slots { OnOk result ((keys : List NameValue) → AreCounts (lent_counts wanted.now) keys counts.old.items → slots_of (lent_counts wanted.now) slots.new.items ≡ slots_of (lent_counts wanted.now) slots.old.items ++ next_survivor (lent_counts wanted.now) keys key.now item) }
+    ensures within { OnOk result ((count : ℕ) → item < count → AreWithin (lent_counts wanted.now) count slots.old.items → AreWithin (lent_counts wanted.now) count slots.new.items) }
 {
     if let Ok(edge) = place_of(wanted, key) {
         let place = counts[edge];
@@ -70,7 +75,7 @@ fn visit(
             return Err(Memory);
         };
         counts[edge] = after;
-        if place < wanted[edge].1 {
+        if place < count_at(wanted, edge) {
             slots.push(Slot {
                 edge,
                 from: Some(item),
@@ -83,12 +88,13 @@ fn visit(
 
 // The new items, which stand at places past the old ones.
 fn newcomers(
-    wanted: &[(Name, usize)],
+    wanted: &[(&Name, usize)],
     counts: &[usize],
     slots: &mut Vec<Slot>,
 ) -> Result<(), Memory>
-    requires { length counts.now ≡ length wanted.now }
-    ensures { OnOk result (slots_of wanted.now slots.new.items ≡ slots_of wanted.now slots.old.items ++ past wanted.now counts.now) }
+    requires { length counts.now ≡ length (lent_counts wanted.now) }
+    ensures slots { OnOk result (slots_of (lent_counts wanted.now) slots.new.items ≡ slots_of (lent_counts wanted.now) slots.old.items ++ past (lent_counts wanted.now) counts.now) }
+    ensures within { OnOk result ((count : ℕ) → AreWithin (lent_counts wanted.now) count slots.old.items → AreWithin (lent_counts wanted.now) count slots.new.items) }
 {
     for edge in 0..wanted.len() {
         append_past(wanted, edge, counts[edge], slots)?;
@@ -98,15 +104,16 @@ fn newcomers(
 
 // The new items of an edge.
 fn append_past(
-    wanted: &[(Name, usize)],
+    wanted: &[(&Name, usize)],
     edge: usize,
     count: usize,
     slots: &mut Vec<Slot>,
 ) -> Result<(), Memory>
-    requires { edge < length wanted.now }
-    ensures { OnOk result (slots_of wanted.now slots.new.items ≡ slots_of wanted.now slots.old.items ++ past_at wanted.now edge count) }
+    requires { edge < length (lent_counts wanted.now) }
+    ensures slots { OnOk result (slots_of (lent_counts wanted.now) slots.new.items ≡ slots_of (lent_counts wanted.now) slots.old.items ++ past_at (lent_counts wanted.now) edge count) }
+    ensures within { OnOk result ((items : ℕ) → AreWithin (lent_counts wanted.now) items slots.old.items → AreWithin (lent_counts wanted.now) items slots.new.items) }
 {
-    for place in count..wanted[edge].1 {
+    for place in count..count_at(wanted, edge) {
         slots.push(Slot {
             edge,
             from: None,

@@ -1,6 +1,4 @@
 //! A file whose tree has changed.
-ghost use Rattle.std.specs.Prelude.{◌≡◌, ◌∷◌, [], IfOk, codes};
-
 use super::*;
 use hm_tree::{Memory, Name};
 use std::alloc::Global;
@@ -14,23 +12,15 @@ fn named(alloc: Global, names: &[&str]) -> Result<Vec<Name>, Memory> {
     Ok(all)
 }
 
-// Two items of each of two keys, and one of a third.
-fn new_tree(alloc: Global) -> Result<Vec<(Name, usize)>, Memory>
-    ensures { IfOk result (λ wanted. wanted.items ≡ (codes "a", 2) ∷ (codes "b", 2) ∷ (codes "d", 1) ∷ []) }
-{
-    let mut wanted = Vec::new(alloc);
-    wanted.push((Name::from_text(alloc, "a")?, 2))?;
-    wanted.push((Name::from_text(alloc, "b")?, 2))?;
-    wanted.push((Name::from_text(alloc, "d")?, 1))?;
-    Ok(wanted)
-}
-
 // Two of three items with one key stay, one of another key goes, and there is an item of a third key.
 #[test]
 fn survivors_and_new_items(rt: HostRuntime) -> Result<(), Fail> {
     let alloc = rt.alloc();
     let keys = named(alloc, &["b", "a", "b", "c", "b"])?;
-    let wanted = new_tree(alloc)?;
+    let a = Name::from_text(alloc, "a")?;
+    let b = Name::from_text(alloc, "b")?;
+    let d = Name::from_text(alloc, "d")?;
+    let wanted = [(&a, 2), (&b, 2), (&d, 1)];
     let slots = plan(alloc, &keys, &wanted)?;
     let want = [
         Slot {

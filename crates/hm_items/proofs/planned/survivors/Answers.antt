@@ -2,6 +2,7 @@ use Rattle.std.proofs.Common.{◌≡◌, ◌++◌, ◌∷◌, [], length, ◌+�
 use Rattle.std.proofs.lemmas.List.{length-take-le, take_more}
 use Rattle.hm_tree.specs.Names.{name_cmp}
 use Rattle.hm_items.specs.Items.{kept}
+use Rattle.hm_items.specs.Lent.{lent_counts}
 use Rattle.hm_items.specs.Plans.{places, numbered, AreCounts, next_survivor}
 use Rattle.hm_items.proofs.Plans.{kept_more}
 use Rattle.hm_items.proofs.planned.survivors.Goals as goal
@@ -10,7 +11,7 @@ pub loop-item-preserved : goal.loop-item-preserved
 loop-item-preserved c =
     let inv = c.loop-item.invariant in
     let keys = c.args.keys.now in
-    let wanted = c.args.wanted.now in
+    let wanted = lent_counts c.args.wanted.now in
     let i = c.loop-item.item in
     let x = c.index-keys-item.result in
     let more : take (i + 1) keys ≡ take i keys ++ x ∷ [] = take_more keys i x c.loop-item-test.true ∙ ap (λ y. take i keys ++ y ∷ []) (sym c.index-keys-item.is) in
@@ -18,4 +19,5 @@ loop-item-preserved c =
       subst (λ l. AreCounts wanted l c.visit.new.counts.items) (sym more) (c.in_ok-visit.ensures.counts (take i keys) inv.0),
       c.in_ok-visit.ensures.slots (take i keys) inv.0 ∙ ap (λ l. l ++ next_survivor wanted (take i keys) x i) inv.1 ∙ ap (λ m. kept name_cmp (places wanted) [] (numbered 0 (take i keys)) ++ next_survivor wanted (take i keys) x m) (sym n)
           ∙ sym (kept_more wanted (take i keys) x) ∙ ap (λ l. kept name_cmp (places wanted) [] (numbered 0 l)) (sym more),
+      c.in_ok-visit.ensures.within (length keys) c.loop-item-test.true inv.2,
     )
