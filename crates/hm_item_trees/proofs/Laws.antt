@@ -7,6 +7,7 @@ use Rattle.hm_tree.specs.Nodes.{Tree, edges}
 use Rattle.hm_tree.specs.NodeLaws.{same_edges, tree_unmarked}
 use Rattle.hm_tree.proofs.Sorted.{name_total, name_one}
 use Rattle.hm_terms.specs.Parts.{HasItems, IsList, none_left, and_then, no_items, an_item, head, tail}
+use Rattle.hm_terms.proofs.Maps.{one_head, one_tail, nil_item}
 use Rattle.hm_items.proofs.ReadBack.{grouped_once}
 use Rattle.hm_item_trees.specs.ItemTrees.{HasLists, AreLists, IsItemTree}
 
@@ -27,6 +28,24 @@ one_below (e ∷ es) [] (l ∷ ls) a b = absurd b
 one_below (e ∷ es) (f ∷ fs) (l ∷ ls) a b =
     λ i. ((a.0.0 ∙ sym b.0.0) i, one_list l.1 e.1 f.1 a.0.1 b.0.1 i) ∷ one_below es fs ls a.1 b.1 i
 
+-- the items of a list are known from it
+once : (t : Tree) (xs ys : List Tree) → HasItems t xs → HasItems t ys → xs ≡ ys
+once t [] [] (none_left a) (none_left b) = refl
+once t [] (y ∷ ys) (none_left a) (and_then {r = q} b g) = absurd (nil_item y q t a b)
+once t (x ∷ xs) [] (and_then {r = r} a h) (none_left b) = absurd (nil_item x r t b a)
+once t (x ∷ xs) (y ∷ ys) (and_then {r = r} a h) (and_then {r = q} b g) =
+    λ i. one_head x r y q t a b i ∷ once r xs ys h (subst (λ (z : Tree). HasItems z ys) (one_tail y q x r t b a) g) i
+
+-- and so are the lists of edges
+pub lists_once : (es : List (Name × Tree)) (a b : List (Name × List Tree)) → AreLists es a → AreLists es b → a ≡ b
+lists_once [] [] [] f g = refl
+lists_once [] (x ∷ a) b f g = absurd f
+lists_once [] [] (y ∷ b) f g = absurd g
+lists_once (e ∷ es) [] b f g = absurd f
+lists_once (e ∷ es) (x ∷ a) [] f g = absurd g
+lists_once (e ∷ es) (x ∷ a) (y ∷ b) f g =
+    λ i. ((sym f.0.0 ∙ g.0.0) i, once e.1 x.1 y.1 f.0.1 g.0.1 i) ∷ lists_once es a b f.1 g.1 i
+
 -- items have one tree at the most
 pub item_tree_once : (items : List (Name × Tree)) (t u : Tree) → IsItemTree items t → IsItemTree items u → t ≡ u
 item_tree_once items t u a b =
@@ -43,6 +62,10 @@ each_is_list [] (l ∷ ls) h = absurd h
 each_is_list (e ∷ es) [] h = absurd h
 each_is_list (e ∷ es) (l ∷ ls) h = All-cons (λ (e : Name × Tree). IsList e.1) e es (is_list l.1 e.1 h.0.1) (each_is_list es ls h.1)
 
--- the tree of items has lists, so that it can be taken apart
+-- a tree with these lists below its names can be taken apart
+pub are_lists : (t : Tree) (ls : List (Name × List Tree)) → AreLists (edges t) ls → HasLists t
+are_lists t ls below = each_is_list (edges t) ls below
+
+-- and so can the tree of items
 pub has_lists : (items : List (Name × Tree)) (t : Tree) → IsItemTree items t → HasLists t
-has_lists items t is = each_is_list (edges t) is.lists is.below
+has_lists items t is = are_lists t is.lists is.below

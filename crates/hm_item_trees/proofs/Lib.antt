@@ -1,3 +1,5 @@
 pub mod Places
 pub mod Lists
+pub mod ListDepths
+pub mod Limits
 pub mod Laws

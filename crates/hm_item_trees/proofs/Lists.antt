@@ -1,5 +1,5 @@
 -- The lists of a map, as the edges of a tree.
-use Rattle.std.proofs.Common.{◌≡◌, ◌≢◌, Bool, true, false, cond, List, [], ◌∷◌, ◌++◌, Option, Some, None, Vec, map, refl, sym, ap, ◌∙◌, subst, option_map}
+use Rattle.std.proofs.Common.{◌≡◌, ◌≢◌, Bool, true, false, ◌&&◌, cond, List, [], ◌∷◌, ◌++◌, Option, Some, None, Vec, map, refl, sym, ap, ◌∙◌, subst, option_map}
 use Rattle.std.specs.Prelude.{T}
 use Rattle.std.specs.declared.alloc.Global.{Global}
 use Rattle.std.specs.declared.cmp.Ordering.TheVariants.{Less}
@@ -13,12 +13,15 @@ use Rattle.std.specs.FinMap.{is_sorted, find}
 use Rattle.std.specs.Map.{keys_of, lookup}
 use Rattle.std.specs.BTreeMap.{get, is_at, IsOrdered}
 use Rattle.hm_tree.specs.Names.{Name, name_cmp}
-use Rattle.hm_tree.specs.Nodes.{Tree, node, edges, are_edges, are_texts, edges_from, both}
-use Rattle.hm_tree.specs.NodeLaws.{edges-node}
-use Rattle.hm_terms.specs.Parts.{HasItems}
+use Rattle.hm_tree.specs.Nodes.{Tree, node, edges, are_edges, are_texts, below_all, edges_rise, edges_texts, edges_from, both, first, second}
+use Rattle.hm_tree.specs.NodeLaws.{edges-node, edges_empty}
+use Rattle.hm_tree.proofs.Texts.{ascii_test}
+use Rattle.hm_terms.specs.Parts.{HasItems, none_left, and_then, head, tail}
+use Rattle.hm_parts.specs.Lent.{lent}
 use Rattle.hm_items.specs.Items.{of_key}
-use Rattle.hm_item_trees.specs.ItemTrees.{AreLists, IsItemTree}
+use Rattle.hm_item_trees.specs.ItemTrees.{AreLists, IsItemTree, list_tree, list_edge, tree_of_lists}
 use Rattle.hm_item_trees.specs.Gathered.{Gathered, list_of, lists_of, held, items_at, IsFilled}
+use Rattle.hm_item_trees.specs.Lent.{LentList, lent_list, lent_lists}
 
 abbrev Entries : Type 0
 Entries = List (Name × Vec Tree Global)
@@ -65,11 +68,12 @@ lists [] (q ∷ ps) h = absurd h
 lists (f ∷ es) [] h = absurd h
 lists (f ∷ es) (q ∷ ps) h = (h.0, lists es ps h.1)
 
-pub one_list_more : (es : List (Name × Tree)) (ps : Entries) (e : Name × Tree) (p : Name × Vec Tree Global) → AreLists es (map list_of ps)
-    → IsListOf e p → AreLists (es ++ e ∷ []) (map list_of (ps ++ p ∷ []))
-one_list_more es ps e p h r =
-    subst (AreLists (es ++ e ∷ [])) (sym (map-append list_of ps (p ∷ [])))
-    (one_more (λ (e : Name × Tree) (l : Name × List Tree). (e.0 ≡ l.0) × HasItems e.1 l.1) es (map list_of ps) e (list_of p) h r)
+pub one_list_more : (es fs : List (Name × Tree)) (ls ms : List LentList) (e : Name × Tree) (l : LentList) → AreLists es (lent_lists ls)
+    → fs ≡ es ++ e ∷ [] → ms ≡ ls ++ l ∷ [] → (e.0 ≡ l.0.now) × HasItems e.1 (lent l.1.items) → AreLists fs (lent_lists ms)
+one_list_more es fs ls ms e l h taken given same =
+    let more = one_more (λ (e : Name × Tree) (l : Name × List Tree). (e.0 ≡ l.0) × HasItems e.1 l.1) es (lent_lists ls) e (lent_list l) h same in
+    subst (λ fs. AreLists fs (lent_lists ms)) (sym taken)
+    (subst (AreLists (es ++ e ∷ [])) (sym (ap lent_lists given ∙ map-append lent_list ls (l ∷ []))) more)
 
 standing_lists : (es : List (Name × Tree)) (ps : Entries) → StandFor es ps → AllZip IsListOf es ps
 standing_lists [] [] h = tt
@@ -87,9 +91,25 @@ module _ {X : Type 0} where
   rise [] h = tt
   rise (e ∷ es) h = both _ _ (above e.0 es h.0) (rise es h.1)
 
-keys_of_lists : (ps : Entries) → keys_of (map list_of ps) ≡ keys_of ps
-keys_of_lists [] = refl
-keys_of_lists (p ∷ ps) = λ i. p.0 ∷ keys_of_lists ps i
+-- the entries of a map may be edges, where their names are UTF-8
+pub rising_entries : (ps : Entries) → T (are_texts ps) → IsStrictlySortedBy name_cmp (keys_of ps) → T (are_edges ps)
+rising_entries ps texts ascend = edges_from ps (rise ps ascend) texts
+
+below_lists : (n : Name) (ps : Entries) → below_all n (map list_of ps) ≡ below_all n ps
+below_lists n [] = refl
+below_lists n (p ∷ ps) = λ i. is_lt (name_cmp n p.0) && below_lists n ps i
+
+lists_sorted : (ps : Entries) → is_sorted name_cmp (map list_of ps) ≡ is_sorted name_cmp ps
+lists_sorted [] = refl
+lists_sorted (p ∷ ps) = λ i. below_lists p.0 ps i && lists_sorted ps i
+
+below_edges : (n : Name) (ps : Entries) → below_all n (map list_edge (map list_of ps)) ≡ below_all n ps
+below_edges n [] = refl
+below_edges n (p ∷ ps) = λ i. is_lt (name_cmp n p.0) && below_edges n ps i
+
+edges_sorted : (ps : Entries) → is_sorted name_cmp (map list_edge (map list_of ps)) ≡ is_sorted name_cmp ps
+edges_sorted [] = refl
+edges_sorted (p ∷ ps) = λ i. below_edges p.0 ps i && edges_sorted ps i
 
 pub made_edges : (es : List (Name × Tree)) (ps : Entries) → StandFor es ps → IsStrictlySortedBy name_cmp (keys_of ps) → T (are_edges es)
 made_edges es ps h ascend =
@@ -119,17 +139,50 @@ module _ (m : Gathered) (filled : IsFilled m) (k : Name) where
   no_empty None e h = let no : ⊥ = cc in no
   no_empty (Some v) e h = filled k v e (let none : v.items ≡ [] = cc in none)
 
--- a tree of edges that stand for a map's entries is the tree of the items that the map has
-pub made_tree : (items : List (Name × Tree)) (m : Gathered) (es : List (Name × Tree)) (t : Tree) → t ≡ node es → StandFor es m.entries
-    → IsOrdered name_cmp m → IsFilled m → ((k : Name) → items_at m k ≡ of_key name_cmp k items) → IsItemTree items t
-made_tree items m es t is h ascend filled each = record {
+-- a tree of edges that stand for a map's entries has its lists
+pub made_lists : (m : Gathered) (es : List (Name × Tree)) (t : Tree) → t ≡ node es → StandFor es m.entries → IsOrdered name_cmp m
+    → AreLists (edges t) (lists_of m)
+made_lists m es t is h ascend =
+    subst (λ l. AreLists l (lists_of m)) (sym (ap edges is ∙ edges-node es (made_edges es m.entries h ascend)))
+    (lists es m.entries (standing_lists es m.entries h))
+
+-- a tree with the lists of a map is the tree of the items that the map has
+pub made_tree : (items : List (Name × Tree)) (m : Gathered) (t : Tree) → T (are_edges m.entries) → IsFilled m
+    → ((k : Name) → items_at m k ≡ of_key name_cmp k items) → AreLists (edges t) (lists_of m) → IsItemTree items t
+made_tree items m t sound filled each below = record {
   lists = lists_of m;
   grouped = record {
     tree_is = record {
-      sorted = rise (lists_of m) (subst (IsStrictlySortedBy name_cmp) (sym (keys_of_lists m.entries)) ascend);
+      sorted = subst T (sym (lists_sorted m.entries)) (edges_rise m.entries sound);
       filled = λ k e. no_empty m filled k (get name_cmp m k) refl (sym (found k m.entries) ∙ e);
     };
     each = λ k. ap (λ o. unwrap_or o []) (found k m.entries) ∙ held_of (get name_cmp m k) ∙ each k;
   };
-  below = subst (λ l. AreLists l (lists_of m)) (sym (ap edges is ∙ edges-node es (made_edges es m.entries h ascend))) (lists es m.entries (standing_lists es m.entries h));
+  below = below;
 }
+
+-- ---- there is a tree with these lists
+
+list_rises : (x r : Tree) → T (is_sorted name_cmp ((head, x) ∷ (tail, r) ∷ []))
+unfolding name_cmp
+list_rises x r = tt
+
+list_edges : (x r : Tree) → T (are_edges ((head, x) ∷ (tail, r) ∷ []))
+list_edges x r =
+    edges_from ((head, x) ∷ (tail, r) ∷ []) (list_rises x r)
+    (both (is_utf8 head) (is_utf8 tail && true) (ascii_test head refl) (both (is_utf8 tail) true (ascii_test tail refl) tt))
+
+pub has_items : (xs : List Tree) → HasItems (list_tree xs) xs
+has_items [] = none_left edges_empty
+has_items (x ∷ xs) = and_then (edges-node ((head, x) ∷ (tail, list_tree xs) ∷ []) (list_edges x (list_tree xs))) (has_items xs)
+
+stand_trees : (ps : Entries) → T (are_texts ps) → StandFor (map list_edge (map list_of ps)) ps
+stand_trees [] texts = tt
+stand_trees (p ∷ ps) texts = (((refl, has_items p.1.items), first _ _ texts), stand_trees ps (second (is_utf8 p.0) _ texts))
+
+pub standing_tree : (m : Gathered) → T (are_edges m.entries) → AreLists (edges (tree_of_lists (lists_of m))) (lists_of m)
+standing_tree m sound =
+    let es = map list_edge (lists_of m) in
+    let stand = stand_trees m.entries (edges_texts m.entries sound) in
+    let made = edges_from es (subst T (sym (edges_sorted m.entries)) (edges_rise m.entries sound)) (texts es m.entries stand) in
+    subst (λ l. AreLists l (lists_of m)) (sym (edges-node es made)) (lists es m.entries (standing_lists es m.entries stand))

@@ -1,9 +1,10 @@
 -- The tree of a file of items.
-use Rattle.std.specs.Prelude.{◌≡◌, List, All}
+use Rattle.std.specs.Prelude.{◌≡◌, ℕ, ◌+◌, ◌<◌, ◌≤◌, max, List, [], ◌∷◌, map, All}
 use Rattle.std.specs.List.{AllZip}
+use denote.Param.Weighed.{most}
 use Rattle.hm_tree.specs.Names.{Name, name_cmp}
-use Rattle.hm_tree.specs.Nodes.{Tree, edges}
-use Rattle.hm_terms.specs.Parts.{HasItems, IsList}
+use Rattle.hm_tree.specs.Nodes.{Tree, depth, edges, empty, node}
+use Rattle.hm_terms.specs.Parts.{HasItems, IsList, head, tail}
 use Rattle.hm_items.specs.Items.{IsGrouped}
 
 -- each name has a list with these items
@@ -19,3 +20,40 @@ pub record IsItemTree (items : List (Name × Tree)) (t : Tree) : Type 0 where
   pub lists : List (Name × List Tree)
   pub grouped : IsGrouped name_cmp items lists
   pub below : AreLists (edges t) lists
+
+-- ---- the trees with given items
+
+-- the list of these items
+abbrev pub list_tree : List Tree → Tree
+list_tree [] = empty
+list_tree (x ∷ xs) = node ((head, x) ∷ (tail, list_tree xs) ∷ [])
+
+abbrev pub list_edge : Name × List Tree → Name × Tree
+list_edge l = (l.0, list_tree l.1)
+
+-- the tree that has these lists below their names
+abbrev pub tree_of_lists : List (Name × List Tree) → Tree
+tree_of_lists ls = node (map list_edge ls)
+
+-- ---- depth
+
+-- the depth of the list of these items: two edges lead from it, to its first item and to the list of the others
+abbrev pub list_depth : List Tree → ℕ
+list_depth [] = 0
+list_depth (x ∷ xs) = max (depth x) (list_depth xs) + 1
+
+-- the depth of a tree that has these lists below its names
+abbrev pub lists_depth : List (Name × List Tree) → ℕ
+lists_depth ls = most (λ l. list_depth l.1 + 1) ls
+
+-- the tree of these items is deeper than allowed, and so deep
+pub record IsTooDeep (items : List (Name × Tree)) (deepest found : ℕ) : Type 0 where
+  pub tree : Tree
+  pub is : IsItemTree items tree
+  pub depth_is : found ≡ depth tree
+  pub over : deepest < found
+
+-- the tree of these items, no deeper than allowed
+pub record IsShallow (items : List (Name × Tree)) (deepest : ℕ) (t : Tree) : Type 0 where
+  pub is : IsItemTree items t
+  pub within : depth t ≤ deepest

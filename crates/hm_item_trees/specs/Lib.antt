@@ -1,2 +1,3 @@
 pub mod ItemTrees
 pub mod Gathered
+pub mod Lent

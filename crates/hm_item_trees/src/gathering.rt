@@ -1,22 +1,42 @@
 //! Gathering items below their keys.
-ghost use Rattle.std.specs.Prelude.{◌≡◌, ◌++◌, ◌∷◌, [], None, IfOk, OnOk, cond};
+ghost use Rattle.std.specs.Prelude.{◌≡◌, ℕ, ◌++◌, ◌∷◌, [], IfOk, OnOk, Err, cond};
 ghost use Rattle.std.specs.Ordering.{eq_by_cmp};
-ghost use Rattle.std.specs.BTreeMap.{get, is_at};
 ghost use Rattle.hm_tree.specs.Names.{Name as NameValue, name_cmp};
+ghost use Rattle.hm_tree.specs.Nodes.{edges};
 ghost use Rattle.hm_items.specs.Items.{of_key};
-ghost use Rattle.hm_item_trees.specs.ItemTrees.{IsItemTree};
-ghost use Rattle.hm_item_trees.specs.Gathered.{items_at, IsFilled};
+ghost use Rattle.hm_item_trees.specs.ItemTrees.{AreLists, IsShallow, IsTooDeep};
+ghost use Rattle.hm_item_trees.specs.Gathered.{lists_of, items_at, IsFilled};
+ghost use Rattle.hm_item_trees.specs.declared.fault.ItemTreeFault.TheVariants.{TooDeep};
 
+use crate::depths::depth_of_lists;
+use crate::fault::ItemTreeFault;
 use hm_parts::list_build;
 use hm_tree::{Memory, Name, Tree};
 use std::alloc::Global;
 use std::collections::BTreeMap;
 
-/// The tree of a file with these items, in file order: below each key stands the list of the items with it.
-pub fn item_tree(alloc: Global, items: Vec<(Name, Tree)>) -> Result<Tree, Memory>
-    ensures { IfOk result (IsItemTree items.items) }
+/// The tree of a file with these items, in file order: below each key stands the list of the items with it. It isn't
+/// built where it would be deeper than `deepest` edges.
+pub fn item_tree(
+    alloc: Global,
+    items: Vec<(Name, Tree)>,
+    deepest: usize,
+) -> Result<Tree, ItemTreeFault>
+    ensures tree { IfOk result (IsShallow items.items deepest) }
+    ensures too_deep { (found : ℕ) → result ≡ Err (TooDeep found) → IsTooDeep items.items deepest found }
 {
     let lists = gather(alloc, items)?;
+    let depth = depth_of_lists(&lists)?;
+    if depth > deepest {
+        return Err(ItemTreeFault::TooDeep { depth });
+    }
+    Ok(tree_of(alloc, lists)?)
+}
+
+// The tree that has these lists below their keys.
+fn tree_of(alloc: Global, lists: BTreeMap<Name, Vec<Tree>>) -> Result<Tree, Memory>
+    ensures { IfOk result (λ tree. AreLists (edges tree) (lists_of lists)) }
+{
     let mut edges = Vec::with_capacity(alloc, lists.len())?;
     for (name, list) in lists {
         edges.push((name, list_build(list)?))?;
@@ -47,21 +67,7 @@ fn add(
     ensures filled { OnOk result (IsFilled map.new) }
     ensures added { OnOk result ((k : NameValue) → items_at map.new k ≡ items_at map.old k ++ cond (eq_by_cmp name_cmp k name) (item ∷ []) []) }
 {
-    let mut list = take(alloc, map, &name);
+    let list = map.entry(name)?.or_insert(Vec::new(alloc));
     list.push(item)?;
-    map.insert(name, list)?;
     Ok(())
-}
-
-// The items of a key, which are taken out.
-fn take(alloc: Global, map: &mut BTreeMap<Name, Vec<Tree>>, name: &Name) -> Vec<Tree>
-    requires { IsFilled map.old }
-    ensures items { result.items ≡ items_at map.old name.now }
-    ensures others { (k : NameValue) → get name_cmp map.new k ≡ cond (is_at (name_cmp name.now) k) None (get name_cmp map.old k) }
-    ensures filled { IsFilled map.new }
-{
-    match map.remove(name) {
-        Some(list) => list,
-        None => Vec::new(alloc),
-    }
 }

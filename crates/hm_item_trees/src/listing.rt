@@ -1,22 +1,24 @@
 //! Taking a tree of items apart.
-ghost use Rattle.std.specs.Prelude.{◌≡◌, IfOk, map};
+ghost use Rattle.std.specs.Prelude.{IfOk};
 ghost use Rattle.hm_tree.specs.Nodes.{edges};
 ghost use Rattle.hm_item_trees.specs.ItemTrees.{HasLists, AreLists};
-ghost use Rattle.hm_item_trees.specs.Gathered.{list_of};
+ghost use Rattle.hm_item_trees.specs.Lent.{lent_lists};
 
-use hm_parts::into_items;
+use hm_parts::lent_items;
 use hm_tree::{Memory, Name, Tree};
 use std::alloc::Global;
 
 /// The items of the list below each key of a tree, in the order of the keys.
-pub fn item_lists(alloc: Global, tree: Tree) -> Result<Vec<(Name, Vec<Tree>)>, Memory>
-    requires { HasLists tree }
-    ensures { IfOk result (λ lists. AreLists (edges tree) (map list_of lists.items)) }
+pub fn item_lists<'a>(
+    alloc: Global,
+    tree: &'a Tree,
+) -> Result<Vec<(&'a Name, Vec<&'a Tree>)>, Memory>
+    requires { HasLists tree.now }
+    ensures { IfOk result (λ lists. AreLists (edges tree.now) (lent_lists lists.items)) }
 {
-    let edges = tree.into_edges();
-    let mut lists = Vec::with_capacity(alloc, edges.len())?;
-    for (name, list) in edges {
-        lists.push((name, into_items(list)?))?;
+    let mut lists = Vec::with_capacity(alloc, tree.count())?;
+    for edge in tree.edges() {
+        lists.push((&edge.0, lent_items(&edge.1)?))?;
     }
     Ok(lists)
 }

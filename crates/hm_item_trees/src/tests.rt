@@ -43,7 +43,7 @@ fn items_with_one_key_are_a_list(rt: HostRuntime) -> Result<(), Fail> {
     add(alloc, &mut items, "Bob", "3")?;
     add(alloc, &mut items, "", "4")?;
     add(alloc, &mut items, "Bob", "2")?;
-    let tree = item_tree(alloc, items)?;
+    let tree = item_tree(alloc, items, 10)?;
     assert_eq!(rt; tree.count(), 3);
     expect_list(&rt, alloc, &tree, "Bob", &["1", "3", "2"])?;
     expect_list(&rt, alloc, &tree, "Alice", &["2"])?;
@@ -54,7 +54,7 @@ fn items_with_one_key_are_a_list(rt: HostRuntime) -> Result<(), Fail> {
 #[test]
 fn no_item_is_the_empty_tree(rt: HostRuntime) -> Result<(), Fail> {
     let alloc = rt.alloc();
-    assert_eq!(rt; item_tree(alloc, Vec::new(alloc))?.count(), 0);
+    assert_eq!(rt; item_tree(alloc, Vec::new(alloc), 0)?.count(), 0);
     Ok(())
 }
 
@@ -66,12 +66,39 @@ fn a_tree_is_taken_apart_into_its_lists(rt: HostRuntime) -> Result<(), Fail> {
     add(alloc, &mut items, "Bob", "2")?;
     add(alloc, &mut items, "Alice", "3")?;
     add(alloc, &mut items, "Bob", "1")?;
-    let lists = item_lists(alloc, item_tree(alloc, items)?)?;
+    let tree = item_tree(alloc, items, 10)?;
+    let lists = item_lists(alloc, &tree)?;
     assert_eq!(rt; lists.len(), 2);
     assert_eq!(rt; lists[0].0.text(), "Alice");
     assert_eq!(rt; lists[1].0.text(), "Bob");
     assert_eq!(rt; lists[1].1.len(), 2);
     assert!(rt; lists[1].1[0].same(&shown(alloc, "2")?));
     assert!(rt; lists[1].1[1].same(&shown(alloc, "1")?));
+    Ok(())
+}
+
+// A key with so many items, each with a text.
+fn depth_with(
+    alloc: Global,
+    count: usize,
+    deepest: usize,
+) -> Result<Result<usize, ItemTreeFault>, Fail> {
+    let mut items = Vec::new(alloc);
+    add(alloc, &mut items, "Alice", "1")?;
+    for _ in 0..count {
+        add(alloc, &mut items, "Bob", "1")?;
+    }
+    add(alloc, &mut items, "Zoe", "1")?;
+    Ok(item_tree(alloc, items, deepest).map(|tree| tree.depth()))
+}
+
+#[test]
+fn a_tree_that_is_too_deep_is_refused(rt: HostRuntime) -> Result<(), Fail> {
+    let alloc = rt.alloc();
+    // an edge to the list, one to the rest for each item but the last, one to the last item, and one to its text
+    assert!(rt; depth_with(alloc, 10, 12)? == Ok(12));
+    assert!(rt; depth_with(alloc, 10, 11)? == Err(ItemTreeFault::TooDeep { depth: 12 }));
+    assert!(rt; depth_with(alloc, 10, 2)? == Err(ItemTreeFault::TooDeep { depth: 12 }));
+    assert!(rt; depth_with(alloc, 1, 3)? == Ok(3));
     Ok(())
 }

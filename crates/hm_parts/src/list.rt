@@ -1,19 +1,33 @@
 //! Lists: an empty tree, or a tree with an item and a list of the others.
 ghost use Rattle.std.specs.Prelude.{◌≡◌, IfOk, MatchOption};
 ghost use Rattle.hm_terms.specs.Parts.{IsNil, IsItem, IsList, HasItems};
+ghost use Rattle.hm_parts.specs.Lent.{lent};
 
 use hm_tree::{Memory, Name, Tree};
 
-/// Copies of the items of a list, in order.
-pub fn list_items(tree: &Tree) -> Result<Vec<Tree>, Memory>
-    requires { IsList tree.now }
-    ensures { IfOk result (λ items. HasItems tree.now items.items) }
+/// The items of a list, in order, to be looked at.
+pub fn lent_items<'a>(list: &'a Tree) -> Result<Vec<&'a Tree>, Memory>
+    requires { IsList list.now }
+    ensures { IfOk result (λ items. HasItems list.now (lent items.items)) }
 {
-    let mut items = Vec::new(tree.allocator());
-    let mut rest = tree;
-    while let Some((item, others)) = first_item(rest) {
-        items.push(item.copy()?)?;
+    let mut items = Vec::new(list.allocator());
+    let mut rest = list;
+    while let Some((first, others)) = first_item(rest) {
+        items.push(first)?;
         rest = others;
+    }
+    Ok(items)
+}
+
+/// Copies of the items of a list, in order.
+pub fn list_items(list: &Tree) -> Result<Vec<Tree>, Memory>
+    requires { IsList list.now }
+    ensures { IfOk result (λ items. HasItems list.now items.items) }
+{
+    let lent = lent_items(list)?;
+    let mut items = Vec::with_capacity(list.allocator(), lent.len())?;
+    for item in &lent {
+        items.push(item.copy()?)?;
     }
     Ok(items)
 }

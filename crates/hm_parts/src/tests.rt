@@ -1,6 +1,7 @@
 //! Trees that are taken apart and put together again, with expected values by hand.
 use crate::{
-    copy_edge, drop_edge, hoist, list_build, list_items, merge_back, plunge, value, value_of,
+    copy_edge, drop_edge, hoist, lent_items, list_build, list_items, merge_back, plunge, value,
+    value_of,
 };
 use hm_tree::{Memory, Name, Tree};
 use std::alloc::Global;
@@ -49,10 +50,11 @@ fn a_list_has_the_items_of_which_it_was_built(rt: HostRuntime) -> Result<(), Fai
     items.push(leaf(alloc, "1")?)?;
     let list = list_build(items)?;
     assert_eq!(rt; list.depth(), 3);
-    let again = list_items(&list)?;
-    assert_eq!(rt; again.len(), 2);
-    assert!(rt; again[0].same(&leaf(alloc, "2")?));
-    assert!(rt; again[1].same(&leaf(alloc, "1")?));
+    let lent = lent_items(&list)?;
+    assert_eq!(rt; lent.len(), 2);
+    assert!(rt; lent[0].same(&leaf(alloc, "2")?));
+    assert!(rt; lent[1].same(&leaf(alloc, "1")?));
+    assert_eq!(rt; list_items(&list)?.len(), 2);
     Ok(())
 }
 

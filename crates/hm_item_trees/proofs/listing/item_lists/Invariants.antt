@@ -1,7 +1,8 @@
-use Rattle.std.proofs.Common.{map}
+use Rattle.std.proofs.Common.{take}
 use Rattle.hm_item_trees.specs.ItemTrees.{AreLists}
-use Rattle.hm_item_trees.specs.Gathered.{list_of}
+use Rattle.hm_item_trees.specs.Lent.{lent_lists}
 use Rattle.hm_item_trees.proofs.listing.item_lists.Given as goal
 
-abbrev pub invariant-loop-name : goal.invariant-loop-name
-invariant-loop-name l = AreLists l.yielded (map list_of l.lists.items)
+-- the edges up to here were taken apart
+abbrev pub invariant-loop-edge : goal.invariant-loop-edge
+invariant-loop-edge l = AreLists (take l.edge-index l.edge-items) (lent_lists l.lists.items)

@@ -1,9 +1,7 @@
-use Rattle.hm_tree.specs.Nodes.{depth}
-use Rattle.hm_parts.proofs.Items.{IsTakenSoFar}
+use Rattle.std.proofs.Common.{◌≡◌, take}
+use Rattle.hm_parts.specs.Lent.{lent}
 use Rattle.hm_parts.proofs.list.list_items.Given as goal
 
+-- the items up to here were copied
 abbrev pub invariant-loop-item : goal.invariant-loop-item
-invariant-loop-item l = IsTakenSoFar l.fn.tree l.items.items l.rest
-
-abbrev pub decreases-loop-item : goal.decreases-loop-item
-decreases-loop-item l = depth l.rest
+invariant-loop-item l = l.items.items ≡ lent (take l.item-index l.item-items)
