@@ -1,0 +1,10 @@
+pub mod TextTrees
+pub mod CardTrees
+pub mod NodeShapes
+pub mod Examples
+pub mod KindPlaces
+pub mod OpenNodes
+pub mod CardNodes
+pub mod CardLists
+pub mod BookTrees
+pub mod Laws

@@ -1,0 +1,18 @@
+//! The trees of address books, and their schema.
+//!
+//! An address book is a list of cards, each with a key. Its tree has below each key the list of the cards with it
+//! (`hm_item_trees`). A card has below some names sets of texts, as the telephone numbers of a person (`specs/Cards`). Files
+//! of comma-separated values, of vCards (RFC 6350) and of calendars (RFC 5545) all have such trees: they differ in the names
+//! that cards may have, and in which of them may have many texts.
+//!
+//! `book_schema` is the schema of these trees, `card_tree` makes the tree of a card, and `texts_at` reads it.
+#![tactic(auto)]
+
+mod book;
+mod card;
+mod nodes;
+#[cfg(test)]
+mod tests;
+
+pub use book::book_schema;
+pub use card::{card_tree, texts_at};
