@@ -1,0 +1,4 @@
+mod SameNames
+mod Rows
+pub mod FieldLaws
+pub mod Laws

@@ -1,0 +1,96 @@
+//! Single fields.
+ghost use Rattle.std.specs.Prelude.{◌≡◌, false, length, IsUtf8, IfOk};
+ghost use Rattle.hm_tree.specs.Sets.{ascending};
+ghost use Rattle.hm_columns.specs.Fields as spec;
+
+use hm_pieces::{is_text, text_of, texts};
+use hm_tree::{Memory, Name, NameSet};
+use std::alloc::Global;
+
+/// The texts that a field shows.
+pub fn texts_shown(alloc: Global, many: bool, field: &[u8]) -> Result<NameSet, Memory>
+    requires { IsUtf8 field.now }
+    ensures { IfOk result (λ set. set ≡ spec.texts_shown many field.now) }
+{
+    if !many {
+        return one_text(alloc, field);
+    }
+    match std::str::from_utf8(field) {
+        Ok(field) => texts(alloc, field),
+        Err(_) => unreachable!(),
+    }
+}
+
+// The one text of a field, where it isn't of spaces alone.
+fn one_text(alloc: Global, field: &[u8]) -> Result<NameSet, Memory>
+    requires { IsUtf8 field.now }
+    ensures { IfOk result (λ set. set ≡ spec.texts_shown false field.now) }
+{
+    let text = text_of(alloc, field)?;
+    let mut texts = Vec::new(alloc);
+    if is_text(&text) {
+        texts.push(text)?;
+    }
+    NameSet::from_list(texts)
+}
+
+/// Whether two sets have the same names.
+pub fn same_texts(one: &NameSet, other: &NameSet) -> bool
+    ensures { result ≡ spec.same_texts one.now other.now }
+{
+    same_names(one.names(), other.names())
+}
+
+fn same_names(one: &[Name], other: &[Name]) -> bool
+    ensures { result ≡ spec.same_names one.now other.now }
+{
+    if one.len() != other.len() {
+        return false;
+    }
+    same_each(one, other)
+}
+
+// The same of lists of one length.
+fn same_each(one: &[Name], other: &[Name]) -> bool
+    requires { length one.now ≡ length other.now }
+    ensures { result ≡ spec.same_names one.now other.now }
+{
+    for place in 0..one.len() {
+        if !one[place].same(&other[place]) {
+            return false;
+        }
+    }
+    true
+}
+
+/// The field that is made anew to show a set of texts.
+pub fn made(alloc: Global, many: bool, field: &[u8], set: &NameSet) -> Result<Vec<u8>, Memory>
+    requires { IsUtf8 field.now }
+    ensures { IfOk result (λ new. new.items ≡ spec.made many field.now set.now) }
+{
+    if !many {
+        return one_field(alloc, set);
+    }
+    match std::str::from_utf8(field) {
+        Ok(field) => hm_pieces::rewrite(alloc, field, set),
+        Err(_) => unreachable!(),
+    }
+}
+
+// The field of the first text of a set.
+fn one_field(alloc: Global, set: &NameSet) -> Result<Vec<u8>, Memory>
+    ensures { IfOk result (λ text. text.items ≡ spec.first_of (ascending set.now)) }
+{
+    first_text(alloc, set.names())
+}
+
+// The bytes of the first of some names; none where there is no name.
+fn first_text(alloc: Global, names: &[Name]) -> Result<Vec<u8>, Memory>
+    ensures { IfOk result (λ text. text.items ≡ spec.first_of names.now) }
+{
+    let mut text = Vec::new(alloc);
+    if let Some(name) = names.first() {
+        text.extend_from_slice(name.bytes())?;
+    }
+    Ok(text)
+}

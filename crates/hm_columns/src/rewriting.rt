@@ -1,0 +1,116 @@
+//! Records that are to show other cards.
+ghost use Rattle.std.specs.Prelude.{◌≡◌, ◌<◌, ◌++◌, ◌∷◌, [], None, Option, IsUtf8, All, IfOk, OnOk, cond, option_and_then, length, get_or, slice_get};
+ghost use Rattle.csv.specs.Records.{fields_of, partial_of};
+ghost use Rattle.std.specs.Bool.{◌==◌};
+ghost use Rattle.std.specs.Option.{option_map};
+ghost use Rattle.hm_cards.specs.Cards as cards;
+ghost use Rattle.hm_columns.specs.Fields as fields;
+ghost use Rattle.hm_columns.specs.Records as spec;
+
+use crate::column::Column;
+use crate::field::{made, same_texts, texts_shown};
+use csv::ByteRecord;
+use hm_cards::texts_at;
+use hm_records::field;
+use hm_tree::{Memory, Name, Tree};
+use std::alloc::Global;
+
+/// The columns of a table, and for each place of a record which of them is there.
+#[derive(Drop)]
+pub struct Table {
+    pub columns: Vec<Column>,
+    pub signs: Vec<Option<usize>>,
+}
+
+/// The record that is to show a card: a field that is in no column, and one whose texts stay, is left alone.
+pub fn rewrite(
+    alloc: Global,
+    table: &Table,
+    row: &ByteRecord,
+    card: &Tree,
+) -> Result<ByteRecord, Memory>
+    requires signs { spec.AreSigns table.now.columns.items table.now.signs.items (length (fields_of row.now)) }
+    requires text { All IsUtf8 (fields_of row.now) }
+    ensures { IfOk result (λ new. fields_of new ≡ spec.rewritten table.now.columns.items card.now (fields_of row.now)) }
+{
+    let mut new = ByteRecord::new(alloc);
+    for place in 0..row.len() {
+        push_for(
+            alloc,
+            &mut new,
+            column_at(table, place),
+            field(row, place),
+            card,
+        )?;
+    }
+    Ok(new)
+}
+
+// The column that is at a place.
+fn column_at(table: &Table, place: usize) -> Option<&Column>
+    requires { place < length table.now.signs.items }
+    ensures { option_map (λ c. c.now) result ≡ option_and_then (slice_get table.now.columns.items) (get_or table.now.signs.items place None) }
+{
+    let index = table.signs[place]?;
+    table.columns.get(index)
+}
+
+// Puts the field that is to show a card behind those of a record.
+fn push_for(
+    alloc: Global,
+    new: &mut ByteRecord,
+    column: Option<&Column>,
+    field: &[u8],
+    card: &Tree,
+) -> Result<(), Memory>
+    requires whole { partial_of new.old ≡ [] }
+    requires text { IsUtf8 field.now }
+    ensures pushed { OnOk result (fields_of new.new ≡ fields_of new.old ++ spec.field_in (option_map (λ c. c.now) column.entry) card.now field.now ∷ []) }
+    ensures whole { OnOk result (partial_of new.new ≡ []) }
+{
+    let Some(column) = column else {
+        new.push_field(field)?;
+        return Ok(());
+    };
+    push_made(alloc, new, column, field, card)
+}
+
+// The same in a column.
+fn push_made(
+    alloc: Global,
+    new: &mut ByteRecord,
+    column: &Column,
+    field: &[u8],
+    card: &Tree,
+) -> Result<(), Memory>
+    requires whole { partial_of new.old ≡ [] }
+    requires text { IsUtf8 field.now }
+    ensures pushed { OnOk result (fields_of new.new ≡ fields_of new.old ++ fields.field_for column.now.many field.now (cards.texts_at column.now.name card.now) ∷ []) }
+    ensures whole { OnOk result (partial_of new.new ≡ []) }
+{
+    let texts = texts_at(card, &column.name)?;
+    if same_texts(&texts_shown(alloc, column.many, field)?, &texts) {
+        new.push_field(field)?;
+    } else {
+        new.push_field(&made(alloc, column.many, field, &texts)?)?;
+    }
+    Ok(())
+}
+
+/// A record of so many fields that are empty but for the key at its place.
+pub fn blank(alloc: Global, place: usize, key: &Name, count: usize) -> Result<ByteRecord, Memory>
+    ensures { IfOk result (λ new. fields_of new ≡ spec.blank place key.now count) }
+{
+    let mut new = ByteRecord::new(alloc);
+    for at in 0..count {
+        new.push_field(key_or_nothing(at, place, key))?;
+    }
+    Ok(new)
+}
+
+// The key, if it stands there.
+fn key_or_nothing(at: usize, place: usize, key: &Name) -> &[u8]
+    ensures { result.now ≡ cond (at == place) key.now [] }
+{
+    if at == place { key.bytes() } else { b"" }
+}
