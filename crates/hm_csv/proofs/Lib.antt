@@ -1,0 +1,15 @@
+mod Books
+mod ColumnFacts
+mod Examples
+mod Keys
+mod Openings
+mod ShownNames
+mod Signs
+mod RowLaws
+mod ReadOnce
+mod FileLaws
+mod Slots
+mod Prefixes
+mod Planned
+pub mod Laws
+mod Rewritten
