@@ -1,19 +1,20 @@
 -- The line and the exit status of each ending.
 use Rattle.std.specs.Prelude.{ℕ, List, [], ◌∷◌, ◌++◌, codes, Result, Ok, Err}
 use Rattle.std.specs.Fmt.{decimal}
-use Rattle.hm_tree.specs.Spelling.{path_text}
+use Rattle.hm_tree.specs.Names.{Name}
+use Rattle.hm_tree.specs.Spelling.{spelled, path_text}
 use Rattle.hm_outside.specs.declared.outside.Kind.{Kind}
 use Rattle.hm_outside.specs.declared.outside.Kind.TheVariants.{Load, Replace}
 use Rattle.hm_outside.specs.declared.outside.Put.{Put}
 use Rattle.hm_outside.specs.declared.outside.Put.TheVariants as put
 use Rattle.hm_files.specs.declared.slot.Slot.{Slot}
-use Rattle.hm_files.specs.declared.slot.Slot.TheVariants.{Schema, Archive, A, B}
+use Rattle.hm_files.specs.declared.slot.Slot.TheVariants.{Schema, LensA, LensB, Archive, A, B}
 use Rattle.hm_files.specs.declared.stop.ArchiveFault.{ArchiveFault}
 use Rattle.hm_files.specs.declared.stop.ArchiveFault.TheVariants.{At as Begins, Deep}
 use Rattle.hm_files.specs.declared.stop.ReplicaFault.{ReplicaFault}
-use Rattle.hm_files.specs.declared.stop.ReplicaFault.TheVariants.{NotUtf8, BadItem, TooDeep, Outside}
+use Rattle.hm_files.specs.declared.stop.ReplicaFault.TheVariants.{NotUtf8, BadItem, NoKey, TooDeep, Outside}
 use Rattle.hm_files.specs.declared.stop.FileFault.{FileFault}
-use Rattle.hm_files.specs.declared.stop.FileFault.TheVariants.{Missing, TooLarge, BadSchema, BadArchive, BadReplica, Overgrown}
+use Rattle.hm_files.specs.declared.stop.FileFault.TheVariants.{Missing, TooLarge, BadSchema, BadLens, UnknownFormat, BadOption, UnknownLens, Unguarded, Mistyped, TwinLeft, WrongView, BadArchive, BadReplica, Unwritable, Overgrown}
 use Rattle.hm_files.specs.declared.stop.Refusal.{Refusal}
 use Rattle.hm_files.specs.declared.stop.Refusal.TheVariants.{Usage, SameName, At}
 use Rattle.hm_files.specs.declared.stop.Stop.{Stop}
@@ -23,6 +24,8 @@ use Rattle.hm_command.specs.declared.ending.Ending.{Ending}
 
 abbrev pub slot_name : Slot → List ℕ
 slot_name Schema = codes "schema"
+slot_name LensA = codes "lensA"
+slot_name LensB = codes "lensB"
 slot_name Archive = codes "archive"
 slot_name A = codes "A"
 slot_name B = codes "B"
@@ -34,20 +37,38 @@ archive_fault_text Deep = codes "deep"
 abbrev pub replica_fault_text : ReplicaFault → List ℕ
 replica_fault_text (NotUtf8 at) = codes "NotUtf8 " ++ decimal at
 replica_fault_text (BadItem at) = codes "BadItem " ++ decimal at
+replica_fault_text (NoKey at) = codes "NoKey " ++ decimal at
 replica_fault_text (TooDeep depth) = codes "TooDeep " ++ decimal depth
 replica_fault_text (Outside path) = codes "Outside " ++ path_text path
+
+-- a slot with a name behind it, or with numbers
+abbrev pub slot_and_name : List ℕ → Slot → Name → List ℕ
+slot_and_name what at name = what ++ slot_name at ++ codes " " ++ spelled name
+
+abbrev pub slot_and_number : List ℕ → Slot → ℕ → List ℕ
+slot_and_number what at number = what ++ slot_name at ++ codes " " ++ decimal number
 
 -- the slot is told where more than one could be meant
 abbrev pub fault_text : Slot → FileFault → List ℕ
 fault_text at Missing = codes "Missing " ++ slot_name at
 fault_text at TooLarge = codes "TooLarge " ++ slot_name at
 fault_text at (BadSchema line) = codes "BadSchema " ++ decimal line
+fault_text at (BadLens line) = slot_and_number (codes "BadLens ") at line
+fault_text at (UnknownFormat name) = slot_and_name (codes "UnknownFormat ") at name
+fault_text at (BadOption key) = slot_and_name (codes "BadOption ") at key
+fault_text at (UnknownLens name) = slot_and_name (codes "UnknownLens ") at name
+fault_text at (Unguarded name) = slot_and_name (codes "Unguarded ") at name
+fault_text at (Mistyped definition term rule) =
+    slot_and_number (codes "Mistyped ") at definition ++ codes " " ++ decimal term ++ codes " " ++ decimal rule
+fault_text at (TwinLeft definition term) = slot_and_number (codes "TwinLeft ") at definition ++ codes " " ++ decimal term
+fault_text at WrongView = codes "WrongView " ++ slot_name at
 fault_text at (BadArchive fault) = codes "BadArchive " ++ archive_fault_text fault
 fault_text at (BadReplica fault) = codes "BadReplica " ++ slot_name at ++ codes " " ++ replica_fault_text fault
-fault_text at (Overgrown size) = codes "Overgrown " ++ slot_name at ++ codes " " ++ decimal size
+fault_text at (Unwritable depth) = slot_and_number (codes "Unwritable ") at depth
+fault_text at (Overgrown size) = slot_and_number (codes "Overgrown ") at size
 
 abbrev pub refusal_text : Refusal → List ℕ
-refusal_text Usage = codes "usage: harmony sync SCHEMA ARCHIVE A B"
+refusal_text Usage = codes "usage: harmony sync SCHEMA LENS_A LENS_B ARCHIVE A B"
 refusal_text (SameName one two) = codes "harmony: SameName " ++ slot_name one ++ codes " " ++ slot_name two
 refusal_text (At at fault) = codes "harmony: " ++ fault_text at fault
 

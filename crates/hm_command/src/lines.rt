@@ -1,13 +1,14 @@
 //! What a run that stops says, in one line, and the exit status of each end.
 ghost use Rattle.std.specs.Prelude.{◌≡◌, ◌++◌, ◌∷◌, [], codes, IfOk, OnOk};
 ghost use Rattle.std.specs.Fmt.{decimal};
-ghost use Rattle.hm_files.specs.declared.stop.FileFault.TheVariants.{BadReplica, Overgrown};
-ghost use Rattle.hm_command.specs.Lines.{slot_name, archive_fault_text, replica_fault_text, fault_text, refusal_text, call_name, stop_text, line_of, refusal_status, work_status, status_of};
+ghost use Rattle.hm_files.specs.declared.stop.FileFault.TheVariants.{Mistyped, TwinLeft, BadReplica};
+ghost use Rattle.hm_tree.specs.Spelling.{spelled};
+ghost use Rattle.hm_command.specs.Lines.{slot_name, archive_fault_text, replica_fault_text, slot_and_name, slot_and_number, fault_text, refusal_text, call_name, stop_text, line_of, refusal_status, work_status, status_of};
 
 use crate::ending::{Ending, Output};
 use hm_files::{ArchiveFault, FileFault, Refusal, ReplicaFault, Slot, Stop};
 use hm_outside::{Kind, Put};
-use hm_tree::{Memory, append_path};
+use hm_tree::{Memory, Name, append_path, append_spelled};
 use std::alloc::Global;
 
 fn slot_name(slot: Slot) -> &'static [u8]
@@ -15,6 +16,8 @@ fn slot_name(slot: Slot) -> &'static [u8]
 {
     match slot {
         Slot::Schema => b"schema",
+        Slot::LensA => b"lensA",
+        Slot::LensB => b"lensB",
         Slot::Archive => b"archive",
         Slot::A => b"A",
         Slot::B => b"B",
@@ -66,6 +69,7 @@ fn put_replica_fault(alloc: Global, line: &mut Vec<u8>, fault: &ReplicaFault) ->
     match fault {
         ReplicaFault::NotUtf8(at) => put_number(alloc, line, b" NotUtf8 ", *at),
         ReplicaFault::BadItem(at) => put_number(alloc, line, b" BadItem ", *at),
+        ReplicaFault::NoKey(at) => put_number(alloc, line, b" NoKey ", *at),
         ReplicaFault::TooDeep(depth) => put_number(alloc, line, b" TooDeep ", *depth),
         ReplicaFault::Outside(path) => {
             line.extend_from_slice(b" Outside ")?;
@@ -87,13 +91,76 @@ fn put_bad_replica(
     put_replica_fault(alloc, line, fault)
 }
 
-// Puts that a new file is too large behind a line.
+// Puts some bytes, a slot and a number behind a line.
 #[tactic(auto, using(crate::proofs::Behind::behind_both))]
-fn put_overgrown(alloc: Global, line: &mut Vec<u8>, slot: Slot, size: usize) -> Result<(), Memory>
-    ensures { OnOk result (line.new.items ≡ line.old.items ++ fault_text slot (Overgrown size)) }
+fn put_slot_number(
+    alloc: Global,
+    line: &mut Vec<u8>,
+    before: &[u8],
+    slot: Slot,
+    number: usize,
+) -> Result<(), Memory>
+    ensures { OnOk result (line.new.items ≡ line.old.items ++ slot_and_number before.now slot number) }
 {
-    put_slot(line, b"Overgrown ", slot)?;
-    put_number(alloc, line, b" ", size)
+    put_slot(line, before, slot)?;
+    put_number(alloc, line, b" ", number)
+}
+
+// Puts some bytes, and then the spelling of a name, behind a line.
+fn put_name(line: &mut Vec<u8>, before: &[u8], name: &Name) -> Result<(), Memory>
+    ensures { OnOk result (line.new.items ≡ line.old.items ++ (before.now ++ spelled name.now)) }
+{
+    line.extend_from_slice(before)?;
+    append_spelled(name, line)
+}
+
+// Puts some bytes, a slot and a name behind a line.
+#[tactic(auto, using(crate::proofs::Behind::behind_both))]
+fn put_slot_name(line: &mut Vec<u8>, before: &[u8], slot: Slot, name: &Name) -> Result<(), Memory>
+    ensures { OnOk result (line.new.items ≡ line.old.items ++ slot_and_name before.now slot name.now) }
+{
+    put_slot(line, before, slot)?;
+    put_name(line, b" ", name)
+}
+
+// Puts that a view has twins behind a line.
+#[tactic(auto, using(crate::proofs::Behind::behind_both))]
+fn put_twins(
+    alloc: Global,
+    line: &mut Vec<u8>,
+    slot: Slot,
+    definition: usize,
+    term: usize,
+) -> Result<(), Memory>
+    ensures { OnOk result (line.new.items ≡ line.old.items ++ fault_text slot (TwinLeft definition term)) }
+{
+    put_slot_number(alloc, line, b"TwinLeft ", slot, definition)?;
+    put_number(alloc, line, b" ", term)
+}
+
+// Puts the numbers of a lens and of a rule behind a line.
+#[tactic(auto, using(crate::proofs::Behind::behind_both))]
+fn put_rule(alloc: Global, line: &mut Vec<u8>, term: usize, rule: u8) -> Result<(), Memory>
+    ensures { OnOk result (line.new.items ≡ line.old.items ++ (codes " " ++ decimal term ++ codes " " ++ decimal rule)) }
+{
+    put_number(alloc, line, b" ", term)?;
+    put_number(alloc, line, b" ", usize::from(rule))
+}
+
+// Puts that a condition of a lens isn't met behind a line.
+#[tactic(auto, using(crate::proofs::Behind::behind_both))]
+fn put_mistyped(
+    alloc: Global,
+    line: &mut Vec<u8>,
+    slot: Slot,
+    definition: usize,
+    term: usize,
+    rule: u8,
+) -> Result<(), Memory>
+    ensures { OnOk result (line.new.items ≡ line.old.items ++ fault_text slot (Mistyped definition term rule)) }
+{
+    put_slot_number(alloc, line, b"Mistyped ", slot, definition)?;
+    put_rule(alloc, line, term, rule)
 }
 
 // Puts what is wrong with the file of a slot behind a line.
@@ -104,9 +171,20 @@ fn put_fault(alloc: Global, line: &mut Vec<u8>, slot: Slot, fault: &FileFault) -
         FileFault::Missing => put_slot(line, b"Missing ", slot),
         FileFault::TooLarge => put_slot(line, b"TooLarge ", slot),
         FileFault::BadSchema(at) => put_number(alloc, line, b"BadSchema ", *at),
+        FileFault::BadLens(at) => put_slot_number(alloc, line, b"BadLens ", slot, *at),
+        FileFault::UnknownFormat(name) => put_slot_name(line, b"UnknownFormat ", slot, name),
+        FileFault::BadOption(key) => put_slot_name(line, b"BadOption ", slot, key),
+        FileFault::UnknownLens(name) => put_slot_name(line, b"UnknownLens ", slot, name),
+        FileFault::Unguarded(name) => put_slot_name(line, b"Unguarded ", slot, name),
+        FileFault::Mistyped(definition, term, rule) => {
+            put_mistyped(alloc, line, slot, *definition, *term, *rule)
+        }
+        FileFault::TwinLeft(definition, term) => put_twins(alloc, line, slot, *definition, *term),
+        FileFault::WrongView => put_slot(line, b"WrongView ", slot),
         FileFault::BadArchive(fault) => put_bad_archive(alloc, line, *fault),
         FileFault::BadReplica(fault) => put_bad_replica(alloc, line, slot, fault),
-        FileFault::Overgrown(size) => put_overgrown(alloc, line, slot, *size),
+        FileFault::Unwritable(depth) => put_slot_number(alloc, line, b"Unwritable ", slot, *depth),
+        FileFault::Overgrown(size) => put_slot_number(alloc, line, b"Overgrown ", slot, *size),
     }
 }
 
@@ -115,7 +193,9 @@ fn put_refusal(alloc: Global, line: &mut Vec<u8>, refusal: &Refusal) -> Result<(
     ensures { OnOk result (line.new.items ≡ line.old.items ++ refusal_text refusal.now) }
 {
     match refusal {
-        Refusal::Usage => Ok(line.extend_from_slice(b"usage: harmony sync SCHEMA ARCHIVE A B")?),
+        Refusal::Usage => Ok(line.extend_from_slice(
+            b"usage: harmony sync SCHEMA LENS_A LENS_B ARCHIVE A B",
+        )?),
         Refusal::SameName(one, two) => {
             put_slot(line, b"harmony: SameName ", *one)?;
             put_slot(line, b" ", *two)

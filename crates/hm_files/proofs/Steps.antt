@@ -8,7 +8,7 @@ use Rattle.hm_files.specs.declared.stop.Refusal.{Refusal}
 use Rattle.hm_files.specs.declared.stop.Refusal.TheVariants.{Usage, SameName, At}
 use Rattle.hm_files.specs.declared.stop.Stop.{Stop}
 use Rattle.hm_files.specs.declared.stop.Stop.TheVariants.{Refused, Fault, Memory}
-use Rattle.hm_files.specs.Steps.{Stopped, Computes, Then, stops, goes_on, FindsOne}
+use Rattle.hm_files.specs.Steps.{Stopped, Computes, Then, stops, goes_on, Told, FindsOne}
 
 -- ---- a step finds one thing at the most where its parts do
 
@@ -25,15 +25,28 @@ sides_once {F = F} finds values apart faults (Err f) (Err g) h k = ap (λ (z : F
 pub equals_once : {A F : Type 0} (wanted : Result A F) → FindsOne (λ r. r ≡ wanted)
 equals_once wanted r s p q = p ∙ sym q
 
+-- what a reader finds, told as a refusal
+pub told_once : {A F : Type 0} (tell : F → Stop) (reads : Result A F → Type 0) → FindsOne reads → FindsOne (Told tell reads)
+told_once {A} {F} tell reads once = sides_once (Told tell reads)
+    (λ x y h k. let e : ◌≡◌ {A = Result A F} (Ok x) (Ok y) = once _ _ h k in cc)
+    (λ x f h k. let e : ◌≡◌ {A = Result A F} (Ok x) (Err k.0) = once _ _ h k.1 in cc)
+    (λ f g h k. let e : ◌≡◌ {A = Result A F} (Err h.0) (Err k.0) = once _ _ h.1 k.1 in
+    let same : h.0 ≡ k.0 = cc in let told : Refused f ≡ Refused g = sym h.2 ∙ ap tell same ∙ k.2 in cc)
+
+-- the second step may rest on what the first one found
 module _ {A B : Type 0} (first : Result A Refusal → Type 0) (second : A → Result B Refusal → Type 0)
-    (one : FindsOne first) (next : (x : A) → FindsOne (second x)) where
-  pub then_once : FindsOne (Then first second)
-  then_once _ _ (stops {refusal = p} h) (stops {refusal = q} k) =
+    (one : FindsOne first) (next : (x : A) → first (Ok x) → FindsOne (second x)) where
+  pub then_once_of : FindsOne (Then first second)
+  then_once_of _ _ (stops {refusal = p} h) (stops {refusal = q} k) =
       let e = one _ _ h k in let same : p ≡ q = cc in ap (λ (z : Refusal). Err z) same
-  then_once _ _ (stops h) (goes_on k l) = absurd (let e = one _ _ h k in let no : ⊥ = cc in no)
-  then_once _ _ (goes_on h l) (stops k) = absurd (let e = one _ _ h k in let no : ⊥ = cc in no)
-  then_once _ _ (goes_on {x} {r} h l) (goes_on {x = y} {r = s} k m) =
-      let e = one _ _ h k in let same : x ≡ y = cc in next y r s (subst (λ z. second z r) same l) m
+  then_once_of _ _ (stops h) (goes_on k l) = absurd (let e = one _ _ h k in let no : ⊥ = cc in no)
+  then_once_of _ _ (goes_on h l) (stops k) = absurd (let e = one _ _ h k in let no : ⊥ = cc in no)
+  then_once_of _ _ (goes_on {x} {r} h l) (goes_on {x = y} {r = s} k m) =
+      let e = one _ _ h k in let same : x ≡ y = cc in next y k r s (subst (λ z. second z r) same l) m
+
+pub then_once : {A B : Type 0} (first : Result A Refusal → Type 0) (second : A → Result B Refusal → Type 0)
+    → FindsOne first → ((x : A) → FindsOne (second x)) → FindsOne (Then first second)
+then_once first second one next = then_once_of first second one (λ x h. next x)
 
 pub ok_is : {A F : Type 0} (x y : A) → ◌≡◌ {A = Result A F} (Ok x) (Ok y) → x ≡ y
 ok_is x y e = cc
@@ -66,6 +79,12 @@ pub computes_stop : {A : Type 0} (finds : Result A Refusal → Type 0) (refuses 
 computes_stop finds refuses stop r is h f =
     subst (Computes finds) (sym is) (stopped refuses (λ refusal. finds (Err refusal)) (λ kind at. ⊥) (λ kind at. ⊥) _ _ _ _ stop h f
     (λ kind at no e. absurd no) (λ e. e))
+
+-- what is found is something else too
+pub computes_as : {A : Type 0} (finds other : Result A Refusal → Type 0) → ((r : Result A Refusal) → finds r → other r) → (r : Result A Stop)
+    → Computes finds r → Computes other r
+computes_as finds other as_other (Ok x) h = (as_other (Ok x) h.0, h.1)
+computes_as finds other as_other (Err stop) h = computes_stop other (λ refusal. finds (Err refusal)) stop (Err stop) refl h (λ refusal f. as_other (Err refusal) f)
 
 module _ {A B : Type 0} (first : Result A Refusal → Type 0) (second : A → Result B Refusal → Type 0) where
   -- a first step that stopped stops both

@@ -15,6 +15,11 @@ pub data Then {A B : Type 0} (first : Result A Refusal → Type 0) (second : A �
   stops : {refusal : Refusal} → first (Err refusal) → Then first second (Err refusal)
   goes_on : {x : A} {r : Result B Refusal} → first (Ok x) → second x r → Then first second r
 
+-- what a reader finds, with its fault told as a refusal
+abbrev pub Told : {A F : Type 0} → (F → Stop) → (Result A F → Type 0) → Result A Refusal → Type 0
+Told tell reads (Ok x) = reads (Ok x)
+Told {F} tell reads (Err refusal) = (fault : F) × reads (Err fault) × (tell fault ≡ Refused refusal)
+
 -- a reader or a step finds one thing at the most
 abbrev pub FindsOne : {A F : Type 0} → (Result A F → Type 0) → Type 0
 FindsOne {A} {F} finds = (r s : Result A F) → finds r → finds s → r ≡ s

@@ -9,6 +9,10 @@ pub const LIMIT: usize = 16_777_216;
 #[derive(Clone, Copy, Debug, PartialEq, Eq)]
 pub enum Slot {
     Schema,
+    /// The lens file of the left replica.
+    LensA,
+    /// The lens file of the right replica.
+    LensB,
     Archive,
     /// The left replica.
     A,

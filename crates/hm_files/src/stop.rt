@@ -4,7 +4,7 @@ ghost use Rattle.hm_files.specs.declared.stop.Stop.TheVariants.{Memory as OutOfM
 
 use crate::slot::Slot;
 use hm_outside::Kind;
-use hm_tree::{Memory, Path};
+use hm_tree::{Memory, Name, Path};
 use std::alloc::AllocFailed;
 
 /// Why the bytes of an archive aren't read.
@@ -21,8 +21,10 @@ pub enum ArchiveFault {
 pub enum ReplicaFault {
     /// The number of bytes before the first that isn't UTF-8.
     NotUtf8(usize),
-    /// The number of bytes that some tree's text still begins with.
+    /// Which line, record or byte isn't of the format's grammar, as the format counts.
     BadItem(usize),
+    /// Which item has no key, as the format counts.
+    NoKey(usize),
     /// The depth that is too great.
     TooDeep(usize),
     /// The first path, in path order, at which the schema doesn't permit the names.
@@ -38,8 +40,26 @@ pub enum FileFault {
     TooLarge,
     /// Of a schema file the first bad line, counted from 1.
     BadSchema(usize),
+    /// Of a lens file the first bad line, counted from 1.
+    BadLens(usize),
+    /// No format has this name, or none that has it is at hand.
+    UnknownFormat(Name),
+    /// The options aren't those of the format: the key that is bad or missing.
+    BadOption(Name),
+    /// There is no text lens of this name.
+    UnknownLens(Name),
+    /// The definition of this name is in a bad cycle.
+    Unguarded(Name),
+    /// A condition of a lens isn't met: the numbers of the definition, of the lens in it, and of the rule.
+    Mistyped(usize, usize, u8),
+    /// The view has twins: the numbers of the definition, and of the first lens in it that copies.
+    TwinLeft(usize, usize),
+    /// The view isn't the same as the schema.
+    WrongView,
     BadArchive(ArchiveFault),
     BadReplica(ReplicaFault),
+    /// What is to be written is too deep: its depth.
+    Unwritable(usize),
     /// The new file has more than 16,777,216 bytes; the number of its bytes.
     Overgrown(usize),
 }

@@ -13,6 +13,7 @@ mod fault;
 mod format;
 mod keys;
 mod plain;
+mod sound;
 #[cfg(test)]
 mod tests;
 
@@ -20,3 +21,4 @@ pub use fault::FormatFault;
 pub use format::Format;
 pub use keys::{Key, first_bad_key, values_of};
 pub use plain::Plain;
+pub use sound::values_are_texts;

@@ -18,23 +18,12 @@ use Rattle.hm_files.specs.declared.stop.ReplicaFault.TheVariants.{Outside}
 use Rattle.hm_files.specs.declared.stop.FileFault.TheVariants.{BadReplica}
 use Rattle.hm_files.specs.declared.stop.Refusal.{Refusal}
 use Rattle.hm_files.specs.declared.stop.Refusal.TheVariants.{At}
-use Rattle.hm_files.specs.declared.stop.Stop.{Stop}
-use Rattle.hm_files.specs.declared.stop.Stop.TheVariants.{Refused}
 use Rattle.hm_files.specs.Steps.{FindsOne}
-use Rattle.hm_files.proofs.Steps.{sides_once, equals_once, then_once}
+use Rattle.hm_files.proofs.Steps.{sides_once, equals_once, told_once, then_once}
 use Rattle.hm_command.specs.Words.{FileNames}
 use Rattle.hm_run.specs.declared.read.Inputs.{Inputs}
-use Rattle.hm_run.specs.Reads.{Told, ChecksText, ChecksMember, ReadsReplica, ReadsReplicas, ReadsFour, ReadsAll, schema_stop, archive_stop, replica_stop}
+use Rattle.hm_run.specs.Reads.{ChecksText, ChecksMember, ReadsReplica, ReadsReplicas, ReadsFour, ReadsAll, schema_stop, archive_stop, replica_stop}
 use Rattle.hm_run.specs.Verdict.{Synced, Plans, PlansFrom, VerdictOf, Becomes, Reconciles}
-
--- ---- what a reader finds, told as a refusal
-
-told_once : {A F : Type 0} (tell : F → Stop) (reads : Result A F → Type 0) → FindsOne reads → FindsOne (Told tell reads)
-told_once {A} {F} tell reads once = sides_once (Told tell reads)
-    (λ x y h k. let e : ◌≡◌ {A = Result A F} (Ok x) (Ok y) = once _ _ h k in cc)
-    (λ x f h k. let e : ◌≡◌ {A = Result A F} (Ok x) (Err k.0) = once _ _ h k.1 in cc)
-    (λ f g h k. let e : ◌≡◌ {A = Result A F} (Err h.0) (Err k.0) = once _ _ h.1 k.1 in
-    let same : h.0 ≡ k.0 = cc in let told : Refused f ≡ Refused g = sym h.2 ∙ ap tell same ∙ k.2 in cc)
 
 -- ---- a replica
 

@@ -20,7 +20,7 @@ use Rattle.hm_files.specs.declared.stop.Refusal.{Refusal}
 use Rattle.hm_files.specs.declared.stop.Refusal.TheVariants.{At}
 use Rattle.hm_files.specs.declared.stop.Stop.{Stop}
 use Rattle.hm_files.specs.declared.stop.Stop.TheVariants.{Refused, Memory}
-use Rattle.hm_files.specs.Steps.{Then}
+use Rattle.hm_files.specs.Steps.{Then, Told}
 use Rattle.hm_run.specs.declared.read.Inputs.{Inputs}
 
 -- the faults of readers, as what stops a run
@@ -37,11 +37,6 @@ abbrev pub replica_stop : Slot → TextFault → Stop
 replica_stop at (text.BadTree place) = Refused (At at (BadReplica (replica_fault.BadItem place)))
 replica_stop at text.TooDeep = Refused (At at (BadReplica (replica_fault.TooDeep 1001)))
 replica_stop at text.Memory = Memory
-
--- what a reader finds, with its fault told as a refusal
-abbrev pub Told : {A F : Type 0} → (F → Stop) → (Result A F → Type 0) → Result A Refusal → Type 0
-Told tell reads (Ok x) = reads (Ok x)
-Told {F} tell reads (Err refusal) = (fault : F) × reads (Err fault) × (tell fault ≡ Refused refusal)
 
 -- ---- a replica is UTF-8, the text of a tree, and a member of the schema
 

@@ -3,9 +3,9 @@ ghost use Rattle.std.specs.Prelude.{◌≡◌, length, map};
 ghost use Rattle.hm_schema.specs.Membership.{HasNoTwins};
 ghost use Rattle.hm_tree_text.specs.Reads.{ReadsTree, ReadsArchive};
 ghost use Rattle.hm_schema_text.specs.SchemaFiles.{ReadsSchema};
-ghost use Rattle.hm_files.specs.Steps.{Computes};
+ghost use Rattle.hm_files.specs.Steps.{Computes, Told};
 ghost use Rattle.hm_files.specs.Files.{bytes_of};
-ghost use Rattle.hm_run.specs.Reads.{Told, ChecksText, ChecksMember, ReadsReplica, ReadsReplicas, ReadsFour, ReadsAll, schema_stop, archive_stop, replica_stop};
+ghost use Rattle.hm_run.specs.Reads.{ChecksText, ChecksMember, ReadsReplica, ReadsReplicas, ReadsFour, ReadsAll, schema_stop, archive_stop, replica_stop};
 
 use hm_files::{ArchiveFault, FileFault, Refusal, ReplicaFault, Slot, Stop};
 use hm_schema::Schema;

@@ -1,0 +1,4 @@
+mod OpenedSides
+mod Once
+mod OpenedReplicas
+pub mod Laws

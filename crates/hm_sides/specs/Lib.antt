@@ -1,0 +1,4 @@
+pub mod Formats
+pub mod Stops
+pub mod Sides
+pub mod SideReplicas

@@ -1,0 +1,102 @@
+//! The replicas of sides.
+ghost use Rattle.std.specs.Prelude.{IfOk, map};
+ghost use Rattle.hm_types.specs.Checks.{Trees};
+ghost use Rattle.hm_replica.specs.Replicas.{typed_value, replica_value, IsTyped, IsReplica};
+ghost use Rattle.hm_files.specs.Steps.{Computes};
+ghost use Rattle.hm_files.specs.Files.{bytes_of};
+ghost use Rattle.hm_sides.specs.Sides.{seen, side_value, IsSide};
+ghost use Rattle.hm_sides.specs.SideReplicas.{OpensReplica, OpensOn, ClosesReplica, ClosesOn, IsReplicaOn};
+
+use crate::side::Side;
+use crate::stops::{format_stop, write_stop};
+use hm_files::{Slot, Stop};
+use hm_format::Format;
+use hm_replica::Replica;
+use hm_text_lens::TextLens;
+use hm_tree::Tree;
+use hm_types::Typed;
+use std::alloc::Global;
+
+/// The replica of a file on a side, or why the side's format doesn't read it.
+pub fn open_replica(
+    alloc: Global,
+    slot: Slot,
+    formats: &[Box<dyn Format>],
+    texts: &[Box<dyn TextLens>],
+    side: &Side,
+    bytes: Vec<u8>,
+) -> Result<Replica, Stop>
+    requires { IsSide (λ b. means b) formats.now (map (λ b. meaning b) texts.now) (side_value side.now) }
+    ensures opens { Computes (OpensOn (λ b. means b) formats.now (map (λ b. meaning b) texts.now) (side_value side.now) slot bytes.items) (seen replica_value result) }
+    ensures replica { IfOk result (λ r. IsReplicaOn (λ b. means b) formats.now (map (λ b. meaning b) texts.now) (side_value side.now) (replica_value r)) }
+    ensures member { IfOk result (λ r. Trees side.now.typed.view r.view) }
+{
+    open_by(alloc, slot, &formats[side.place], texts, &side.typed, bytes)
+}
+
+// The same by a format.
+fn open_by(
+    alloc: Global,
+    slot: Slot,
+    format: &Box<dyn Format>,
+    texts: &[Box<dyn TextLens>],
+    typed: &Typed,
+    bytes: Vec<u8>,
+) -> Result<Replica, Stop>
+    requires { IsTyped (means format.now) (map (λ b. meaning b) texts.now) (typed_value typed.now) }
+    ensures opens { Computes (OpensReplica (means format.now) (map (λ b. meaning b) texts.now) (typed_value typed.now) slot bytes.items) (seen replica_value result) }
+    ensures member { IfOk result (λ r. Trees typed.now.view r.view) }
+{
+    match Replica::from_bytes(alloc, format, typed, texts, bytes) {
+        Ok(replica) => Ok(replica),
+        Err(fault) => Err(format_stop(slot, fault)),
+    }
+}
+
+/// The bytes of a view, a member of the schema of the side's views, behind those of its replica; refused where the tree that
+/// is put of it is deeper than the side's format writes.
+pub fn close_replica(
+    alloc: Global,
+    slot: Slot,
+    formats: &[Box<dyn Format>],
+    texts: &[Box<dyn TextLens>],
+    side: &Side,
+    replica: Replica,
+    view: &Tree,
+) -> Result<Vec<u8>, Stop>
+    requires side { IsSide (λ b. means b) formats.now (map (λ b. meaning b) texts.now) (side_value side.now) }
+    requires replica { IsReplicaOn (λ b. means b) formats.now (map (λ b. meaning b) texts.now) (side_value side.now) (replica_value replica) }
+    requires member { Trees side.now.typed.view view.now }
+    ensures { Computes (ClosesOn (λ b. means b) formats.now (map (λ b. meaning b) texts.now) (side_value side.now) (replica_value replica) view.now slot) (seen bytes_of result) }
+{
+    close_by(
+        alloc,
+        slot,
+        &formats[side.place],
+        texts,
+        &side.typed,
+        replica,
+        view,
+    )
+}
+
+// The same by a format.
+fn close_by(
+    alloc: Global,
+    slot: Slot,
+    format: &Box<dyn Format>,
+    texts: &[Box<dyn TextLens>],
+    typed: &Typed,
+    replica: Replica,
+    view: &Tree,
+) -> Result<Vec<u8>, Stop>
+    requires typed { IsTyped (means format.now) (map (λ b. meaning b) texts.now) (typed_value typed.now) }
+    requires replica { IsReplica (means format.now) (map (λ b. meaning b) texts.now) (typed_value typed.now) (replica_value replica) }
+    requires member { Trees typed.now.view view.now }
+    ensures { Computes (ClosesReplica (means format.now) (map (λ b. meaning b) texts.now) (typed_value typed.now) (replica_value replica) view.now slot) (seen bytes_of result) }
+{
+    match replica.close(alloc, format, typed, texts, view) {
+        Ok(bytes) => Ok(bytes),
+        Err(fault) => Err(write_stop(slot, fault)),
+    }
+}
