@@ -1,6 +1,6 @@
 -- A field that is made for texts shows them, and a field that is to show its own texts stays.
-use Rattle.std.proofs.Common.{◌≡◌, ◌≢◌, ℕ, zero, suc, ◌≤◌, ◌<◌, ◌+◌, Bool, true, false, not, cond, ◌&&◌, ◌||◌, List, [], ◌∷◌, ◌++◌, length, get_or, map, filter, slice_get, Option, Some, refl, sym, ap, ◌∙◌, subst, arith}
-use Rattle.std.specs.Prelude.{All, Any, IsTrue, IsUtf8}
+use Rattle.std.proofs.Common.{◌≡◌, ℕ, suc, ◌≤◌, ◌+◌, Bool, true, false, not, cond, ◌&&◌, ◌||◌, List, [], ◌∷◌, length, get_or, map, filter, slice_get, refl, sym, ap, ◌∙◌, subst, arith}
+use Rattle.std.specs.Prelude.{All, IsTrue, IsUtf8}
 use Rattle.std.specs.Bool.{◌==◌}
 use Rattle.std.specs.List.{list_any, count_by}
 use Rattle.std.specs.Ordering.{eq_by_cmp}
@@ -20,11 +20,11 @@ use Rattle.hm_tree.proofs.Ascending.{set_of-ascending, contains-ascending}
 use Rattle.hm_tree.proofs.Classed.{cleaned-cleaned}
 use Rattle.hm_tree.proofs.CleanText.{cleaned_utf8}
 use Rattle.hm_schema.proofs.NamesOf.{len-retain_names}
-use Rattle.hm_pieces.specs.Pieces.{pieces, written}
+use Rattle.hm_pieces.specs.Pieces.{pieces}
 use Rattle.hm_pieces.specs.Texts.{is_text, is_shown, shown, stays, new_names, new_pieces}
 use Rattle.hm_pieces.proofs.Laws.{rewritten_texts, filled_shown, pieces_utf8, written_utf8}
 use Rattle.hm_cards.specs.Cards.{Suits, IsSound}
-use Rattle.hm_columns.specs.Fields.{pieces_of, texts_shown, same_names, same_texts, first_of, made, field_for}
+use Rattle.hm_columns.specs.Fields.{pieces_of, texts_shown, same_texts, first_of, made, field_for}
 use Rattle.hm_columns.proofs.SameNames.{equal, itself}
 
 -- ---- sets of one text

@@ -1,21 +1,19 @@
 -- A record that is made for a card shows it, and a record that is to show its own card stays.
-use Rattle.std.proofs.Common.{◌≡◌, ℕ, zero, suc, ◌<◌, ◌+◌, Bool, true, false, cond, T, List, [], ◌∷◌, length, get_or, map, slice_get, Option, Some, None, refl, sym, ap, ◌∙◌, subst, arith}
+use Rattle.std.proofs.Common.{◌≡◌, ℕ, zero, suc, ◌<◌, ◌+◌, Bool, true, false, cond, List, [], ◌∷◌, length, get_or, map, slice_get, Option, Some, None, refl, sym, ap, ◌∙◌, arith}
 use Rattle.std.specs.Prelude.{All, IsUtf8}
 use Rattle.std.specs.Bool.{◌==◌}
-use Rattle.std.specs.List.{find, AllZip}
+use Rattle.std.specs.List.{find}
 use Rattle.std.specs.Option.{unwrap_or}
-use Rattle.std.specs.FinMap as map
-use Rattle.std.specs.FinSet.{FinSet}
 use Rattle.std.proofs.lemmas.Bool.{eqb-true}
 use Rattle.std.proofs.lemmas.List.Elements.{All-nil, All-cons}
-use Rattle.hm_tree.specs.Names.{Name, name_cmp}
-use Rattle.hm_tree.specs.Nodes.{Tree, are_edges, edges_rise}
-use Rattle.hm_cards.specs.Cards.{Shown, Texts, AllSuit, Suits, IsSound, AreSound, IsCard, card_tree, texts_at, texts_of, no_texts}
+use Rattle.hm_tree.specs.Names.{Name}
+use Rattle.hm_tree.specs.Nodes.{Tree, edges_rise}
+use Rattle.hm_cards.specs.Cards.{AllSuit, IsSound, IsCard, card_tree, texts_at, texts_of, no_texts}
 use Rattle.hm_cards.proofs.Laws.{card_texts, card_again}
 use Rattle.hm_cards.proofs.CardTrees.{found_at, suit_edges, suit_sound}
 use Rattle.hm_columns.specs.declared.column.Column.{Column}
 use Rattle.hm_columns.specs.Fields.{texts_shown, field_for}
-use Rattle.hm_columns.specs.Records.{Fields, AreColumns, shown_by, texts_by, card_of, column_at, field_in, rewritten_from, rewritten, blank}
+use Rattle.hm_columns.specs.Records.{Fields, AreColumns, shown_by, texts_by, card_of, column_at, field_in, rewritten_from, rewritten}
 use Rattle.hm_columns.proofs.FieldLaws.{field_shows, field_stays, field_text, texts_suit}
 
 -- ---- field by field

@@ -1,5 +1,5 @@
 -- The card that a record shows, and the record that is to show another card.
-use Rattle.std.specs.Prelude.{◌≡◌, ◌<◌, ℕ, ◌+◌, suc, Bool, cond, List, [], ◌∷◌, map, length, get_or, All, T, Option, Some, None, slice_get, option_and_then}
+use Rattle.std.specs.Prelude.{◌≡◌, ◌<◌, ℕ, ◌+◌, cond, List, [], ◌∷◌, map, length, get_or, All, T, Option, Some, None, slice_get, option_and_then}
 use Rattle.std.specs.Bool.{◌==◌}
 use Rattle.std.specs.List.{find, range_with_len}
 use Rattle.hm_tree.specs.Names.{Name}

@@ -69,8 +69,7 @@ fn push_for(
     ensures whole { OnOk result (partial_of new.new ≡ []) }
 {
     let Some(column) = column else {
-        new.push_field(field)?;
-        return Ok(());
+        return Ok(new.push_field(field)?);
     };
     push_made(alloc, new, column, field, card)
 }

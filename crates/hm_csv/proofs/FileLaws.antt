@@ -1,15 +1,15 @@
 -- The laws of the format: what is read is a book, and what is written is read as the tree.
-use Rattle.std.proofs.Common.{◌≡◌, ◌≢◌, ℕ, suc, ◌+◌, ◌<◌, ◌≤◌, Bool, true, false, T, List, [], ◌∷◌, ◌++◌, length, map, refl, sym, ap, ◌∙◌, subst, arith}
-use Rattle.std.specs.Prelude.{All, IsUtf8, Option, Some, None, Result, Ok, Err, IsTrue}
+use Rattle.std.proofs.Common.{◌≡◌, ◌≢◌, ℕ, suc, Bool, true, false, T, List, [], ◌∷◌, ◌++◌, length, map, refl, sym, ap, ◌∙◌, subst, arith}
+use Rattle.std.specs.Prelude.{All, IsUtf8, Some, None, Ok}
 use Rattle.std.proofs.lemmas.List.Elements.{All-nil, All-cons}
 use Rattle.std.proofs.lemmas.Str.{IsUtf8-from_is_utf8}
 use Rattle.hm_tree.specs.Names.{Name, name_cmp}
 use Rattle.hm_tree.specs.Classes.{IsFilled}
-use Rattle.hm_tree.specs.Nodes.{Tree, depth, edges, are_edges, edges_head, edges_tail}
+use Rattle.hm_tree.specs.Nodes.{Tree, edges, are_edges, edges_head, edges_tail}
 use Rattle.hm_tree.specs.NodeLaws.{edges_are}
 use Rattle.hm_tree.specs.States.{state}
 use Rattle.hm_tree.proofs.Sorted.{name_total, name_one}
-use Rattle.hm_schema.specs.Values.{OptionsValue, SchemaValue}
+use Rattle.hm_schema.specs.Values.{OptionsValue}
 use Rattle.hm_schema.specs.Membership.{IsMember}
 use Rattle.hm_items.specs.Items.{Each, IsTree, IsRewritten, kept, added}
 use Rattle.hm_items.proofs.Fitting.{AllFit}
@@ -22,14 +22,14 @@ use Rattle.hm_records.proofs.Laws.{records_text, records_filled, written_reads}
 use Rattle.hm_cards.specs.Cards.{Shown, IsCard}
 use Rattle.hm_cards.specs.Books as books
 use Rattle.hm_cards.proofs.Laws.{items_book, member_book, book_member}
-use Rattle.hm_columns.specs.Records.{AreColumns, shown_by, card_of}
+use Rattle.hm_columns.specs.Records.{AreColumns, card_of}
 use Rattle.hm_columns.proofs.Laws.{record_card}
-use Rattle.hm_format.specs.Formats.{deepest, depth_over}
+use Rattle.hm_format.specs.Formats.{depth_over}
 use Rattle.hm_format.proofs.Limits.{shallow}
 use Rattle.hm_csv.specs.Options.{shown_of, column_names}
 use Rattle.hm_csv.specs.Tables.{IsTable, key_place, columns_of, HasKey, item_of, items_of}
 use Rattle.hm_csv.specs.Files.{IsBook, CsvReads}
-use Rattle.hm_csv.specs.Writing.{keyed, Slots, row_for, AreNewRows, IsWrittenAnew, CsvWrites, stays, anew, CsvKeeps}
+use Rattle.hm_csv.specs.Writing.{keyed, row_for, AreNewRows, IsWrittenAnew, CsvWrites, stays, anew, CsvKeeps}
 use Rattle.hm_csv.proofs.RowLaws.{shown_is, FitsTree, FitsFile, AreRows, new_rows, new_tree, rows_stay}
 use Rattle.hm_csv.proofs.ReadOnce.{mark_once, header_once, others_once}
 

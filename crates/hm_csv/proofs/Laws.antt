@@ -1,5 +1,5 @@
 -- The format of comma-separated values meets the laws.
-use Rattle.std.proofs.Common.{◌≡◌, List, ℕ, length, None, Ok, sym, subst}
+use Rattle.std.proofs.Common.{◌≡◌, length, None, sym, subst}
 use Rattle.hm_tree.specs.Nodes.{Tree}
 use Rattle.hm_schema.specs.Values.{OptionsValue, SchemaValue}
 use Rattle.hm_schema.specs.Membership.{HasNoTwins}
@@ -9,21 +9,18 @@ use Rattle.hm_cards.proofs.Laws as cards
 use Rattle.hm_columns.specs.Records.{AreColumns}
 use Rattle.hm_format.specs.Options.{AreSound, bad_key}
 use Rattle.hm_format.specs.Formats.{HasSchema, IsMemberTree, IsLawful}
-use Rattle.hm_format.proofs.Accepted.{schema_given, no_bad_key}
+use Rattle.hm_format.proofs.Accepted.{schema_given}
 use Rattle.hm_format.proofs.Limits.{not_over}
 use Rattle.hm_csv.specs.Options.{csv_rules, shown_of, column_names}
 use Rattle.hm_csv.specs.Tables.{key_place, columns_of}
 use Rattle.hm_csv.specs.Writing.{csv, stays}
 use Rattle.hm_csv.proofs.ColumnFacts.{columns_are}
-use Rattle.hm_csv.proofs.ShownNames.{shown_are}
+use Rattle.hm_csv.proofs.ShownNames.{shown_are, none_bad}
 use Rattle.hm_csv.proofs.ReadOnce.{read_once, read_faults}
 use Rattle.hm_csv.proofs.FileLaws.{writes_once, members, put_get, keeps}
 
 pub schema_is : (o : OptionsValue) (s : SchemaValue) → HasSchema csv o s → book_schema (shown_of o) ≡ s
 schema_is o s has = schema_given (bad_key csv_rules o) (book_schema (shown_of o)) s has
-
-pub none_bad : (o : OptionsValue) (s : SchemaValue) → HasSchema csv o s → bad_key csv_rules o ≡ None
-none_bad o s has = no_bad_key (bad_key csv_rules o) (book_schema (shown_of o)) s has
 
 -- a header that has the columns of accepted options
 pub found : (o : OptionsValue) (s : SchemaValue) → AreSound o → HasSchema csv o s → (header : Fields) → IsHeader (column_names o) header

@@ -1,14 +1,13 @@
 -- A plan over numbers is one over the records of an opened file and the cards of a tree.
-use Rattle.std.proofs.Common.{◌≡◌, ℕ, zero, suc, ◌+◌, ◌<◌, Bool, true, false, ◌&&◌, T, List, [], ◌∷◌, length, get_or, map, Option, Some, None, refl, sym, ap, ◌∙◌, subst, arith}
+use Rattle.std.proofs.Common.{◌≡◌, ℕ, zero, suc, ◌+◌, ◌<◌, Bool, false, ◌&&◌, T, List, [], ◌∷◌, length, get_or, map, Option, Some, None, refl, sym, ap, ◌∙◌, subst, arith}
 use Rattle.std.specs.Prelude.{All, IfSome, IsTrue, ◌↔◌, MatchOption, Vec}
 use Rattle.std.specs.declared.alloc.Global.{Global}
 use Rattle.hm_records.specs.Written.{written}
 use Rattle.std.specs.Option.{option_map, unwrap_or}
 use Rattle.std.specs.Ordering.{is_lt}
-use Rattle.std.specs.FinMap.{is_sorted, find}
+use Rattle.std.specs.FinMap.{is_sorted}
 use Rattle.std.specs.FinMap.Entries.{below_all}
 use Rattle.std.proofs.lemmas.List.{get_or-map}
-use Rattle.std.proofs.lemmas.List.Elements.{All-nil, All-cons}
 use Rattle.std.proofs.lemmas.Option.{slice_get-get_or}
 use Rattle.hm_tree.specs.Names.{Name, name_cmp}
 use Rattle.hm_tree.specs.Nodes.{Tree, empty}
@@ -21,7 +20,6 @@ use Rattle.hm_items.proofs.Numbers.{keys_of, wanted_of, plan_read}
 use Rattle.hm_records.specs.Rows.{Fields}
 use Rattle.hm_cards.proofs.CardTrees.{found_at}
 use Rattle.hm_csv.specs.declared.opening.Opened.{Opened}
-use Rattle.hm_csv.specs.Writing.{Slots}
 use Rattle.hm_csv.specs.Rewriting.{Lists, header_in, others_in, IsAnew, key_in, keyed_in, counts_in, list_at, row_in, slot_in, slot_rows, IsInside, AreRowsFor}
 
 -- ---- counts of lists

@@ -1,14 +1,12 @@
 -- Bytes are read as one book, or refused for one fault.
-use Rattle.std.proofs.Common.{◌≡◌, ℕ, suc, ◌+◌, ◌<◌, ◌≤◌, Bool, List, [], ◌∷◌, ◌++◌, length, map, refl, sym, ap, ◌∙◌, subst, arith}
+use Rattle.std.proofs.Common.{◌≡◌, ℕ, suc, ◌+◌, ◌≤◌, List, [], ◌∷◌, ◌++◌, length, refl, sym, ap, ◌∙◌, subst, arith}
 use Rattle.std.specs.Prelude.{All, IsUtf8, Result, Ok, Err}
-use Rattle.hm_tree.specs.Names.{Name}
 use Rattle.hm_tree.specs.Nodes.{Tree, depth}
 use Rattle.hm_schema.specs.Values.{OptionsValue}
 use Rattle.hm_item_trees.specs.ItemTrees.{IsItemTree}
 use Rattle.hm_item_trees.proofs.Laws.{item_tree_once}
 use Rattle.hm_records.specs.Rows.{Fields}
-use Rattle.hm_records.specs.Reads.{Sheet, IsSheet, ReadsRecords, StopsAt, IsBadItem}
-use Rattle.hm_records.specs.declared.fault.RecordsFault.{RecordsFault}
+use Rattle.hm_records.specs.Reads.{Sheet, StopsAt, IsBadItem}
 use Rattle.hm_records.specs.declared.fault.RecordsFault.TheVariants as records
 use Rattle.hm_records.proofs.Laws.{records_once}
 use Rattle.hm_format.specs.declared.fault.FormatFault.{FormatFault}

@@ -1,6 +1,6 @@
 -- What is written for an opened file is what the format writes.
-use Rattle.std.proofs.Common.{◌≡◌, ◌≢◌, ℕ, zero, suc, ◌+◌, ◌<◌, ◌≤◌, T, List, [], ◌∷◌, length, get_or, map, drop, Option, Some, None, Result, Ok, Err, refl, sym, ap, ◌∙◌, subst, arith}
-use Rattle.std.specs.Prelude.{All, IsUtf8, MatchOption, Vec, IfErr, IsErrAnd}
+use Rattle.std.proofs.Common.{◌≡◌, ◌≢◌, ℕ, zero, suc, ◌<◌, T, List, [], ◌∷◌, length, get_or, map, drop, Option, Some, None, Result, Ok, Err, refl, sym, ap, ◌∙◌, subst, arith}
+use Rattle.std.specs.Prelude.{All, Vec, IsErrAnd}
 use Rattle.std.specs.declared.alloc.Global.{Global}
 use Rattle.std.specs.FinMap.{is_sorted}
 use Rattle.std.proofs.lemmas.List.{get_or-map}
@@ -17,7 +17,6 @@ use Rattle.hm_cards.specs.Books as books
 use Rattle.hm_cards.proofs.Laws.{book_member}
 use Rattle.hm_columns.specs.Records.{AreColumns, AreSigns, rewritten, blank}
 use Rattle.hm_tree.specs.Cleaned.{cleaned}
-use Rattle.hm_columns.specs.declared.column.Column.{Column}
 use Rattle.hm_format.specs.declared.fault.FormatFault.{FormatFault}
 use Rattle.hm_format.specs.declared.fault.FormatFault.TheVariants.{BadOption, NotUtf8, BadItem, NoKey, TooDeep, Outside, Memory}
 use Rattle.hm_format.specs.Options.{AreSound}
@@ -25,10 +24,10 @@ use Rattle.hm_format.specs.Formats.{HasSchema, IsMemberTree, depth_over}
 use Rattle.hm_format.specs.Answers.{Writes}
 use Rattle.hm_csv.specs.declared.opening.Opened.{Opened}
 use Rattle.hm_csv.specs.Options.{shown_of, column_names}
-use Rattle.hm_csv.specs.Tables.{IsTable, key_place, columns_of, key_of}
+use Rattle.hm_csv.specs.Tables.{IsTable, key_place, columns_of}
 use Rattle.hm_csv.specs.Files.{CsvReads}
 use Rattle.hm_csv.specs.Opened.{IsOpened, Hinders}
-use Rattle.hm_csv.specs.Writing.{csv, Slots, keyed, base, row_for, AreNewRows, IsWrittenAnew, CsvWrites, stays, anew}
+use Rattle.hm_csv.specs.Writing.{csv, Slots, keyed, base, row_for, AreNewRows, CsvWrites, stays, anew}
 use Rattle.hm_csv.specs.Rewriting.{Lists, header_in, others_in, IsEven, keyed_in, base_in, row_in, AreRowsFor, IsAnew}
 use Rattle.hm_csv.proofs.ShownNames.{shown_are}
 use Rattle.hm_csv.proofs.ReadOnce.{no_stop, no_bad}

@@ -1,15 +1,15 @@
 -- Records of a table as items of a file: how one is written for a card, and how all are written for a tree.
-use Rattle.std.proofs.Common.{◌≡◌, ℕ, suc, ◌<◌, ◌+◌, Bool, true, false, cond, T, List, [], ◌∷◌, length, get_or, map, Option, Some, None, refl, sym, ap, ◌∙◌, subst, arith}
-use Rattle.std.specs.Prelude.{All, IfSome, IsUtf8, IsTrue}
+use Rattle.std.proofs.Common.{◌≡◌, ℕ, suc, ◌<◌, Bool, true, false, cond, T, List, [], ◌∷◌, length, get_or, map, Option, Some, None, refl, sym, ap, ◌∙◌, subst, arith}
+use Rattle.std.specs.Prelude.{All, IfSome, IsUtf8}
 use Rattle.std.specs.Bool.{◌==◌}
 use Rattle.std.specs.Option.{unwrap_or}
 use Rattle.std.specs.FinMap as map
-use Rattle.std.specs.FinSet.{FinSet, contains, contains-from_list}
+use Rattle.std.specs.FinSet.{FinSet, contains-from_list}
 use Rattle.std.specs.List.{range_with_len}
 use Rattle.std.proofs.lemmas.List.Elements.{All-nil, All-cons}
 use Rattle.std.proofs.lemmas.List.FromFn.{length-map-range_with_len, get_or-map-range_with_len}
 use Rattle.std.proofs.lemmas.Bool.Decides.{nat_tests}
-use Rattle.std.proofs.lemmas.Str.{IsUtf8-nil, IsUtf8-from_is_utf8}
+use Rattle.std.proofs.lemmas.Str.{IsUtf8-nil}
 use Rattle.hm_tree.specs.Names.{Name, name_cmp}
 use Rattle.hm_tree.specs.Classes.{IsFilled}
 use Rattle.hm_tree.specs.Cleaned.{cleaned}
@@ -20,10 +20,9 @@ use Rattle.hm_items.specs.Items.{IsTree, IsGrouped, IsRewritten, Each, IsWriting
 use Rattle.hm_items.proofs.Fitting.{AllFit, put_get_fit, sound_fit, get_put_fit}
 use Rattle.hm_item_trees.specs.ItemTrees.{AreLists, IsItemTree}
 use Rattle.hm_records.specs.Rows.{Fields}
-use Rattle.hm_cards.specs.Cards.{Shown, Texts, IsCard, IsSound, AreSound, texts_at, card_tree, no_texts}
+use Rattle.hm_cards.specs.Cards.{Shown, IsCard, IsSound, AreSound, texts_at, no_texts}
 use Rattle.hm_cards.proofs.CardTrees.{card_texts, found_sound, suit_edges, suit_sound}
-use Rattle.hm_columns.specs.declared.column.Column.{Column}
-use Rattle.hm_columns.specs.Records.{AreColumns, shown_by, card_of, rewritten, blank}
+use Rattle.hm_columns.specs.Records.{AreColumns, shown_by, card_of, blank}
 use Rattle.hm_columns.proofs.Laws.{record_shows, record_stays, rewritten_long, rewritten_text, rewritten_key}
 use Rattle.hm_csv.specs.Options.{shown_of}
 use Rattle.hm_csv.specs.Tables.{key_place, columns_of, column_for, key_of, HasKey, item_of, items_of}

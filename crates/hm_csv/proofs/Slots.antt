@@ -1,6 +1,6 @@
 -- The records that are written for slots, one by one.
-use Rattle.std.proofs.Common.{◌≡◌, ◌≢◌, ℕ, zero, suc, ◌+◌, ◌<◌, ◌≤◌, Bool, true, false, List, [], ◌∷◌, ◌++◌, length, get_or, slice_get, map, take, drop, Option, Some, None, refl, sym, ap, ◌∙◌, subst, arith}
-use Rattle.std.specs.Prelude.{All, IsUtf8, IsTrue, ◌↔◌, IfOk, Result}
+use Rattle.std.proofs.Common.{◌≡◌, ℕ, zero, suc, ◌+◌, ◌<◌, ◌≤◌, List, [], ◌∷◌, ◌++◌, length, get_or, map, take, drop, Option, Some, None, refl, sym, ap, ◌∙◌, subst, arith}
+use Rattle.std.specs.Prelude.{All, IsUtf8, IfOk, Result}
 use Rattle.std.specs.Option.{option_map}
 use Rattle.std.proofs.lemmas.List.{take_more, length-take-le, map-append, get_or-map}
 use Rattle.csv.specs.Records.{Row, fields_of}
@@ -13,7 +13,7 @@ use Rattle.hm_columns.specs.declared.column.Column.{Column}
 use Rattle.std.specs.Borrow.{Bor}
 use Rattle.hm_item_trees.specs.Lent.{LentList, lent_list, lent_lists}
 use Rattle.hm_csv.specs.declared.opening.Opened.{Opened}
-use Rattle.hm_csv.specs.Rewriting.{Lists, rows_in, header_in, others_in, IsEven, key_in, list_at, base_in, row_in, slot_in, slot_rows, IsInside}
+use Rattle.hm_csv.specs.Rewriting.{Lists, rows_in, header_in, others_in, key_in, list_at, row_in, slot_in, slot_rows, IsInside}
 
 -- ---- records
 

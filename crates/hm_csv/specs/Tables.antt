@@ -1,12 +1,12 @@
 -- A table: a header and records, with the columns that options name.
-use Rattle.std.specs.Prelude.{ℕ, Bool, List, [], ◌∷◌, map, get_or, All, Option, unwrap_or}
+use Rattle.std.specs.Prelude.{ℕ, Bool, List, [], ◌∷◌, map, get_or, unwrap_or}
 use Rattle.hm_tree.specs.Names.{Name}
 use Rattle.hm_tree.specs.Cleaned.{cleaned}
 use Rattle.hm_tree.specs.Classes.{IsFilled}
 use Rattle.hm_tree.specs.Nodes.{Tree}
 use Rattle.hm_schema.specs.Values.{OptionsValue}
 use Rattle.hm_records.specs.Rows.{Fields, column}
-use Rattle.hm_records.specs.Reads.{Sheet, IsSheet}
+use Rattle.hm_records.specs.Reads.{IsSheet}
 use Rattle.hm_columns.specs.declared.column.Column.{Column}
 use Rattle.hm_columns.specs.Records.{card_of}
 use Rattle.hm_csv.specs.Options.{key_name, shown_of, column_names}

@@ -1,5 +1,5 @@
 -- What is written of a tree behind the bytes from before, and what stays.
-use Rattle.std.specs.Prelude.{◌≡◌, ℕ, Bool, List, [], ◌∷◌, map, length, Option, Some, None, Ok}
+use Rattle.std.specs.Prelude.{◌≡◌, ℕ, List, ◌∷◌, map, length, Option, Some, None, Ok}
 use Rattle.hm_tree.specs.Names.{Name, name_cmp}
 use Rattle.hm_tree.specs.Nodes.{Tree, edges}
 use Rattle.hm_schema.specs.Values.{OptionsValue}

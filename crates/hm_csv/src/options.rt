@@ -36,7 +36,7 @@ const KEYS: [Key<'static>; 3] = [
 ];
 
 /// The schema of the address books of files under options, or the first key that is bad.
-pub fn schema(alloc: Global, options: &Options) -> Result<Schema, FormatFault>
+pub(crate) fn schema(alloc: Global, options: &Options) -> Result<Schema, FormatFault>
     requires { AreSound (options_value options.now) }
     ensures { GivesSchema (csv.schema_of (options_value options.now)) result }
 {
@@ -47,7 +47,7 @@ pub fn schema(alloc: Global, options: &Options) -> Result<Schema, FormatFault>
 }
 
 /// The names of the columns that are shown, which rise, each with whether its fields show many texts.
-pub fn shown_of(alloc: Global, options: &Options) -> Result<Vec<(Name, bool)>, Memory>
+pub(crate) fn shown_of(alloc: Global, options: &Options) -> Result<Vec<(Name, bool)>, Memory>
     ensures { IfOk result (λ shown. shown.items ≡ spec.shown_of (options_value options.now)) }
 {
     let many = NameSet::from_list(copy_names(alloc, values_of(&options.pairs, "many"))?)?;
@@ -70,7 +70,7 @@ fn shown_names(alloc: Global, options: &Options) -> Result<Vec<Name>, Memory>
 }
 
 /// The names that a header has to have: that of the key's column, and those of the columns that are shown.
-pub fn column_names(
+pub(crate) fn column_names(
     alloc: Global,
     options: &Options,
     shown: &[(Name, bool)],

@@ -1,7 +1,7 @@
-use Rattle.std.proofs.Common.{◌≡◌, List, T, sym, subst}
+use Rattle.std.proofs.Common.{T, sym, subst}
 use Rattle.std.specs.FinMap.{is_sorted}
 use Rattle.csv.specs.Records.{fields_of}
-use Rattle.hm_tree.specs.Names.{Name, name_cmp}
+use Rattle.hm_tree.specs.Names.{name_cmp}
 use Rattle.hm_cards.specs.Cards.{Texts}
 use Rattle.hm_columns.proofs.Rows.{texts_sorted}
 use Rattle.hm_columns.proofs.card.card_of.Goals as goal

@@ -1,4 +1,4 @@
-use Rattle.std.proofs.Common.{◌≡◌, List, ℕ, sym, subst}
+use Rattle.std.proofs.Common.{◌≡◌, List, sym, subst}
 use Rattle.std.specs.Prelude.{IfOk}
 use Rattle.hm_tree.specs.Names.{Name}
 use Rattle.hm_tree.proofs.Ascending.{ascending_is}

@@ -1,4 +1,4 @@
-use Rattle.std.proofs.Common.{◌≡◌, ◌<◌, ◌∙◌, sym, length}
+use Rattle.std.proofs.Common.{◌<◌, ◌∙◌, sym, length}
 use Rattle.csv.specs.Records.{fields_of}
 use Rattle.hm_columns.proofs.Rows.{field_more}
 use Rattle.hm_columns.proofs.rewriting.rewrite.Goals as goal

@@ -1,4 +1,4 @@
-use Rattle.std.proofs.Common.{◌∙◌, ap, sym, subst, length, List, ℕ}
+use Rattle.std.proofs.Common.{◌∙◌, ap, sym, subst, length}
 use Rattle.std.specs.Prelude.{All, IsUtf8}
 use Rattle.csv.specs.Records.{fields_of}
 use Rattle.hm_csv.proofs.RowLaws.{blank_long, blank_text}

@@ -1,12 +1,12 @@
 use Rattle.std.proofs.lemmas.List.{take_all}
 use Rattle.std.proofs.Math.Dec.{eqb}
-use Rattle.std.proofs.Common.{rules, arith, map, slice_get, Some, ◌+◌, ◌≡◌, ◌∙◌, ◌∷◌, ◌++◌, ◌&&◌, [], List, Bool, ℕ, take, length, sym, ap, refl, subst}
+use Rattle.std.proofs.Common.{rules, arith, map, slice_get, Some, ◌+◌, ◌≡◌, ◌∙◌, ◌∷◌, [], List, Bool, ℕ, take, length, sym, refl, subst}
 use Rattle.std.specs.Prelude.{IsTrue, ◌↔◌}
 use Rattle.csv.specs.Records.{Row, fields_of}
 use Rattle.hm_items.specs.declared.planned.Slot.{Slot}
 use Rattle.hm_item_trees.specs.Lent.{lent_lists}
 use Rattle.hm_records.specs.Rows.{Fields}
-use Rattle.hm_records.specs.Written.{HasWritten, written}
+use Rattle.hm_records.specs.Written.{HasWritten}
 use Rattle.hm_csv.specs.Rewriting.{header_in, others_in, rows_in, slot_rows}
 use Rattle.hm_csv.proofs.Slots.{header_is, rows_more, rows_so_many, all_rows, rows_long, others_long}
 use Rattle.hm_csv.proofs.Prefixes.{same_on, same_end, numbers}
