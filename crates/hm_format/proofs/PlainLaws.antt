@@ -1,9 +1,7 @@
 -- The format of texts of trees meets the laws.
-use Rattle.std.proofs.Common.{◌≡◌, ◌≢◌, ℕ, ◌≤◌, nat_lt, List, [], length, Some, None, Result, Ok, Err, refl, sym, ap, subst, ◌∙◌, arith}
+use Rattle.std.proofs.Common.{◌≡◌, ◌≢◌, ℕ, List, [], length, Some, None, Result, Ok, Err, sym, ap, subst, ◌∙◌}
 use Rattle.std.specs.Prelude.{IsUtf8}
-use Rattle.std.proofs.lemmas.Bool.{cond_both}
-use Rattle.std.proofs.lemmas.Bool.Decides.{nat_tests}
-use Rattle.hm_tree.specs.Nodes.{Tree, depth}
+use Rattle.hm_tree.specs.Nodes.{Tree}
 use Rattle.hm_tree.specs.States.{Path, state}
 use Rattle.hm_tree.proofs.PathLaws.{first_once}
 use Rattle.hm_tree_text.specs.Files.{IsTreeText}
@@ -19,7 +17,7 @@ use Rattle.hm_schema.specs.Membership.{IsOutside, IsFirstOutside, HasNoTwins}
 use Rattle.hm_format.specs.declared.fault.FormatFault.{FormatFault}
 use Rattle.hm_format.specs.declared.fault.FormatFault.TheVariants.{BadOption, NotUtf8, BadItem, NoKey, TooDeep, Outside, Memory}
 use Rattle.hm_format.specs.Options.{AreSound, bad_key}
-use Rattle.hm_format.specs.Formats.{IsLawful, IsMemberTree, IsReadFault, HasSchema, deepest, depth_over}
+use Rattle.hm_format.specs.Formats.{IsLawful, IsMemberTree, IsReadFault, HasSchema}
 use Rattle.hm_format.proofs.Limits.{shallow, not_over}
 use Rattle.hm_format.proofs.Accepted.{schema_given, no_bad_key}
 use Rattle.hm_format.specs.Plain.{IsOutsideText, PlainReads, plain, plain_rules, plain_schema}
