@@ -1,0 +1,5 @@
+pub mod Unfolding
+pub mod Folding
+pub mod Values
+pub mod Content
+pub mod Shown

@@ -1,0 +1,48 @@
+//! Folding lines (RFC 5545, section 3.1; RFC 6350, section 3.2).
+ghost use Rattle.std.specs.Prelude.{◌≡◌, ◌++◌, ℕ, List, All, IsUtf8, IfOk, OnOk, map};
+ghost use Rattle.hm_lines.specs.Folding.{IsFolded, AreFolded, Appends};
+ghost use Rattle.hm_lines.specs.Shown.{bytes_of};
+
+use hm_tree::Memory;
+use std::alloc::Global;
+use std::str;
+
+// How many octets the first piece of a line has at the most, and each further one, which stands behind a space.
+const FIRST_LIMIT: usize = 75;
+
+const FURTHER_LIMIT: usize = 74;
+
+/// Lines, each with CRLF behind it, and folded where it is of more than 75 octets.
+pub fn fold(alloc: Global, lines: &[Vec<u8>]) -> Result<Vec<u8>, Memory>
+    requires { All (λ line. IsUtf8 line.items) lines.now }
+    ensures { IfOk result (λ folded. AreFolded (map bytes_of lines.now) folded.items) }
+{
+    let mut folded = Vec::new(alloc);
+    for line in lines {
+        match str::from_utf8(line) {
+            Ok(text) => append_folded(&mut folded, text)?,
+            Err(_) => unreachable!(),
+        }
+    }
+    Ok(folded)
+}
+
+/// Puts a line behind some bytes, with CRLF behind it, and folded where it is of more than 75 octets: the first piece of it
+/// is the longest beginning of at most 75 octets that ends at a character, each further one the longest of at most 74, behind
+/// a space.
+pub fn append_folded(folded: &mut Vec<u8>, line: &str) -> Result<(), Memory>
+    ensures { OnOk result (Appends folded.old.items folded.new.items (IsFolded line.now)) }
+{
+    let mut rest = line;
+    let mut limit = FIRST_LIMIT;
+    while rest.len() > limit {
+        let (piece, behind) = rest.split_at(rest.floor_char_boundary(limit));
+        folded.extend_from_slice(piece.as_bytes())?;
+        folded.extend_from_slice(b"\r\n ")?;
+        rest = behind;
+        limit = FURTHER_LIMIT;
+    }
+    folded.extend_from_slice(rest.as_bytes())?;
+    folded.extend_from_slice(b"\r\n")?;
+    Ok(())
+}
