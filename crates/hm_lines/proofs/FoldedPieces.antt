@@ -49,6 +49,10 @@ module _ (line old new : List ℕ) (limit : ℕ) (rest : List ℕ) (before : IsB
         ),
       )
 
+-- what stood there before stays in front
+pub kept_more : (old mid new add : List ℕ) → ((more : List ℕ) × (mid ≡ old ++ more)) → new ≡ mid ++ add → ((more : List ℕ) × (new ≡ old ++ more))
+kept_more old mid new add (more, is) then = (more ++ add, then ∙ ap (λ l. l ++ add) is ∙ append_assoc old more add)
+
 -- ---- the piece that is cut off
 
 module _ (limit : ℕ) (text : List ℕ) (count : ℕ) (within : count ≤ limit) (boundary : IsCharBoundary text count)

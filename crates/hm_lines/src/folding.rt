@@ -1,5 +1,5 @@
 //! Folding lines (RFC 5545, section 3.1; RFC 6350, section 3.2).
-ghost use Rattle.std.specs.Prelude.{◌≡◌, ◌++◌, ℕ, List, All, IsUtf8, IfOk, OnOk, map};
+ghost use Rattle.std.specs.Prelude.{◌≡◌, ◌++◌, ℕ, List, All, IsUtf8, IfOk, OnOk, OnErr, map};
 ghost use Rattle.hm_lines.specs.Folding.{IsFolded, AreFolded, Appends};
 ghost use Rattle.hm_lines.specs.Shown.{bytes_of};
 
@@ -31,7 +31,21 @@ pub fn fold(alloc: Global, lines: &[Vec<u8>]) -> Result<Vec<u8>, Memory>
 /// is the longest beginning of at most 75 octets that ends at a character, each further one the longest of at most 74, behind
 /// a space.
 pub fn append_folded(folded: &mut Vec<u8>, line: &str) -> Result<(), Memory>
-    ensures { OnOk result (Appends folded.old.items folded.new.items (IsFolded line.now)) }
+    ensures ok { OnOk result (Appends folded.old.items folded.new.items (IsFolded line.now)) }
+    ensures err { OnErr result (folded.new.items ≡ folded.old.items) }
+{
+    let start = folded.len();
+    let appended = append_pieces(folded, line);
+    if appended.is_err() {
+        folded.truncate(start);
+    }
+    appended
+}
+
+// Puts a line behind some bytes piece by piece; without memory for one of them the pieces before it stay.
+fn append_pieces(folded: &mut Vec<u8>, line: &str) -> Result<(), Memory>
+    ensures ok { OnOk result (Appends folded.old.items folded.new.items (IsFolded line.now)) }
+    ensures kept { (more : List ℕ) × (folded.new.items ≡ folded.old.items ++ more) }
 {
     let mut rest = line;
     let mut limit = FIRST_LIMIT;

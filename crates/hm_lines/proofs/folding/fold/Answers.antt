@@ -16,7 +16,7 @@ unreachable-requires c =
 
 pub loop-line-preserved : goal.loop-line-preserved
 loop-line-preserved c =
-    let more = c.in_ok-append_folded-in-Ok.ensures in
+    let more = c.in_ok-append_folded-in-Ok.ensures.ok in
     let line : c.in-Ok.text.now ≡ c.line-item.result.items = c.in-Ok.ensures.cases.0 ∙ c.deref.ensures.value in
     let taken : take (c.loop-line.line-index + 1) c.args.lines.now ≡ take c.loop-line.line-index c.args.lines.now ++ c.line-item.result ∷ [] =
     take_more c.args.lines.now c.loop-line.line-index c.line-item.result c.loop-line-test.true

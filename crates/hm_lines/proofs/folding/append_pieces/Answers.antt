@@ -1,9 +1,10 @@
-use Rattle.std.proofs.Common.{◌∙◌, ◌++◌, ◌<◌, length, take, arith, sym, ap, subst}
+use Rattle.std.proofs.Common.{◌∙◌, ◌++◌, ◌∷◌, [], ◌<◌, length, take, arith, sym, ap, subst}
 use Rattle.std.specs.Str.{IsUtf8}
 use Rattle.std.proofs.lemmas.Str.{IsUtf8-drop}
+use Rattle.hm_lines.specs.Unfolding.{feed, return}
 use Rattle.hm_lines.specs.Folding.{IsLongest}
-use Rattle.hm_lines.proofs.FoldedPieces.{piece_behind, last_behind, is_longest, left_shorter}
-use Rattle.hm_lines.proofs.folding.append_folded.Goals as goal
+use Rattle.hm_lines.proofs.FoldedPieces.{kept_more, piece_behind, last_behind, is_longest, left_shorter}
+use Rattle.hm_lines.proofs.folding.append_pieces.Goals as goal
 
 pub loop-limit-smaller : goal.loop-limit-smaller
 loop-limit-smaller c =
@@ -26,6 +27,12 @@ loop-limit-preserved c = record {
       subst IsUtf8 (sym c.split_at.ensures.back)
       (IsUtf8-drop c.loop-limit.rest.now c.floor_char_boundary.result c.loop-limit.invariant.text c.floor_char_boundary.ensures.boundary);
   room = omega arith;
+  kept =
+      kept_more c.args.folded.now.items c.extend_from_slice.new.self.items c.extend_from_slice-in-loop-limit.new.self.items
+      (return ∷ feed ∷ 32 ∷ [])
+      (kept_more c.args.folded.now.items c.loop-limit.folded.items c.extend_from_slice.new.self.items c.as_bytes.result.now
+      c.loop-limit.invariant.kept c.in_ok-extend_from_slice.ensures.items)
+      c.in_ok-extend_from_slice-2.ensures.items;
   pieces =
       piece_behind c.args.line.now c.args.folded.now.items c.loop-limit.folded.items c.loop-limit.limit c.loop-limit.rest.now
       c.loop-limit.invariant.pieces c.split_at.result.0.now c.split_at.result.1.now c.extend_from_slice.new.self.items
@@ -34,8 +41,8 @@ loop-limit-preserved c = record {
       c.in_ok-extend_from_slice-2.ensures.items;
 }
 
-pub returns : goal.returns
-returns c =
+pub returns-clause-ok : goal.returns-clause-ok
+returns-clause-ok c =
     last_behind c.args.line.now c.args.folded.now.items c.loop-limit.folded.items c.loop-limit.limit c.loop-limit.rest.now c.loop-limit.invariant.pieces
     c.extend_from_slice-2.new.self.items c.extend_from_slice-3.new.self.items c.loop-limit-test.false
     (c.in_ok-extend_from_slice-3.ensures.items ∙ ap (λ l. c.loop-limit.folded.items ++ l) c.as_bytes-2.ensures.value)
