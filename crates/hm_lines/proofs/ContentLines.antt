@@ -323,7 +323,7 @@ module _ (line : List ℕ) (parts : LineParts) (is : IsContentLine line parts) (
     name_from = subst (IsCharBoundary line) (sym is.name_from) (from_boundary is.group (is.name ++ (is.parameters ++ colon ∷ is.value)) is.bytes is.is_group);
     name_to = subst (IsCharBoundary line) (sym is.name_to) (to_boundary (is_tail is.parameters is.value is.are_parameters));
     value_from = subst (IsCharBoundary line) (sym is.value_from) value_boundary;
-    name = let from = is.name_from in let to = is.name_to in omega arith;
+    ordered = let from = is.name_from in let to = is.name_to in omega arith;
   }
 
 pub all_between : (line : List ℕ) (found : Option LineParts) → IsUtf8 line

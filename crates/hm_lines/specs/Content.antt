@@ -62,7 +62,7 @@ pub record IsCutBetweenCharacters (line : List ℕ) (parts : LineParts) : Type 0
   pub name_from : IsCharBoundary line parts.name_from
   pub name_to : IsCharBoundary line parts.name_to
   pub value_from : IsCharBoundary line parts.value_from
-  pub name : parts.name_from ≤ parts.name_to
+  pub ordered : parts.name_from ≤ parts.name_to
 
 -- ---- finding them
 
