@@ -1,11 +1,9 @@
 //! Lens files that name text lenses.
-ghost use Rattle.std.specs.Prelude.{◌≡◌, IfOk};
-ghost use Rattle.hm_text_kit.specs.YesAndNo.{yes_and_no};
 
 use crate::accepted::{Case, expect_with};
 use crate::setting::{ANY, expect_answer, expect_answer_with};
-use hm_text_kit::{FoldCase, SwapDate, SwapWords, TrimEnds};
-use hm_text_lens::{Chain, TextLens};
+use hm_text_kit::{TrimEnds, date, email, trim, yes_no};
+use hm_text_lens::TextLens;
 use hm_tree::{Memory, Name};
 use std::alloc::Global;
 use std::process::Abort;
@@ -15,25 +13,6 @@ use std::test::Fail;
 const ANY_TEXT: &str = "node R\n  other any Empty\n  shape + 1..1\n";
 
 const FILLED: &str = "node R\n  other filled Empty\n  shape + 1..1\n";
-
-fn named(alloc: Global, name: &str) -> Result<Name, Memory>
-    ensures { IfOk result (λ named. named ≡ name.now) }
-{
-    Name::from_text(alloc, name)
-}
-
-fn yes_no_pairs(alloc: Global) -> Result<Vec<(Name, Name)>, Memory>
-    ensures { IfOk result (λ pairs. pairs.items ≡ yes_and_no) }
-{
-    let mut pairs = Vec::new(alloc);
-    pairs.push((named(alloc, "Y")?, named(alloc, "yes")?))?;
-    pairs.push((named(alloc, "N")?, named(alloc, "no")?))?;
-    Ok(pairs)
-}
-
-fn yes_no(alloc: Global) -> Result<SwapWords, Memory> {
-    SwapWords::new(named(alloc, "yesno")?, yes_no_pairs(alloc)?)
-}
 
 // A file that has a main lens alone.
 fn main_of(alloc: Global, main: &str) -> Result<String, Memory> {
@@ -67,7 +46,7 @@ fn the_first_name_that_is_not_there(rt: HostRuntime) -> Result<(), Fail> {
 fn values_of_the_class_that_is_read(rt: HostRuntime) -> Result<(), Fail> {
     let alloc = rt.alloc();
     let mut texts: Vec<Box<dyn TextLens>> = Vec::new(alloc);
-    texts.push(Box::new(alloc, TrimEnds::new(named(alloc, "trim")?))?)?;
+    texts.push(Box::new(alloc, trim(alloc)?)?)?;
     for case in &[
         (FILLED, "typed"),
         (ANY_TEXT, "Mistyped 1 1 14"),
@@ -94,7 +73,7 @@ fn values_of_the_class_that_is_read(rt: HostRuntime) -> Result<(), Fail> {
 fn ends_are_trimmed(rt: HostRuntime) -> Result<(), Fail> {
     let alloc = rt.alloc();
     let mut texts: Vec<Box<dyn TextLens>> = Vec::new(alloc);
-    texts.push(Box::new(alloc, TrimEnds::new(named(alloc, "trim")?))?)?;
+    texts.push(Box::new(alloc, trim(alloc)?)?)?;
     let lines = main_of(alloc, "text(trim)")?;
     expect_with(
         &rt,
@@ -118,7 +97,8 @@ fn yes_and_no(rt: HostRuntime) -> Result<(), Fail> {
     let alloc = rt.alloc();
     let mut texts: Vec<Box<dyn TextLens>> = Vec::new(alloc);
     texts.push(Box::new(alloc, yes_no(alloc)?)?)?;
-    texts.push(Box::new(alloc, TrimEnds::new(named(alloc, "yesno")?))?)?;
+    let name = Name::from_text(alloc, "yesno")?;
+    texts.push(Box::new(alloc, TrimEnds::new(name))?)?;
     let lines = main_of(alloc, "text(yesno)")?;
     expect_with(
         &rt,
@@ -149,11 +129,9 @@ fn yes_and_no(rt: HostRuntime) -> Result<(), Fail> {
 #[test]
 fn addresses_and_days(rt: HostRuntime) -> Result<(), Fail> {
     let alloc = rt.alloc();
-    let trim = TrimEnds::new(named(alloc, "trim")?);
-    let fold = FoldCase::new(named(alloc, "fold")?);
     let mut texts: Vec<Box<dyn TextLens>> = Vec::new(alloc);
-    texts.push(Box::new(alloc, Chain::new(named(alloc, "email")?, trim, fold))?)?;
-    texts.push(Box::new(alloc, SwapDate::new(named(alloc, "date")?))?)?;
+    texts.push(Box::new(alloc, email(alloc)?)?)?;
+    texts.push(Box::new(alloc, date(alloc)?)?)?;
     let lines = main_of(alloc, "map(wmap(day=text(date),email=text(email)))")?;
     expect_with(
         &rt,

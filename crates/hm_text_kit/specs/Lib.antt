@@ -7,6 +7,7 @@ pub mod KindLaws
 pub mod Kinds
 pub mod TestLaws
 pub mod TextLaws
+pub mod TextLenses
 pub mod Tests
 pub mod TrimLaws
 pub mod Trimmed

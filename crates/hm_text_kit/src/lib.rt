@@ -3,6 +3,7 @@
 #![tactic(auto)]
 
 mod fold_case;
+mod lenses;
 mod swap_date;
 mod swap_words;
 #[cfg(test)]
@@ -10,6 +11,7 @@ mod tests;
 mod trim_ends;
 
 pub use fold_case::FoldCase;
+pub use lenses::{date, email, trim, yes_no};
 pub use swap_date::SwapDate;
 pub use swap_words::SwapWords;
 pub use trim_ends::TrimEnds;

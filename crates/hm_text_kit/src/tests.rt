@@ -1,9 +1,6 @@
 //! Texts as people write them, shown and put.
-ghost use Rattle.std.specs.Prelude.{◌≡◌, IfOk};
-ghost use Rattle.hm_text_kit.specs.YesAndNo.{yes_and_no};
-
 use super::*;
-use hm_text_lens::{Chain, TextLens, first_named};
+use hm_text_lens::{TextLens, first_named};
 use hm_tree::{Memory, Name};
 use std::alloc::Global;
 use std::process::Abort;
@@ -55,29 +52,10 @@ fn expect_put<L: TextLens>(
     Ok(())
 }
 
-fn named(alloc: Global, name: &str) -> Result<Name, Memory>
-    ensures { IfOk result (λ named. named ≡ name.now) }
-{
-    Name::from_text(alloc, name)
-}
-
-fn yes_no_pairs(alloc: Global) -> Result<Vec<(Name, Name)>, Memory>
-    ensures { IfOk result (λ pairs. pairs.items ≡ yes_and_no) }
-{
-    let mut pairs = Vec::new(alloc);
-    pairs.push((named(alloc, "Y")?, named(alloc, "yes")?))?;
-    pairs.push((named(alloc, "N")?, named(alloc, "no")?))?;
-    Ok(pairs)
-}
-
-fn yes_no(alloc: Global) -> Result<SwapWords, Memory> {
-    SwapWords::new(named(alloc, "yesno")?, yes_no_pairs(alloc)?)
-}
-
 #[test]
 fn ends_are_trimmed(rt: HostRuntime) -> Result<(), Fail> {
     let alloc = rt.alloc();
-    let trim = TrimEnds::new(named(alloc, "trim")?);
+    let trim = trim(alloc)?;
     expect_shown(&rt, alloc, &trim, "  Ann Lee ", "Ann Lee")?;
     expect_shown(&rt, alloc, &trim, "Ann", "Ann")?;
     expect_shown(&rt, alloc, &trim, "\tAnn\u{A0}", "\tAnn\u{A0}")?;
@@ -91,7 +69,7 @@ fn ends_are_trimmed(rt: HostRuntime) -> Result<(), Fail> {
 #[test]
 fn case_is_folded(rt: HostRuntime) -> Result<(), Fail> {
     let alloc = rt.alloc();
-    let fold = FoldCase::new(named(alloc, "fold")?);
+    let fold = FoldCase::new(Name::from_text(alloc, "fold")?);
     expect_shown(&rt, alloc, &fold, "Stra\u{DF}e", "strasse")?;
     expect_shown(&rt, alloc, &fold, "\u{391}\u{3A3}", "\u{3B1}\u{3C3}")?;
     expect_put(&rt, alloc, &fold, "strasse", "Stra\u{DF}e", "Stra\u{DF}e")?;
@@ -104,7 +82,7 @@ fn case_is_folded(rt: HostRuntime) -> Result<(), Fail> {
 #[test]
 fn dates_are_exchanged(rt: HostRuntime) -> Result<(), Fail> {
     let alloc = rt.alloc();
-    let date = SwapDate::new(named(alloc, "date")?);
+    let date = date(alloc)?;
     let dates = [
         ("19900203", "1990-02-03"),
         ("20230131", "2023-01-31"),
@@ -139,7 +117,7 @@ fn dates_are_exchanged(rt: HostRuntime) -> Result<(), Fail> {
 #[test]
 fn other_texts_stay_where_dates_are_exchanged(rt: HostRuntime) -> Result<(), Fail> {
     let alloc = rt.alloc();
-    let date = SwapDate::new(named(alloc, "date")?);
+    let date = date(alloc)?;
     let others = [
         "19900230",
         "1990-02-30",
@@ -196,9 +174,7 @@ fn words_are_exchanged(rt: HostRuntime) -> Result<(), Fail> {
 #[test]
 fn a_chain_trims_and_folds(rt: HostRuntime) -> Result<(), Fail> {
     let alloc = rt.alloc();
-    let trim = TrimEnds::new(named(alloc, "trim")?);
-    let fold = FoldCase::new(named(alloc, "fold")?);
-    let email = Chain::new(named(alloc, "email")?, trim, fold);
+    let email = email(alloc)?;
     let before = " Ann@Example.org ";
     let bob = "bob@x.example";
     expect_shown(&rt, alloc, &email, before, "ann@example.org")?;
@@ -212,18 +188,15 @@ fn a_chain_trims_and_folds(rt: HostRuntime) -> Result<(), Fail> {
 #[test]
 fn the_first_lens_of_a_name_is_found(rt: HostRuntime) -> Result<(), Fail> {
     let alloc = rt.alloc();
-    let trim = TrimEnds::new(named(alloc, "trim")?);
-    let fold = FoldCase::new(named(alloc, "fold")?);
-    let email = Chain::new(named(alloc, "email")?, trim, fold);
     let mut texts: Vec<Box<dyn TextLens>> = Vec::new(alloc);
-    texts.push(Box::new(alloc, SwapDate::new(named(alloc, "date")?))?)?;
-    texts.push(Box::new(alloc, email)?)?;
-    texts.push(Box::new(alloc, TrimEnds::new(named(alloc, "email")?))?)?;
-    assert!(rt; first_named(&texts, &named(alloc, "phone")?).is_none());
-    let Some(lens) = first_named(&texts, &named(alloc, "email")?) else {
+    texts.push(Box::new(alloc, date(alloc)?)?)?;
+    texts.push(Box::new(alloc, email(alloc)?)?)?;
+    texts.push(Box::new(alloc, TrimEnds::new(Name::from_text(alloc, "email")?))?)?;
+    assert!(rt; first_named(&texts, &Name::from_text(alloc, "phone")?).is_none());
+    let Some(lens) = first_named(&texts, &Name::from_text(alloc, "email")?) else {
         return Err("no lens".into());
     };
-    let text = named(alloc, " Ann@Example.org ")?;
+    let text = Name::from_text(alloc, " Ann@Example.org ")?;
     assert!(rt; text.in_class(lens.from_class()));
     let shown = lens.get(alloc, &text)?;
     assert_eq!(rt; shown.text(), "ann@example.org");
