@@ -1,6 +1,8 @@
 -- Bytes in front of the first piece.
 use Rattle.std.proofs.Common.{◌≡◌, ℕ, Bool, true, false, cond, List, [], ◌∷◌, ◌++◌, refl, sym, ap, ◌∙◌}
 use Rattle.std.specs.Bool.{◌==◌}
+use Rattle.std.specs.List.{list_any}
+use Rattle.std.proofs.lemmas.Bool.{or_parts}
 use Rattle.std.proofs.lemmas.List.{append_assoc, append-nil}
 use Rattle.hm_pieces.specs.Pieces.{stroke, backslash, is_special, led, pieces_behind}
 
@@ -30,6 +32,14 @@ led_nothing false [] = refl
 led_nothing true [] = refl
 led_nothing false (b ∷ rest) = plain b rest (b == stroke) (b == backslash) (led_nothing true rest)
 led_nothing true (b ∷ rest) = escaped b rest (is_special b)
+
+-- bytes of which none has a meaning of its own are one piece
+pub one_piece : (bytes : List ℕ) → list_any is_special bytes ≡ false → pieces_behind false bytes ≡ bytes ∷ []
+one_piece [] e = refl
+one_piece (b ∷ rest) e =
+    let plain = or_parts (is_special b) (list_any is_special rest) e in
+    let apart = or_parts (b == stroke) (b == backslash) plain.0 in
+    rw (apart.0, apart.1) (ap (led (b ∷ [])) (one_piece rest plain.1))
 
 -- ---- one byte more, behind whole pieces and what was read of one
 

@@ -1,6 +1,7 @@
 //! Cutting a field into its pieces.
 ghost use Rattle.std.specs.Prelude.{◌≡◌, ◌∷◌, [], ℕ, List, true, false, All, IsUtf8, IfOk, OnOk};
-ghost use Rattle.hm_pieces.specs.Pieces.{pieces as pieces_in, is_special, stroke};
+ghost use Rattle.std.specs.List.{list_any};
+ghost use Rattle.hm_pieces.specs.Pieces.{pieces as pieces_in, pieces_behind, is_special, stroke};
 ghost use Rattle.hm_pieces.specs.Cutting.{all_bytes, joined};
 
 use hm_tree::Memory;
@@ -26,15 +27,44 @@ pub fn pieces(alloc: Global, field: &str) -> Result<Vec<Vec<u8>>, Memory>
 fn cut_bytes(alloc: Global, field: &[u8]) -> Result<Vec<Vec<u8>>, Memory>
     ensures { IfOk result (λ found. all_bytes found ≡ pieces_in field.now) }
 {
+    if field.is_empty() {
+        return Ok(Vec::new(alloc));
+    }
+    if has_special(field) {
+        cut_each(alloc, field)
+    } else {
+        one_piece(alloc, field)
+    }
+}
+
+// Whether there is a `|` or a `\` in some bytes.
+fn has_special(bytes: &[u8]) -> bool
+    ensures { result ≡ list_any is_special bytes.now }
+{
+    bytes.iter().any(|byte| is_special(*byte))
+}
+
+// The piece of bytes without `|` and `\`. Nearly all fields are such, so it is copied at once.
+#[tactic(auto, using(crate::proofs::Led::one_piece))]
+fn one_piece(alloc: Global, bytes: &[u8]) -> Result<Vec<Vec<u8>>, Memory>
+    requires { list_any is_special bytes.now ≡ false }
+    ensures { IfOk result (λ found. all_bytes found ≡ pieces_behind false bytes.now) }
+{
+    let mut piece = Vec::with_capacity(alloc, bytes.len())?;
+    piece.extend_from_slice(bytes)?;
+    Ok(vec![in alloc; piece]?)
+}
+
+// The pieces of bytes that may have a `|` or a `\`, read byte by byte.
+fn cut_each(alloc: Global, bytes: &[u8]) -> Result<Vec<Vec<u8>>, Memory>
+    ensures { IfOk result (λ found. all_bytes found ≡ pieces_behind false bytes.now) }
+{
     let mut cut = Cut {
         whole: Vec::new(alloc),
         piece: Vec::new(alloc),
         behind_backslash: false,
     };
-    if field.is_empty() {
-        return Ok(cut.whole);
-    }
-    for byte in field {
+    for byte in bytes {
         take_byte(alloc, &mut cut, *byte)?;
     }
     finish(cut)

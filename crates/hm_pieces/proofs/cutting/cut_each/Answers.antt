@@ -2,9 +2,9 @@ use Rattle.std.proofs.Common.{map, false, ◌++◌, ◌∙◌}
 use Rattle.hm_pieces.specs.Pieces.{led, pieces_behind}
 use Rattle.hm_pieces.specs.Cutting.{bytes_of}
 use Rattle.hm_pieces.proofs.Led.{led_nothing}
-use Rattle.hm_pieces.proofs.cutting.cut_bytes.Goals as goal
+use Rattle.hm_pieces.proofs.cutting.cut_each.Goals as goal
 
 pub loop-byte-init : goal.loop-byte-init
 loop-byte-init c =
-    (λ i. map bytes_of (c.new.ensures.items i) ++ led (c.new-2.ensures.items i) (pieces_behind false c.args.field.now))
-    ∙ led_nothing false c.args.field.now
+    (λ i. map bytes_of (c.new.ensures.items i) ++ led (c.new-2.ensures.items i) (pieces_behind false c.args.bytes.now))
+    ∙ led_nothing false c.args.bytes.now
