@@ -1,8 +1,9 @@
 -- The column of a name, record by record.
-use Rattle.std.proofs.Common.{◌≡◌, ◌≢◌, ℕ, zero, suc, ◌<◌, ◌+◌, Bool, true, false, not, cond, Bor, map, List, [], ◌∷◌, ◌++◌, length, get_or, take, Option, Some, None, is_some, refl, sym, ap, ◌∙◌, arith}
+use Rattle.std.proofs.Common.{◌≡◌, ◌≢◌, ℕ, zero, suc, ◌<◌, ◌+◌, Bool, true, false, not, cond, Bor, map, List, [], ◌∷◌, ◌++◌, length, get_or, take, Option, Some, None, is_some, refl, sym, ap, ◌∙◌, subst, true≢false, arith}
 use Rattle.std.specs.Option.{option_map, option_or}
 use Rattle.std.specs.Ordering.{eq_by_cmp}
 use Rattle.std.specs.BTreeMap.{is_at}
+use Rattle.std.specs.FinSet.{FinSet, contains, from_list, contains-from_list}
 use Rattle.std.specs.Cmp.{eq_by_cmp_equiv, Equal-is}
 use Rattle.std.specs.Option.{option_copied}
 use Rattle.std.proofs.lemmas.List.{take_more, length-take-le, map-append}
@@ -11,9 +12,10 @@ use Rattle.csv.specs.Records.{field_at}
 use Rattle.hm_tree.specs.Names.{Name, name_cmp}
 use Rattle.hm_tree.specs.Cleaned.{cleaned}
 use Rattle.hm_records.specs.Rows.{Fields, IsMarked, IsHeader, column}
-use Rattle.std.specs.Prelude.{All, MatchOption, Vec, IsTrue, ◌↔◌}
+use Rattle.std.specs.Prelude.{All, Contains, MatchOption, Vec, IsTrue, ◌↔◌}
 use Rattle.std.specs.declared.alloc.Global.{Global}
-use Rattle.std.proofs.lemmas.List.Elements.{All-nil, All-cons}
+use Rattle.std.proofs.lemmas.List.Elements.{All-nil, All-cons, Contains-get_or}
+use Rattle.std.proofs.lemmas.Map.Views.{list_any-from_Contains}
 
 -- the field at a place
 pub field_is : (fields : Fields) (place : ℕ) (field : List ℕ) → Some field ≡ field_at fields place → field ≡ get_or fields place []
@@ -58,6 +60,10 @@ column_more fields place lt k =
     ap (column k) (take_more fields place [] lt) ∙ column_push k (get_or fields place []) (take place fields)
     ∙ ap (λ n. option_or (column k (take place fields)) (cond (eq_by_cmp name_cmp k (cleaned (get_or fields place []))) (Some n) None)) (length-take-le place fields (omega (arith, lt)))
 
+none_behind : (o : Option ℕ) → o ≡ option_or o None
+none_behind None = refl
+none_behind (Some n) = refl
+
 module _ (title : Name) (place : ℕ) (old new : Name → Option ℕ) where
   -- a title that stands nowhere yet is put at its place
   pub put : is_some (old title) ≡ false → ((k : Name) → new k ≡ cond (is_at (name_cmp title) k) (Some place) (old k)) → (k : Name)
@@ -72,11 +78,7 @@ module _ (title : Name) (place : ℕ) (old new : Name → Option ℕ) where
       here true e =
           let same : title ≡ k = name_one title k ((Equal-is (name_cmp title k)).0 e) in
           ap (λ o. option_or o (Some place)) (sym (nothing (old title) none) ∙ ap old same)
-      here false e = sym (none_behind (old k))
-        where
-          none_behind : (o : Option ℕ) → option_or o None ≡ o
-          none_behind None = refl
-          none_behind (Some n) = refl
+      here false e = none_behind (old k)
 
   -- one that stands before is left there
   pub leave : is_some (old title) ≡ true → (k : Name) → old k ≡ option_or (old k) (cond (eq_by_cmp name_cmp k title) (Some place) None)
@@ -90,11 +92,30 @@ module _ (title : Name) (place : ℕ) (old new : Name → Option ℕ) where
       here true e =
           let same : k ≡ title = name_one k title ((Equal-is (name_cmp k title)).0 e) in
           stands_before (old k) (ap (λ k. is_some (old k)) same ∙ there)
-      here false e = stands (old k)
-        where
-          stands : (o : Option ℕ) → o ≡ option_or o None
-          stands None = refl
-          stands (Some n) = refl
+      here false e = none_behind (old k)
+
+  -- a title that isn't wanted is none of the wanted names
+  pub pass : (wanted : FinSet name_cmp) → contains wanted title ≡ false → (k : Name) → IsTrue (contains wanted k)
+      → old k ≡ option_or (old k) (cond (eq_by_cmp name_cmp k title) (Some place) None)
+  pass wanted off k in_it = here (eq_by_cmp name_cmp k title) refl
+    where
+      here : (t : Bool) → eq_by_cmp name_cmp k title ≡ t → old k ≡ option_or (old k) (cond t (Some place) None)
+      here true e =
+          let same : k ≡ title = name_one k title ((Equal-is (name_cmp k title)).0 e) in
+          absurd (true≢false (sym in_it ∙ ap (contains wanted) same ∙ off))
+      here false e = none_behind (old k)
+
+-- each of some names is in the set of them
+pub is_wanted : (names : List Name) (index : ℕ) (name : Name) (wanted : FinSet name_cmp) → index < length names → name ≡ get_or names index name
+    → wanted ≡ from_list names → IsTrue (contains wanted name)
+is_wanted names index name wanted lt is set =
+    ap (λ (s : FinSet name_cmp). contains s name) set ∙ contains-from_list name_total names name
+    ∙ list_any-from_Contains (eq_by_cmp_equiv name_total) name names (subst (Contains names) (sym is) (Contains-get_or names index name lt))
+
+-- a name that has no column
+pub lacks : (fields : Fields) (names : List Name) (index : ℕ) (name : Name) → index < length names → name ≡ get_or names index name → column name fields ≡ None
+    → ¬ (All (λ k. column k fields ≢ None) names)
+lacks fields names index name lt is none all = all index name lt (ap (λ k. column k fields) (sym is) ∙ none)
 
 -- whether something was found, of what is lent and of its value
 pub found : (o : Option (Bor ℕ)) (r : Option ℕ) (missing b : Bool) → option_copied o ≡ r → is_some o ≡ not missing → missing ≡ b → is_some r ≡ not b
