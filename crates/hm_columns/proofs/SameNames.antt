@@ -1,13 +1,21 @@
--- When two lists have the same names.
-use Rattle.std.proofs.Common.{◌≡◌, ◌≢◌, ℕ, suc, ◌+◌, ◌<◌, Bool, true, false, ◌&&◌, List, [], ◌∷◌, length, get_or, drop, refl, sym, ap, ◌∙◌, arith}
+-- When two lists have the same names, and when names are those of edges.
+use Rattle.std.proofs.Common.{◌≡◌, ◌≢◌, ℕ, suc, ◌+◌, ◌<◌, Bool, true, false, cond, ◌&&◌, List, [], ◌∷◌, length, get_or, drop, map, refl, sym, ap, ◌∙◌, arith}
 use Rattle.std.specs.Prelude.{IsTrue, ◌↔◌}
 use Rattle.std.specs.Ordering.{eq_by_cmp}
 use Rattle.std.specs.Cmp.{Equal-is}
+use Rattle.std.specs.FinSet.{from_list}
+use Rattle.std.specs.List.Sorted.{IsStrictlySortedBy}
 use Rattle.std.proofs.lemmas.Cmp.{tied_itself}
-use Rattle.std.proofs.lemmas.List.{drop_more}
+use Rattle.std.proofs.lemmas.List.{drop_more, length-map, get_or-map}
 use Rattle.hm_tree.specs.Names.{Name, name_cmp}
+use Rattle.hm_tree.specs.Nodes.{Tree}
+use Rattle.hm_tree.specs.Cleaned.{cleaned}
+use Rattle.hm_tree.specs.Sets.{ascending}
 use Rattle.hm_tree.proofs.Sorted.{name_total, name_one}
-use Rattle.hm_columns.specs.Fields.{same_names}
+use Rattle.hm_tree.proofs.Ascending.{ascending_is}
+use Rattle.hm_pieces.specs.Texts.{is_text}
+use Rattle.hm_cards.specs.Cards.{no_texts}
+use Rattle.hm_columns.specs.Fields.{texts_shown, same_names}
 
 off : (b : Bool) → (b && false) ≡ false
 off true = refl
@@ -60,3 +68,43 @@ equal (n ∷ ns) (k ∷ ks) e = go (eq_by_cmp name_cmp n k) refl e (equal ns ks)
 pub itself : (ns : List Name) → same_names ns ns ≡ true
 itself [] = refl
 itself (n ∷ ns) = (λ i. (Equal-is (name_cmp n n)).1 (tied_itself name_total n) i && itself ns i)
+
+-- ---- names and the edges of a tree
+
+abbrev pub names_in : List (Name × Tree) → List Name
+names_in es = map (λ e. e.0) es
+
+pub differ_edges : (ns : List Name) (es : List (Name × Tree)) → length ns ≢ length es → same_names ns (names_in es) ≡ false
+differ_edges ns es apart = differ ns (names_in es) (λ e. apart (e ∙ length-map es (λ e. e.0)))
+
+module _ (ns : List Name) (es : List (Name × Tree)) (place : ℕ) (n : Name) (e : Name × Tree) (long : length ns ≡ length es) (lt : place < length ns)
+    (here : n ≡ get_or ns place n) (so_far : same_names (drop place ns) (drop place (names_in es)) ≡ same_names ns (names_in es)) where
+  abbrev there : Name
+  there = (get_or es place e).0
+
+  there_is : there ≡ get_or (names_in es) place there
+  there_is = sym (get_or-map (λ (d : Name × Tree). d.0) es place e there (omega (arith, lt, long)))
+
+  as_long : length ns ≡ length (names_in es)
+  as_long = long ∙ sym (length-map es (λ e. e.0))
+
+  pub edge_apart : ¬ (n ≡ (get_or es place e).0) → false ≡ same_names ns (names_in es)
+  edge_apart apart = apart_here ns (names_in es) place n there as_long lt here there_is so_far apart
+
+  pub edge_same : n ≡ (get_or es place e).0 → same_names (drop (place + 1) ns) (drop (place + 1) (names_in es)) ≡ same_names ns (names_in es)
+  edge_same same = same_here ns (names_in es) place n there as_long lt here there_is so_far same
+
+-- no edges, where a name isn't there
+pub no_names : ascending no_texts ≡ []
+unfolding IsStrictlySortedBy
+no_names = ascending_is [] no_texts tt refl
+
+-- ---- the texts of a field of one text at the most
+
+pub one_shown : (field : List ℕ) → cond (is_text (cleaned field)) (cleaned field ∷ []) [] ≡ ascending (texts_shown false field)
+unfolding IsStrictlySortedBy
+one_shown field = go (is_text (cleaned field))
+  where
+    go : (b : Bool) → cond b (cleaned field ∷ []) [] ≡ ascending (from_list {R = name_cmp} (map cleaned (cond b (field ∷ []) [])))
+    go true = sym (ascending_is (cleaned field ∷ []) _ (tt, tt) refl)
+    go false = sym (ascending_is [] _ tt refl)

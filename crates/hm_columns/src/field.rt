@@ -1,5 +1,5 @@
 //! Single fields.
-ghost use Rattle.std.specs.Prelude.{◌≡◌, false, length, IsUtf8, IfOk};
+ghost use Rattle.std.specs.Prelude.{◌≡◌, false, IsUtf8, IfOk};
 ghost use Rattle.hm_tree.specs.Sets.{ascending};
 ghost use Rattle.hm_columns.specs.Fields as spec;
 
@@ -32,35 +32,6 @@ fn one_text(alloc: Global, field: &[u8]) -> Result<NameSet, Memory>
         texts.push(text)?;
     }
     NameSet::from_list(texts)
-}
-
-/// Whether two sets have the same names.
-pub fn same_texts(one: &NameSet, other: &NameSet) -> bool
-    ensures { result ≡ spec.same_texts one.now other.now }
-{
-    same_names(one.names(), other.names())
-}
-
-fn same_names(one: &[Name], other: &[Name]) -> bool
-    ensures { result ≡ spec.same_names one.now other.now }
-{
-    if one.len() != other.len() {
-        return false;
-    }
-    same_each(one, other)
-}
-
-// The same of lists of one length.
-fn same_each(one: &[Name], other: &[Name]) -> bool
-    requires { length one.now ≡ length other.now }
-    ensures { result ≡ spec.same_names one.now other.now }
-{
-    for place in 0..one.len() {
-        if !one[place].same(&other[place]) {
-            return false;
-        }
-    }
-    true
 }
 
 /// The field that is made anew to show a set of texts.

@@ -11,6 +11,7 @@ mod card;
 mod column;
 mod field;
 mod rewriting;
+mod staying;
 
 pub use card::card_of;
 pub use column::Column;

@@ -1,14 +1,16 @@
 //! Records that are to show other cards.
-ghost use Rattle.std.specs.Prelude.{◌≡◌, ◌<◌, ◌++◌, ◌∷◌, [], None, Option, IsUtf8, All, IfOk, OnOk, cond, option_and_then, length, get_or, slice_get};
+ghost use Rattle.std.specs.Prelude.{◌≡◌, ◌<◌, ◌++◌, ◌∷◌, [], None, Option, IsUtf8, All, IfOk, OnOk, cond, option_and_then, length, get_or, slice_get, map};
 ghost use Rattle.csv.specs.Records.{fields_of, partial_of};
 ghost use Rattle.std.specs.Bool.{◌==◌};
 ghost use Rattle.std.specs.Option.{option_map};
+ghost use Rattle.hm_tree.specs.Sets.{ascending};
 ghost use Rattle.hm_cards.specs.Cards as cards;
 ghost use Rattle.hm_columns.specs.Fields as fields;
 ghost use Rattle.hm_columns.specs.Records as spec;
 
 use crate::column::Column;
-use crate::field::{made, same_texts, texts_shown};
+use crate::field::made;
+use crate::staying::shows_names;
 use csv::ByteRecord;
 use hm_cards::texts_at;
 use hm_records::field;
@@ -87,13 +89,24 @@ fn push_made(
     ensures pushed { OnOk result (fields_of new.new ≡ fields_of new.old ++ fields.field_for column.now.many field.now (cards.texts_at column.now.name card.now) ∷ []) }
     ensures whole { OnOk result (partial_of new.new ≡ []) }
 {
-    let texts = texts_at(card, &column.name)?;
-    if same_texts(&texts_shown(alloc, column.many, field)?, &texts) {
+    let edges = edges_at(card, &column.name);
+    if shows_names(alloc, column.many, field, edges)? {
         new.push_field(field)?;
     } else {
+        let texts = texts_at(card, &column.name)?;
         new.push_field(&made(alloc, column.many, field, &texts)?)?;
     }
     Ok(())
+}
+
+// The edges right below a name, which are its texts; none where the name isn't there.
+fn edges_at<'a>(card: &'a Tree, name: &Name) -> &'a [(Name, Tree)]
+    ensures { ascending (cards.texts_at name.now card.now) ≡ map (λ e. e.0) result.now }
+{
+    match card.child(name) {
+        Some(texts) => texts.edges(),
+        None => &[],
+    }
 }
 
 /// A record of so many fields that are empty but for the key at its place.

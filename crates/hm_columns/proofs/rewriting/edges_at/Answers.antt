@@ -1,0 +1,15 @@
+use Rattle.std.proofs.Common.{◌∙◌, sym, ap}
+use Rattle.std.specs.Option.{option_copied}
+use Rattle.hm_tree.specs.Sets.{ascending}
+use Rattle.hm_schema.proofs.NamesOf.{ascending-names_of}
+use Rattle.hm_cards.specs.Cards.{texts_in}
+use Rattle.hm_columns.proofs.SameNames.{names_in, no_names}
+use Rattle.hm_columns.proofs.rewriting.edges_at.Goals as goal
+
+pub returns-in-Some : goal.returns-in-Some
+returns-in-Some c =
+    ap (λ o. ascending (texts_in o)) (sym c.child.ensures ∙ ap option_copied c.in-Some.is) ∙ ascending-names_of c.in-Some.texts.now
+    ∙ ap names_in (sym c.edges.ensures)
+
+pub returns-in-None : goal.returns-in-None
+returns-in-None c = ap (λ o. ascending (texts_in o)) (sym c.child.ensures ∙ ap option_copied c.in-None.is) ∙ no_names
