@@ -13,5 +13,5 @@ mod show;
 mod stages;
 mod texts;
 
-pub use putting::put;
+pub use putting::{put, put_owned};
 pub use show::get;

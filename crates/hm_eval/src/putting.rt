@@ -26,19 +26,26 @@ pub fn put(
     requires { IsPut (setting_of (map (λ b. meaning b) texts.now) (program_value program.now)) (program_value program.now).main shown.now (option_copied before) }
     ensures { IfOk result (Puts (setting_of (map (λ b. meaning b) texts.now) (program_value program.now)) (program_value program.now).main shown.now (option_copied before.entry)) }
 {
+    put_owned(program, texts, shown.copy()?, copied(before)?)
+}
+
+/// The same of a view and a tree that are handed over.
+pub fn put_owned(
+    program: &Program,
+    texts: &[Box<dyn TextLens>],
+    shown: Tree,
+    before: Option<Tree>,
+) -> Result<Tree, Memory>
+    requires { IsPut (setting_of (map (λ b. meaning b) texts.now) (program_value program.now)) (program_value program.now).main shown before }
+    ensures { IfOk result (Puts (setting_of (map (λ b. meaning b) texts.now) (program_value program.now)) (program_value program.now).main shown before) }
+{
     let bodies = bodies_of(shown.allocator(), &program.definitions)?;
     let run = Run {
         definitions: &program.definitions,
         bodies: &bodies,
         texts,
     };
-    put_by(
-        u64::MAX,
-        &run,
-        &program.main,
-        shown.copy()?,
-        copied(before)?,
-    )
+    put_by(u64::MAX, &run, &program.main, shown, before)
 }
 
 // What a lens puts, by so many levels of recursion at most. Each kind of lens has its steps here, since functions that call
