@@ -40,7 +40,7 @@ impl Replica {
         })
     }
 
-    /// The bytes of a view, behind those of the replica, which are lent on where the view is that of the replica.
+    /// The bytes of a view, behind those of the replica, which are handed on where the view is that of the replica.
     /// `TooDeep` where the tree that the program puts is over the limit of the format.
     pub fn close(
         self,
@@ -48,18 +48,24 @@ impl Replica {
         format: &Box<dyn Format>,
         typed: &Typed,
         texts: &[Box<dyn TextLens>],
-        shown: &Tree,
+        shown: Tree,
     ) -> Result<Vec<u8>, FormatFault>
         requires typed { IsTyped (means format.now) (map (λ b. meaning b) texts.now) (typed_value typed.now) }
         requires replica { IsReplica (means format.now) (map (λ b. meaning b) texts.now) (typed_value typed.now) (replica_value self) }
-        requires member { Trees typed.now.view shown.now }
-        ensures { Closes (means format.now) (map (λ b. meaning b) texts.now) (typed_value typed.now) (replica_value self) shown.now result }
+        requires member { Trees typed.now.view shown }
+        ensures { Closes (means format.now) (map (λ b. meaning b) texts.now) (typed_value typed.now) (replica_value self) shown result }
     {
         laws(format);
-        if shown.same(&self.view) {
-            return Ok(self.bytes);
+        let Replica {
+            bytes,
+            concrete,
+            view,
+        } = self;
+        if shown.same(&view) {
+            return Ok(bytes);
         }
-        let tree = hm_eval::put(&typed.program, texts, shown, Some(&self.concrete))?;
-        write(format, alloc, &typed.program.options, &tree, &self.bytes)
+        drop(view);
+        let tree = hm_eval::put_owned(&typed.program, texts, shown, Some(concrete))?;
+        write(format, alloc, &typed.program.options, &tree, &bytes)
     }
 }

@@ -10,6 +10,7 @@ use Rattle.hm_format.specs.declared.fault.FormatFault.TheVariants as format
 use Rattle.hm_format.specs.Formats.{FormatMeaning, IsLawful}
 use Rattle.hm_replica.specs.declared.replica.Replica.{Replica}
 use Rattle.hm_replica.specs.Replicas.{ReplicaValue, TypedValue, replica_value, options_in, main_in, setting_in, IsTyped, IsReplica, IsPut, Closes}
+use Rattle.hm_replica.proofs.Laws.{stays}
 use Rattle.hm_files.specs.declared.slot.Slot.{Slot}
 use Rattle.hm_files.specs.declared.stop.FileFault.TheVariants.{Unwritable}
 use Rattle.hm_files.specs.declared.stop.Refusal.TheVariants.{At}
@@ -121,3 +122,12 @@ module _ {B : Type 0} (means_of : B → FormatMeaning) (formats : List B) (texts
       → (at : Slot) → FindsOne (ClosesOn means_of formats texts side replica shown at)
   closes_once replica on shown there at r q h k =
       closed_once (means_of s.format) texts side.typed at s.lawful s.typed replica (here on) shown there r q (here h) (here k)
+
+  -- where the view is that of the replica, its own bytes are those that are written
+  pub stays_on : (replica : ReplicaValue) → IsReplicaOn means_of formats texts side replica → Trees side.typed.view replica.view → (at : Slot)
+      → ClosesOn means_of formats texts side replica replica.view at (Ok replica.bytes)
+  stays_on replica on there at = record {
+    box = s.format;
+    is = s.is;
+    holds = stays (means_of s.format) texts side.typed s.lawful s.typed replica (here on) replica.view there refl;
+  }

@@ -62,12 +62,12 @@ pub fn close_replica(
     texts: &[Box<dyn TextLens>],
     side: &Side,
     replica: Replica,
-    view: &Tree,
+    view: Tree,
 ) -> Result<Vec<u8>, Stop>
     requires side { IsSide (λ b. means b) formats.now (map (λ b. meaning b) texts.now) (side_value side.now) }
     requires replica { IsReplicaOn (λ b. means b) formats.now (map (λ b. meaning b) texts.now) (side_value side.now) (replica_value replica) }
-    requires member { Trees side.now.typed.view view.now }
-    ensures { Computes (ClosesOn (λ b. means b) formats.now (map (λ b. meaning b) texts.now) (side_value side.now) (replica_value replica) view.now slot) (seen bytes_of result) }
+    requires member { Trees side.now.typed.view view }
+    ensures { Computes (ClosesOn (λ b. means b) formats.now (map (λ b. meaning b) texts.now) (side_value side.now) (replica_value replica) view slot) (seen bytes_of result) }
 {
     close_by(
         alloc,
@@ -88,12 +88,12 @@ fn close_by(
     texts: &[Box<dyn TextLens>],
     typed: &Typed,
     replica: Replica,
-    view: &Tree,
+    view: Tree,
 ) -> Result<Vec<u8>, Stop>
     requires typed { IsTyped (means format.now) (map (λ b. meaning b) texts.now) (typed_value typed.now) }
     requires replica { IsReplica (means format.now) (map (λ b. meaning b) texts.now) (typed_value typed.now) (replica_value replica) }
-    requires member { Trees typed.now.view view.now }
-    ensures { Computes (ClosesReplica (means format.now) (map (λ b. meaning b) texts.now) (typed_value typed.now) (replica_value replica) view.now slot) (seen bytes_of result) }
+    requires member { Trees typed.now.view view }
+    ensures { Computes (ClosesReplica (means format.now) (map (λ b. meaning b) texts.now) (typed_value typed.now) (replica_value replica) view slot) (seen bytes_of result) }
 {
     match replica.close(alloc, format, typed, texts, view) {
         Ok(bytes) => Ok(bytes),

@@ -202,7 +202,7 @@ fn closed(
         side,
         bytes_of(alloc, files.1)?,
     )?;
-    close_replica(alloc, Slot::A, formats, texts, side, old, &other.view)
+    close_replica(alloc, Slot::A, formats, texts, side, old, other.view)
 }
 
 fn bytes_of(alloc: Global, text: &str) -> Result<Vec<u8>, Memory> {

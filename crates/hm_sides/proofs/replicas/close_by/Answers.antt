@@ -7,4 +7,4 @@ pub returns-in-Err : goal.returns-in-Err
 returns-in-Err g c = rw c.write_stop.ensures
     (closes_told ((goal.Format-dyn g (c.args.format.now.vtable, c.args.format.now.value)).means c.args.format.now.value)
     (map (λ b. (goal.TextLens-dyn g (b.vtable, b.value)).meaning b.value) c.args.texts.now) (typed_value c.args.typed.now) c.args.slot
-    (replica_value c.args.replica) c.args.view.now c.in-Err.fault c.in-Err.ensures)
+    (replica_value c.args.replica) c.args.view c.in-Err.fault c.in-Err.ensures)

@@ -11,4 +11,4 @@ returns g c =
     closes_on (λ b. (goal.Format-dyn g (b.vtable, b.value)).means b.value) c.args.formats.now
     (map (λ b. (goal.TextLens-dyn g (b.vtable, b.value)).meaning b.value) c.args.texts.now) (side_value c.args.side.now)
     c.index-formats-side.result (slice_get_within c.args.formats.now c.args.side.now.place c.requires.side.format c.requires.side.is) c.index-formats-side.is
-    (replica_value c.args.replica) c.args.view.now c.args.slot (seen bytes_of c.close_by.result) c.close_by.ensures
+    (replica_value c.args.replica) c.args.view c.args.slot (seen bytes_of c.close_by.result) c.close_by.ensures
