@@ -115,8 +115,8 @@ fails() {
     further
 }
 
-# meanwhile SLOT WORD: another program has changed this file since it was loaded, so it stays as that program left it. The
-# run waits before it closes the last file, which was read.
+# meanwhile SLOT WORD: another program has changed this file since it was loaded, so it stays as that program left it.
+# The run waits before it closes the last file, which was read.
 meanwhile() {
     begin "$1 is $2 meanwhile"
     read -r name number _ < <(printf '%s\n' "${calls[@]}" | grep '^close .* read B$')
@@ -129,7 +129,8 @@ meanwhile() {
     stopped_at "$1"
     under=(strace -o ../trace -e "inject=$name:delay_enter=2000000:when=$number")
     {
-        until awk '/"B"/ { opened = 1 } opened && /^read.* = 0$/ { found = 1 } END { exit !found }' ../trace 2>/dev/null; do
+        for ((i = 0; i < 200; i++)); do
+            awk '/"B"/ { opened = 1 } opened && /^read.* = 0$/ { found = 1 } END { exit !found }' ../trace 2>/dev/null && break
             sleep 0.05
         done
         case $2 in

@@ -5,14 +5,19 @@
 readonly OLD='{"old"}' NEW='{"new"}' OTHER='{"other"}' BOTH='{"new","other"}'
 # Three files of which A has changed what B has deleted, and the archive that comes of them.
 readonly KEPT='{"old":{"new"}}' GONE='{}' AT_OLD='{"old":!}'
-# A schema that every tree is a member of.
-readonly EVERY=$'harmony schema 1\nroot R\nnode R\n  other any R\n  shape + 0..'
+# A schema that every tree is a member of, and the lens file by which a file of any tree is read as it is.
+readonly EVERY_NODE=$'node R\n  other any R\n  shape + 0..'
+readonly EVERY=$'harmony schema 1\nroot R\n'$EVERY_NODE
+readonly EVERY_LENS=$'harmony lens 1\nformat tree root=R\n'$EVERY_NODE$'\nmain = id'
 # The greatest size of a file, the greatest depth of a tree, the most nodes of a schema and the most shapes of a node.
 readonly LARGEST=16777216 DEEPEST=1000 MOST_NODES=1000 MOST_SHAPES=256
 
 passed=0 failed=0 skipped=0
 
-# The names of the four files, and the words of a command that the program is to run under.
+# The slots, in the order in which their files are loaded, and those of them that no run writes.
+readonly SLOTS=(schema lensA lensB archive A B) READ_ONLY=(schema lensA lensB)
+
+# The names of the six files, and the words of a command that the program is to run under.
 declare -A path
 under=()
 
@@ -30,7 +35,7 @@ begin() {
     title=$1
     faults=()
     under=()
-    path=([schema]=schema [archive]=archive [A]=A [B]=B)
+    path=([schema]=schema [lensA]=lensA [lensB]=lensB [archive]=archive [A]=A [B]=B)
     cd "$scratch" || exit
     rm -rf case
     mkdir -p case/now case/want
@@ -78,10 +83,10 @@ text_of_depth() {
     printf '\n'
 }
 
-# The schema of every tree, and behind it a comment, in so many bytes.
-schema_of_size() {
-    printf '%s\n#' "$EVERY"
-    head -c $(($1 - ${#EVERY} - 3)) /dev/zero | tr '\0' a
+# A text, and behind it a comment, in so many bytes.
+commented() {
+    printf '%s\n#' "$2"
+    head -c $(($1 - ${#2} - 3)) /dev/zero | tr '\0' a
     printf '\n'
 }
 
@@ -111,7 +116,8 @@ make() {
     deepest-y) text_of_depth $DEEPEST '{"a","y"}' >"$1" ;;
     deepest-x-y) text_of_depth $DEEPEST '{"a","x","y"}' >"$1" ;;
     too-deep) text_of_depth $((DEEPEST + 1)) >"$1" ;;
-    largest-schema) schema_of_size $LARGEST >"$1" ;;
+    largest-schema) commented $LARGEST "$EVERY" >"$1" ;;
+    largest-lens) commented $LARGEST "$EVERY_LENS" >"$1" ;;
     most-nodes) schema_of_nodes $MOST_NODES >"$1" ;;
     too-many-nodes) schema_of_nodes $((MOST_NODES + 1)) >"$1" ;;
     most-shapes) schema_of_shapes $MOST_SHAPES >"$1" ;;
@@ -121,9 +127,11 @@ make() {
     esac
 }
 
-# Makes archive, A and B in a folder, and the schema that every tree is a member of.
+# Makes archive, A and B in a folder, and the schema that every tree is a member of, with lens files that show it all.
 slots() {
     make "$1/${path[schema]}" "$EVERY"
+    make "$1/${path[lensA]}" "$EVERY_LENS"
+    make "$1/${path[lensB]}" "$EVERY_LENS"
     make "$1/${path[archive]}" "$2"
     make "$1/${path[A]}" "$3"
     make "$1/${path[B]}" "$4"
@@ -162,11 +170,33 @@ stopped_at() {
     esac
 }
 
-# Makes the schema be what $1 says, before and afterwards.
+# with SLOT TEXT: the file of this slot is what the text says, before and afterwards
+with() {
+    rm "$1" "../want/$1"
+    make "$1" "$2"
+    make "../want/$1" "$2"
+}
+
+# with_bytes SLOT TEXT: the same of a text with its escapes, as printf knows them
+with_bytes() {
+    printf %b "$2" >"$1"
+    cp "$1" ../want
+}
+
+# Makes both lens files be those by which a file is read as it is, where that is a tree of the schema.
+read_as_schema() {
+    awk '
+        /^harmony/ { $0 = "harmony lens 1" }
+        sub(/^root +/, "format tree root=") { sub(/\r$/, "") }
+        !/^#/
+        END { print "main = id" }
+    ' schema | tee lensA lensB ../want/lensA >../want/lensB
+}
+
+# Makes the schema be what $1 says, before and afterwards, with lens files.
 with_schema() {
-    rm schema ../want/schema
-    make schema "$1"
-    make ../want/schema "$1"
+    with schema "$1"
+    [[ ! -f schema ]] || read_as_schema
 }
 
 # Runs the program. A run that a signal ends has a status above 128, and one that doesn't end has 124.
@@ -176,7 +206,7 @@ run() {
 }
 
 sync() {
-    run sync "${path[schema]}" "${path[archive]}" "${path[A]}" "${path[B]}" >../out
+    run sync "${path[schema]}" "${path[lensA]}" "${path[lensB]}" "${path[archive]}" "${path[A]}" "${path[B]}" >../out
 }
 
 # Compares status, output, standard error and every file of the folder, so also that no other file is left in it, and

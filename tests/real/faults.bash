@@ -89,7 +89,7 @@ with_fault() {
 # not_read FAULT
 not_read() {
     local slot
-    for slot in schema archive A B; do
+    for slot in "${SLOTS[@]}"; do
         with_fault "$1" $slot 4 "harmony: ReadFault $slot" A
     done
 }
@@ -97,15 +97,17 @@ not_read() {
 # missing FAULT: an archive may be missing
 missing() {
     local slot
-    for slot in schema A B; do
+    for slot in "${READ_ONLY[@]}" A B; do
         with_fault "$1" $slot 3 "harmony: Missing $slot" A
     done
 }
 
-# not_written FAULT: no run writes the schema
+# not_written FAULT: no run writes the schema or a lens file
 not_written() {
     local slot
-    with_fault "$1" schema 0 agreed none
+    for slot in "${READ_ONLY[@]}"; do
+        with_fault "$1" $slot 0 agreed none
+    done
     for slot in A B archive; do
         with_fault "$1" $slot 4 "harmony: WriteFault $slot" $slot
     done
@@ -169,7 +171,7 @@ unheard() {
     begin "$1, status $2: ${*:3:3}"
     files "${@:3:6}"
     : >../out
-    $1 sync schema archive A B
+    $1 sync "${SLOTS[@]}"
     ends "$2" ''
     sync
     ends "$9" "${10}"
@@ -197,7 +199,7 @@ if can_heed; then
     not_read 'no permission to enter the folder'
     not_written 'no permission to write into the folder'
     not_written 'a link into a folder that may not be written to'
-    for slot in archive A B; do
+    for slot in "${SLOTS[@]}"; do
         with_fault 'no permission to read the folder' $slot 0 agreed none
     done
 else

@@ -2,21 +2,20 @@
 # What becomes of modes and of symbolic links, of what stands where a new file is made, of files with two names, and of
 # those that need not change.
 
-# modes_stay SCHEMA ARCHIVE A B: each file keeps its own, whatever mode the caller's new files have
+# modes_stay SCHEMA LENS_A LENS_B ARCHIVE A B: each file keeps its own, whatever mode the caller's new files have
 modes_stay() {
     begin "modes $* stay"
     both_change
-    chmod "$1" schema
-    chmod "$2" archive
-    chmod "$3" A
-    chmod "$4" B
+    local modes=("$@") place
+    for place in {0..5}; do
+        chmod "${modes[place]}" "${SLOTS[place]}"
+    done
     umask 077
     sync
     umask 022
-    has_mode schema "$1"
-    has_mode archive "$2"
-    has_mode A "$3"
-    has_mode B "$4"
+    for place in {0..5}; do
+        has_mode "${SLOTS[place]}" "${modes[place]}"
+    done
     ends 0 agreed
     finish
 }
@@ -50,13 +49,16 @@ linked() {
     finish
 }
 
-# The schema is read through a symbolic link, which stays.
-linked_schema() {
-    begin 'a symbolic link as schema'
+# The files that a run only reads are read through symbolic links, which stay.
+linked_to_read() {
+    begin 'symbolic links as schema and lens files'
     both_change
     for folder in . ../want; do
-        mv $folder/schema $folder/target
-        ln -s target $folder/schema
+        mkdir $folder/shared
+        for slot in "${READ_ONLY[@]}"; do
+            mv $folder/$slot $folder/shared
+            ln -s shared/$slot $folder/$slot
+        done
     done
     sync
     ends 0 agreed
@@ -90,12 +92,14 @@ device_as_archive() {
 }
 
 # What a run that was broken off left behind is in nobody's way, lends its mode to no file, and is gone afterwards.
-# No run writes the schema, so what has a name like this beside it is somebody else's.
+# No run writes the schema or a lens file, so what has a name like this beside them is somebody else's.
 left_behind() {
     begin 'files left behind'
     both_change
-    make schema.harmony-new "$OTHER"
-    make ../want/schema.harmony-new "$OTHER"
+    for slot in "${READ_ONLY[@]}"; do
+        make $slot.harmony-new "$OTHER"
+        make ../want/$slot.harmony-new "$OTHER"
+    done
     chmod 600 archive A B
     for slot in archive A B; do
         make $slot.harmony-new '{"a longer text of a run that was broken off"}'
@@ -133,7 +137,7 @@ one_file() {
     else
         $3 -f "$1" "$2"
     fi
-    cp -P archive A B ../want 2>/dev/null
+    cp -P lensA lensB archive A B ../want 2>/dev/null
     sync
     ends 4 "harmony: ReadFault $2"
     finish
@@ -167,15 +171,27 @@ untouched() {
     finish
 }
 
+# The files that a run only reads are left alone whatever happens.
+only_read() {
+    begin 'schema and lens files are left alone'
+    both_change
+    local old
+    old=$(state_of "${READ_ONLY[@]}")
+    sync
+    [[ $(state_of "${READ_ONLY[@]}") == "$old" ]] || fault 'a file was touched'
+    ends 0 agreed
+    finish
+}
+
 # Files that are as they are to be are read, and that is all.
 nothing_done() {
     begin 'files of the greatest size that need not change'
     files largest largest largest largest largest largest
     local old
-    old=$(state_of archive A B)
+    old=$(state_of "${SLOTS[@]}")
     under=(strace -f -o ../trace)
     sync
-    [[ $(state_of archive A B) == "$old" ]] || fault 'a file was touched'
+    [[ $(state_of "${SLOTS[@]}") == "$old" ]] || fault 'a file was touched'
     ! grep -E '^[0-9 ]*(rename|unlink|fsync|fdatasync|f?chmod|ftruncate|write[a-z0-9]*\([^1]|open.*O_(WRONLY|RDWR|CREAT))' ../trace >../calls ||
         fault "$(head -c 200 ../calls)"
     ends 0 agreed
@@ -198,11 +214,11 @@ two_disks() {
     finish
 }
 
-modes_stay 600 600 600 600
-modes_stay 444 640 644 666
-modes_stay 640 755 400 777
+modes_stay 600 600 600 600 600 600
+modes_stay 444 400 440 640 644 666
+modes_stay 640 755 777 755 400 777
 new_archive_mode
-linked_schema
+linked_to_read
 linked archive
 linked A
 linked B
@@ -214,12 +230,17 @@ one_file A B path
 one_file A B ln
 one_file A B 'ln -s'
 one_file archive A ln
+one_file lensA lensB path
+one_file lensB archive ln
 beside A B
 beside B A
 beside A archive
+beside B lensA
+beside archive schema
 untouched 'all three' "$NEW" "$NEW" "$NEW" archive A B
 untouched 'A has changed' "$OLD" "$NEW" "$OLD" A
 untouched 'B and the archive are new already' "$NEW" "$NEW" "$NEW" B archive
+only_read
 if can_trace; then
     nothing_done
 else

@@ -19,7 +19,7 @@ launcher() {
     begin 'the launcher'
     change
     ln -s "$top/harmony" ../link
-    ../link sync schema archive A B >../out 2>../err
+    ../link sync "${SLOTS[@]}" >../out 2>../err
     status=$?
     ends 0 agreed
     finish

@@ -64,7 +64,7 @@ many_conflicts() {
 largest_new_files() {
     begin 'the largest new files'
     slots . absent '8388609:{"..."}' '8388609:{"b..."}'
-    make ../want/schema "$EVERY"
+    cp schema lensA lensB ../want
     { head -c 8388607 A; printf ,; tail -c +2 B; } >../want/A
     cp ../want/A ../want/B
     cp ../want/A ../want/archive
@@ -78,13 +78,15 @@ refuse() {
     check "$1" "$2" "$3" "$4" "$5" "$6" "$2" "$3" "$4"
 }
 
-# first_of_four SCHEMA ARCHIVE A B, STATUS LINE: several files are at fault, and one is told; each file stays
-first_of_four() {
-    begin "the first of four: ${*:5}"
-    files "$2" "$3" "$4" "$2" "$3" "$4"
-    with_schema "$1"
+# first_of_six SCHEMA LENS_A LENS_B ARCHIVE A B, STATUS LINE: several files are at fault, and one is told; each stays
+first_of_six() {
+    begin "the first of six: ${*:7}"
+    files "$4" "$5" "$6" "$4" "$5" "$6"
+    with schema "$1"
+    with lensA "$2"
+    with lensB "$3"
     sync
-    ends "$5" "$6"
+    ends "$7" "$8"
     finish
 }
 
@@ -116,6 +118,9 @@ check 'A has become the empty tree' "$OLD" '{}' "$OLD" 0 agreed '{}' '{}' '{}'
 check 'both have changed, each its own' "$OLD" "$NEW" "$OTHER" 0 agreed "$BOTH" "$BOTH" "$BOTH"
 check 'A has changed what B has deleted' "$OLD" "$KEPT" "$GONE" 1 \
     $'conflict /"old" lost /"old"/"new"\nconflicts 1' "$AT_OLD" "$KEPT" "$GONE"
+check 'A has deleted what B has changed' '{"Bob":{"tel":{"1"}}}' '{}' '{"Bob":{"mail":{"b"},"tel":{"1"}}}' 1 \
+    $'conflict /"Bob" lost /"Bob"/"mail"\nconflicts 1' '{"Bob":!}' '{}' '{"Bob":{"mail":{"b"},"tel":{"1"}}}'
+check 'A has deleted what B has lessened' '{"Bob":{"tel":{"1"}}}' '{}' '{"Bob"}' 0 agreed '{}' '{}' '{}'
 check 'two conflicts' '{"a","b"}' '{"a":{"1"}}' '{"b":{"2"}}' 1 \
     $'conflict /"a" lost /"a"/"1"\nconflict /"b" lost /"b"/"2"\nconflicts 2' \
     '{"a":!,"b":!}' '{"a":{"1"}}' '{"b":{"2"}}'
@@ -129,6 +134,8 @@ check_under "$EITHER" "names that can't stand together" '{}' '{"y"}' '{"z"}' 1 \
     $'conflict / names {"y","z"} {"y","z"}\nconflicts 1' '!' '{"y"}' '{"z"}'
 check_under "$PAIRS" 'two of three names' '{}' '{"x"}' '{"y","z"}' 1 \
     $'conflict / names {"x","y","z"} {"x","y","z"}\nconflicts 1' '!' '{"x"}' '{"y","z"}'
+check_under "$PAIRS" 'three of three names' '{}' '{"x","y","z"}' '{"y","z"}' 3 'harmony: BadReplica A Outside /' \
+    '{}' '{"x","y","z"}' '{"y","z"}'
 check_under "$ONE" 'one name, which both have changed' '{"A"}' '{"B"}' '{"C"}' 1 \
     $'conflict / names {"B","C"} {"B","C"}\nconflicts 1' '!' '{"B"}' '{"C"}'
 check_under "$ONE" 'one name, and nothing has changed since' '!' '{"B"}' '{"C"}' 1 $'conflict / earlier\nconflicts 1' \
@@ -169,22 +176,29 @@ refuse 'archive too deep' too-deep "$OLD" "$OLD" 3 'harmony: BadArchive deep'
 refuse 'A too deep' "$OLD" too-deep "$OLD" 3 'harmony: BadReplica A TooDeep 1001'
 refuse 'B too deep' "$OLD" "$OLD" too-deep 3 'harmony: BadReplica B TooDeep 1001'
 
-# All four are read and measured, in their order, before the first is judged as a text.
+# All six are read and measured, in their order, before the first is judged as a text.
 refuse 'no A, and a folder as B' "$OLD" absent folder 3 'harmony: Missing A'
 refuse 'a folder as A, and no B' "$OLD" folder absent 4 'harmony: ReadFault A'
 refuse 'bad archive, and no B' '{"b","a"}' "$OLD" absent 3 'harmony: Missing B'
 refuse 'bad archive, and A too large' '{"b","a"}' too-large "$OLD" 3 'harmony: TooLarge A'
 refuse 'bad archive, and bad A' '{"b","a"}' '{"b","a"}' "$OLD" 3 'harmony: BadArchive at 6'
-first_of_four absent folder absent absent 3 'harmony: Missing schema'
-first_of_four folder absent absent absent 4 'harmony: ReadFault schema'
-first_of_four "$OLD" too-large "$OLD" "$OLD" 3 'harmony: TooLarge archive'
-first_of_four "$OLD" "$OLD" "$OLD" absent 3 'harmony: Missing B'
-first_of_four "$OLD" '{"b","a"}' '{"b","a"}' "$OLD" 3 'harmony: BadSchema 1'
-first_of_four "$BOOK" '{"b","a"}' "$OLD" "$OLD" 3 'harmony: BadArchive at 6'
-first_of_four "$BOOK" "$OLD" "$OLD" '{"b","a"}' 3 'harmony: BadReplica A Outside /"old"'
+first_of_six absent folder absent folder absent absent 3 'harmony: Missing schema'
+first_of_six folder absent absent absent absent absent 4 'harmony: ReadFault schema'
+first_of_six "$OLD" absent folder too-large absent absent 3 'harmony: Missing lensA'
+first_of_six "$OLD" too-large absent too-large absent absent 3 'harmony: TooLarge lensA'
+first_of_six "$OLD" "$OLD" folder folder absent absent 4 'harmony: ReadFault lensB'
+first_of_six "$OLD" "$OLD" "$OLD" too-large absent folder 3 'harmony: TooLarge archive'
+first_of_six "$OLD" "$OLD" "$OLD" '{"b","a"}' "$OLD" absent 3 'harmony: Missing B'
+first_of_six "$OLD" "$OLD" "$OLD" '{"b","a"}' '{"b","a"}' "$OLD" 3 'harmony: BadSchema 1'
+first_of_six "$EVERY" "$OLD" "$OLD" '{"b","a"}' '{"b","a"}' "$OLD" 3 'harmony: BadLens lensA 1'
+first_of_six "$EVERY" "$EVERY_LENS" "$OLD" '{"b","a"}' '{"b","a"}' "$OLD" 3 'harmony: BadLens lensB 1'
+first_of_six "$BOOK" "$EVERY_LENS" "$OLD" '{"b","a"}' '{"b","a"}' "$OLD" 3 'harmony: WrongView lensA'
+first_of_six "$EVERY" "$EVERY_LENS" "$EVERY_LENS" '{"b","a"}' '{"b","a"}' "$OLD" 3 'harmony: BadArchive at 6'
 
 member '{}'
 member '{"Ann":{"mail":{"ann@example.org"},"phone":{"+44 20"}},"Bob":{"mail":{"b"}}}'
+# A is judged whole before B.
+outside '{"Ann":{"phone":{"+44 20"}}}' '{"b","a"}' A '/"Ann"'
 outside '{}' '{"Ann":{"phone":{"+44 20"}}}' B '/"Ann"'
 outside '{"Ann":{"mail":{"a"},"web":{"w"}}}' '{}' A '/"Ann"'
 outside '{"Ann":{"mail":{"a","b"}}}' '{}' A '/"Ann"/"mail"'

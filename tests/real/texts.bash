@@ -5,8 +5,7 @@
 no_tree() {
     begin "no tree: $1"
     no_change
-    printf %b "$1" >A
-    cp A ../want/A
+    with_bytes A "$1"
     sync
     ends 3 "harmony: BadReplica A $2"
     finish
@@ -16,8 +15,7 @@ no_tree() {
 no_archive() {
     begin "no archive: $1"
     no_change
-    printf %b "$1" >archive
-    cp archive ../want/archive
+    with_bytes archive "$1"
     sync
     ends 3 "harmony: BadArchive $2"
     finish
@@ -60,8 +58,7 @@ accept_schema() {
 no_schema() {
     begin "no schema: $2"
     no_change
-    printf %b "$2" >schema
-    cp schema ../want/schema
+    with_bytes schema "$2"
     sync
     ends 3 "harmony: BadSchema $1"
     finish
@@ -71,8 +68,8 @@ no_schema() {
 a_schema() {
     begin "a schema: $1"
     change
-    printf %b "$1" >schema
-    cp schema ../want/schema
+    with_bytes schema "$1"
+    read_as_schema
     sync
     ends 0 agreed
     finish
@@ -105,6 +102,9 @@ no_tree '{"b","a\xc3\n' 'NotUtf8 7'
 
 no_archive '{"a"}' 'at 5'
 no_archive '!' 'at 1'
+no_archive '{"b","a"}\n' 'at 6'
+no_archive "$(printf '{"a":%.0s' {1..1001})" deep
+no_archive "$(printf '{"a":%.0s' {1..1000})" 'at 5000'
 no_archive '\n' 'at 0'
 no_archive '{"a":!,"a":!}\n' 'at 9'
 no_archive '{"\xc3(' 'at 3'

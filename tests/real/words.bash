@@ -1,9 +1,9 @@
 # shellcheck shell=bash
 # The words of a run, and the names of its files.
 
-readonly USAGE='usage: harmony sync SCHEMA ARCHIVE A B'
+readonly USAGE='usage: harmony sync SCHEMA LENS_A LENS_B ARCHIVE A B'
 
-# same_names SLOT SLOT WORD..: names of which these two are the first that are equal
+# same_names SLOT SLOT WORD..: names of which these two are the first that are equal and may not be
 same_names() {
     begin "equal names: ${*:3}"
     no_change
@@ -21,10 +21,19 @@ no_meaning() {
     finish
 }
 
-# named SCHEMA ARCHIVE A B: files of these names, which may stand in folders
+# read_twice SCHEMA LENS_A LENS_B, STATUS LINE: of the files that are only read some are one, which no name forbids
+read_twice() {
+    begin "read twice: $1 $2 $3"
+    if [[ $4 == 0 ]]; then both_change; else no_change; fi
+    run sync "${@:1:3}" archive A B >../out
+    ends "$4" "$5"
+    finish
+}
+
+# named SCHEMA LENS_A LENS_B ARCHIVE A B: files of these names, which may stand in folders
 named() {
     begin "names $*"
-    path=([schema]=$1 [archive]=$2 [A]=$3 [B]=$4)
+    path=([schema]=$1 [lensA]=$2 [lensB]=$3 [archive]=$4 [A]=$5 [B]=$6)
     for name in "$@"; do
         [[ $name != */* ]] || mkdir -p "${name%/*}" "../want/${name%/*}"
     done
@@ -34,43 +43,67 @@ named() {
     finish
 }
 
-no_meaning 'no words'
-no_meaning 'another command' plan schema archive A B
-no_meaning 'a command with a capital' Sync schema archive A B
-no_meaning 'too few words' sync archive A B
-no_meaning 'too many words' sync schema archive A B C
-no_meaning 'a flag as command' --help
-no_meaning 'a flag before the names' sync --quiet schema archive A B
-no_meaning 'a flag as schema' sync -schema archive A B
-no_meaning 'a flag as archive' sync schema -archive A B
-no_meaning 'a flag as A' sync schema archive -A B
-no_meaning 'a flag as B' sync schema archive A -
-no_meaning 'equal names, and too many words' sync A A A A A
-no_meaning 'a schema that is not UTF-8' sync $'schema\xff' archive A B
-no_meaning 'an archive that is not UTF-8' sync schema $'\xffarchive' A B
-no_meaning 'A that is not UTF-8' sync schema archive $'\xc3' B
-no_meaning 'B that is not UTF-8' sync schema archive A $'B\xff'
-no_meaning 'a further word that is not UTF-8' sync schema archive A B $'\xc3'
+readonly SIX=(schema lensA lensB archive A B)
 
-same_names schema archive archive archive A B
-same_names schema A A archive A B
-same_names schema B B archive A B
-same_names archive A schema A A B
-same_names archive B schema B A B
-same_names A B schema archive A A
-same_names schema archive A A A A
-same_names schema B schema A A schema
-same_names A B nothing nowhere none none
+no_meaning 'no words'
+no_meaning 'another command' plan "${SIX[@]}"
+no_meaning 'a command with a capital' Sync "${SIX[@]}"
+no_meaning 'too few words' sync lensA lensB archive A B
+no_meaning 'no lens files' sync schema archive A B
+no_meaning 'too many words' sync "${SIX[@]}" C
+no_meaning 'a flag as command' --help
+no_meaning 'a flag before the names' sync --quiet "${SIX[@]}"
+no_meaning 'a flag as schema' sync -schema lensA lensB archive A B
+no_meaning 'a flag as lens file of A' sync schema -lensA lensB archive A B
+no_meaning 'a flag as lens file of B' sync schema lensA --lensB archive A B
+no_meaning 'a flag as archive' sync schema lensA lensB -archive A B
+no_meaning 'a flag as A' sync schema lensA lensB archive -A B
+no_meaning 'a flag as B' sync schema lensA lensB archive A -
+no_meaning 'equal names, and too many words' sync A A A A A A A
+no_meaning 'a command that is not UTF-8' $'sync\xff' "${SIX[@]}"
+no_meaning 'a schema that is not UTF-8' sync $'schema\xff' lensA lensB archive A B
+no_meaning 'a lens file of A that is not UTF-8' sync schema $'\xc3(' lensB archive A B
+no_meaning 'a lens file of B that is not UTF-8' sync schema lensA $'lens\xffB' archive A B
+no_meaning 'an archive that is not UTF-8' sync schema lensA lensB $'\xffarchive' A B
+no_meaning 'A that is not UTF-8' sync schema lensA lensB archive $'\xc3' B
+no_meaning 'B that is not UTF-8' sync schema lensA lensB archive A $'B\xff'
+no_meaning 'a further word that is not UTF-8' sync "${SIX[@]}" $'\xc3'
+
+# A file that is written has its name alone.
+same_names schema archive archive lensA lensB archive A B
+same_names schema A A lensA lensB archive A B
+same_names schema B B lensA lensB archive A B
+same_names lensA archive schema archive lensB archive A B
+same_names lensA A schema A lensB archive A B
+same_names lensA B schema B lensB archive A B
+same_names lensB archive schema lensA archive archive A B
+same_names lensB A schema lensA A archive A B
+same_names lensB B schema lensA B archive A B
+same_names archive A schema lensA lensB A A B
+same_names archive B schema lensA lensB B A B
+same_names A B schema lensA lensB archive A A
+same_names schema archive A A A A A A
+same_names schema A A A A archive A B
+same_names schema B schema schema schema A A schema
+same_names lensA A schema lensA lensA archive lensA lensA
+same_names A B nothing nowhere nowhere none nobody nobody
+
+read_twice schema lensA lensA 0 agreed
+read_twice schema lensB lensB 0 agreed
+read_twice schema schema lensB 3 'harmony: BadLens lensA 1'
+read_twice schema lensA schema 3 'harmony: BadLens lensB 1'
+read_twice schema schema schema 3 'harmony: BadLens lensA 1'
+read_twice lensA lensA lensA 3 'harmony: BadSchema 1'
 
 # Each slot with each kind of name: with spaces, with quotes, with a line feed, with - at its beginning, with what a
 # shell would take for something else, with other than ASCII, and in folders whose names are such.
-named 'the schema' ' archive' 'left ' ' '
-named '"schema"' '"' 'le"ft' '"right'
-named "'schema'" "'" "le'ft" "'right"
-named $'the\nschema' $'\narchive' $'left\n' $'\n'
-named ./-schema ./--archive ./-- ./-
+named 'the schema' 'lens A' ' lens  B' ' archive' 'left ' ' '
+named '"schema"' 'le"ns' '"B' '"' 'le"ft' '"right'
+named "'schema'" "len's" "B'" "'" "le'ft" "'right"
+named $'the\nschema' $'lens\nA' $'B\n\n' $'\narchive' $'left\n' $'\n'
+named ./-schema ./-lens ./--quiet ./--archive ./-- ./-
 # shellcheck disable=SC2016 # These are names as they stand.
-named '`schema`' '$HOME' '*' '?'
-named '|' '#' '~' '\'
-named $'tab\t' 'Adreßbuch' 'ä' '名前'
-named './the folder/schema' $'two\nlines/archive' "\"it's\"/left" folder/../-/right
+named '`schema`' '$(lens)' ';' '$HOME' '*' '?'
+named '|' '<' '&' '#' '~' '\'
+named $'tab\t' 'Linse' $'\x01' 'Adreßbuch' 'ä' '名前'
+named './the folder/schema' lenses/A './lenses/the B' $'two\nlines/archive' "\"it's\"/left" folder/../-/right

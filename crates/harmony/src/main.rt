@@ -1,7 +1,11 @@
-//! Synchronises two files of one schema with the archive of what they last agreed on.
+//! Synchronises two files, each read through a lens file, with the archive of what they last agreed on.
 #![tactic(auto)]
 
+use hm_csv::Csv;
+use hm_format::{Format, Plain};
 use hm_outside::{FileStore, StdSink};
+use hm_text_kit::{date, email, trim, yes_no};
+use hm_text_lens::TextLens;
 use hm_tree::{Memory, Name};
 use std::alloc::Global;
 use std::env;
@@ -29,12 +33,23 @@ fn words_of(alloc: Global, rt: &HostRuntime) -> Result<Vec<Name>, Memory> {
     Ok(words)
 }
 
+// The status of the words, with the formats and the text lenses of the program.
+fn status_of(alloc: Global, rt: &HostRuntime) -> Result<u8, Memory> {
+    let words = words_of(alloc, rt)?;
+    let mut formats: Vec<Box<dyn Format>> = Vec::new(alloc);
+    formats.push(Box::new(alloc, Csv)?)?;
+    formats.push(Box::new(alloc, Plain)?)?;
+    let mut texts: Vec<Box<dyn TextLens>> = Vec::new(alloc);
+    texts.push(Box::new(alloc, trim(alloc)?)?)?;
+    texts.push(Box::new(alloc, date(alloc)?)?)?;
+    texts.push(Box::new(alloc, email(alloc)?)?)?;
+    texts.push(Box::new(alloc, yes_no(alloc)?)?)?;
+    let mut out = StdSink::new(alloc, rt.stdout());
+    let mut store = FileStore::new(alloc, rt);
+    Ok(hm_run::run(alloc, &words, &mut store, &mut out, &formats, &texts))
+}
+
 fn main(rt: HostRuntime) -> ExitCode {
     let alloc = rt.alloc();
-    let Ok(words) = words_of(alloc, &rt) else {
-        return ExitCode::from(OUT_OF_MEMORY);
-    };
-    let mut out = StdSink::new(alloc, rt.stdout());
-    let mut store = FileStore::new(alloc, &rt);
-    ExitCode::from(hm_run::run(alloc, &words, &mut store, &mut out))
+    ExitCode::from(status_of(alloc, &rt).unwrap_or(OUT_OF_MEMORY))
 }

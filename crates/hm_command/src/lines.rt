@@ -193,7 +193,9 @@ fn put_refusal(alloc: Global, line: &mut Vec<u8>, refusal: &Refusal) -> Result<(
     ensures { OnOk result (line.new.items ≡ line.old.items ++ refusal_text refusal.now) }
 {
     match refusal {
-        Refusal::Usage => Ok(line.extend_from_slice(b"usage: harmony sync SCHEMA ARCHIVE A B")?),
+        Refusal::Usage => Ok(line.extend_from_slice(
+            b"usage: harmony sync SCHEMA LENS_A LENS_B ARCHIVE A B",
+        )?),
         Refusal::SameName(one, two) => {
             put_slot(line, b"harmony: SameName ", *one)?;
             put_slot(line, b" ", *two)

@@ -2,7 +2,7 @@
 ghost use Rattle.std.specs.Prelude.{◌≡◌, codes, find, map};
 ghost use Rattle.std.specs.Str.{bytes_eq};
 ghost use Rattle.hm_files.specs.Files.{file_of};
-ghost use Rattle.hm_command.specs.Words.{meaning, slots, first_pair, has_name_of, is_flag, names, Answers, slot_of, slot_pair};
+ghost use Rattle.hm_command.specs.Words.{meaning, slots, first_pair, clash, is_written, is_flag, names, Answers, slot_of, slot_pair};
 
 use hm_files::{Named, Refusal, Slot};
 use hm_tree::Name;
@@ -11,6 +11,8 @@ use hm_tree::Name;
 #[derive(Clone, Copy)]
 pub struct Files<'a> {
     pub schema: &'a Name,
+    pub lens_a: &'a Name,
+    pub lens_b: &'a Name,
     pub archive: &'a Name,
     pub left: &'a Name,
     pub right: &'a Name,
@@ -18,13 +20,21 @@ pub struct Files<'a> {
 
 impl<'a> Files<'a> {
     /// Each with its slot, in the order in which they are loaded.
-    pub fn slots(self) -> [Named<'a>; 4]
+    pub fn slots(self) -> [Named<'a>; 6]
         ensures { map file_of result ≡ slots (names self.entry) }
     {
         [
             Named {
                 slot: Slot::Schema,
                 name: self.schema,
+            },
+            Named {
+                slot: Slot::LensA,
+                name: self.lens_a,
+            },
+            Named {
+                slot: Slot::LensB,
+                name: self.lens_b,
             },
             Named {
                 slot: Slot::Archive,
@@ -58,25 +68,39 @@ fn is_same(one: &Name, two: &Name) -> bool
     one.text() == two.text()
 }
 
+// Whether a run writes the file of a slot.
+fn is_written(slot: Slot) -> bool
+    ensures { result ≡ is_written slot }
+{
+    matches!(slot, Slot::Archive | Slot::A | Slot::B)
+}
+
+// Whether two files have one name and may not: a file that is written has its name alone.
+fn clash(one: Named<'_>, two: Named<'_>) -> bool
+    ensures { result ≡ clash (file_of one.entry) (file_of two.entry) }
+{
+    is_same(one.name, two.name) && (is_written(one.slot) || is_written(two.slot))
+}
+
 fn is_sync(word: &Name) -> bool
     ensures { result ≡ bytes_eq word.now (codes "sync") }
 {
     word.text() == "sync"
 }
 
-// The slot of the first of some files that has the name of another file.
+// The slot of the first of some files that has the name of another file, and may not.
 fn first_same(file: Named<'_>, others: &[Named<'_>]) -> Option<Slot>
-    ensures { result ≡ slot_of (find (has_name_of (file_of file.entry)) (map file_of others.now)) }
+    ensures { result ≡ slot_of (find (clash (file_of file.entry)) (map file_of others.now)) }
 {
     for other in others {
-        if is_same(file.name, other.name) {
+        if clash(file, *other) {
             return Some(other.slot);
         }
     }
     None
 }
 
-// The first two slots with one name, by the first slot and then the second.
+// The first two slots with one name that may not have it, by the first slot and then the second.
 #[tactic(auto, using(crate::proofs::Pairs::pair_found, crate::proofs::Pairs::pair_later), unfolding(crate::specs::Words::first_pair))]
 fn first_pair(files: &[Named<'_>]) -> Option<(Slot, Slot)>
     ensures { result ≡ slot_pair (first_pair (map file_of files.now)) }
@@ -90,20 +114,28 @@ fn first_pair(files: &[Named<'_>]) -> Option<(Slot, Slot)>
     }
 }
 
-/// The names of the files that the words give: `sync SCHEMA ARCHIVE A B`, of which none begins with `-` and no two are
-/// equal.
+/// The names of the files that the words give: `sync SCHEMA LENS_A LENS_B ARCHIVE A B`, of which none begins with `-`. A
+/// file that is written, the archive or a replica, has the name of no other; the others are only read, and may be one.
 #[tactic(auto, unfolding(crate::specs::Words::meaning))]
 pub fn files_of(words: &[Name]) -> Result<Files<'_>, Refusal>
     ensures { Answers names result (meaning words.now) }
 {
-    let [command, schema, archive, left, right] = words else {
+    let [command, schema, lens_a, lens_b, archive, left, right] = words else {
         return Err(Refusal::Usage);
     };
-    if !is_sync(command) || is_flag(schema) || is_flag(archive) || is_flag(left) || is_flag(right) {
+    if !is_sync(command) {
+        return Err(Refusal::Usage);
+    }
+    if is_flag(schema) || is_flag(lens_a) || is_flag(lens_b) {
+        return Err(Refusal::Usage);
+    }
+    if is_flag(archive) || is_flag(left) || is_flag(right) {
         return Err(Refusal::Usage);
     }
     let files = Files {
         schema,
+        lens_a,
+        lens_b,
         archive,
         left,
         right,

@@ -1,3 +1,7 @@
+mod Seeing
+mod SixFiles
+mod Opened
+mod ArchiveDepths
 mod Making
 mod Once
 mod Working

@@ -1,5 +1,5 @@
 -- What a user relies on, from how a run ended.
-use Rattle.std.proofs.Common.{◌≡◌, ◌⊎◌, inl, inr, ⊎_elim, ℕ, zero, suc, ◌≤◌, List, ◌++◌, length, Option, Some, Result, Ok, Err, refl, sym, ◌∙◌, ap, subst, arith}
+use Rattle.std.proofs.Common.{◌≡◌, ◌⊎◌, inl, inr, ⊎_elim, ℕ, zero, suc, ◌≤◌, List, ◌++◌, length, Option, Some, Result, Ok, Err, IsUtf8, refl, sym, ◌∙◌, ap, subst, arith}
 use Rattle.hm_tree.specs.Names.{Name}
 use Rattle.hm_outside.specs.Contents.{Contents}
 use Rattle.hm_outside.specs.Answers.{PutsAfter}
@@ -9,6 +9,7 @@ use Rattle.hm_outside.specs.declared.outside.Put.{Put}
 use Rattle.hm_outside.specs.declared.outside.Put.TheVariants as put
 use Rattle.hm_outside.proofs.Risen.{not_risen}
 use Rattle.hm_files.specs.declared.slot.Slot.{Slot}
+use Rattle.hm_files.specs.declared.slot.Slot.TheVariants.{A as ASlot, B as BSlot}
 use Rattle.hm_files.specs.declared.stop.Refusal.{Refusal}
 use Rattle.hm_files.specs.declared.stop.Refusal.TheVariants.{Usage, SameName, At}
 use Rattle.hm_files.specs.declared.stop.Stop.{Stop}
@@ -19,77 +20,87 @@ use Rattle.hm_command.specs.declared.ending.Ending.{Ending}
 use Rattle.hm_command.specs.declared.ending.Output.{Output}
 use Rattle.hm_command.specs.Words.{FileNames, meaning}
 use Rattle.hm_command.specs.Lines.{put_status, status_of, refusal_status}
-use Rattle.hm_safety.proofs.Shallow.{left_shallow, right_shallow, archive_shallow}
-use Rattle.hm_tree_text.proofs.TextUtf8.{tree_text_utf8, archive_text_utf8}
+use Rattle.hm_tree_text.specs.Text.{archive_text}
+use Rattle.hm_tree_text.specs.Reads.{ReadsArchive}
+use Rattle.hm_tree_text.proofs.TextUtf8.{archive_text_utf8}
 use Rattle.hm_outcome.proofs.Apart.{marks_differ}
 use Rattle.hm_outcome.proofs.Best.{outcome_maximal, outcome_only}
 use Rattle.hm_report.proofs.Explained.{explained}
-use Rattle.hm_run.specs.declared.read.Inputs.{Inputs}
-use Rattle.hm_run.specs.Verdict.{Synced, AreRead, texts_of, Becomes, Plan, Plans, PlansFrom, VerdictOf, Verdict, conflicts_status}
-use Rattle.hm_run.specs.Endings.{IsDone, Works, Outside, HasPut, EndsAs, old_trio, new_trio, IsSynchronised, IsReported, IsCarriedOut, IsComplete}
+use Rattle.hm_sides.specs.SideReplicas.{ClosesOn}
+use Rattle.hm_run.specs.Handed.{Handed}
+use Rattle.hm_run.specs.Verdict.{Texts, Becomes, Closes, Plan, Plans, PlansFrom, VerdictOf, Verdict, conflicts_status, old_trio, new_trio}
+use Rattle.hm_run.specs.Endings.{IsDone, Works, Outside, HasPut, EndsAs, AreWritten, IsSynchronised, IsReported, IsCarriedOut, IsComplete}
+use Rattle.hm_run.specs.Reads.{AreOpened}
+use Rattle.hm_run.proofs.ArchiveDepths.{fits_shallow}
+use Rattle.hm_run.proofs.Opened.{all_opened}
 use Rattle.hm_run.proofs.Once.{verdict_once}
-use Rattle.hm_run.proofs.Working.{IsOfSchema, of_schema}
 
 -- ---- what a plan begins with, and comes to
 
-founded : (c : Contents) (meant : Result FileNames Refusal) (plan : Plan) → VerdictOf c meant (Ok plan)
-    → Becomes plan.before plan.after × IsOfSchema plan.before
+record IsFounded (h : Handed) (plan : Plan) : Type 0 where
+  opened : AreOpened h plan.before
+  becomes : Becomes plan.before plan.after
+  closes : Closes h plan.before.sides plan.before.replicas plan.after (Ok plan.texts)
+
+founded : (h : Handed) (c : Contents) (meant : Result FileNames Refusal) (plan : Plan) → VerdictOf h c meant (Ok plan) → IsFounded h plan
 unfolding VerdictOf PlansFrom Plans
-founded c meant plan h =
-    let files = then_ok h in
-    let before = then_ok (then_ok files.2).2 in
+founded h c meant plan v =
+    let files = then_ok v in
+    let all = then_ok files.2 in
+    let before = then_ok all.2 in
     let after = then_ok before.2 in
-    subst (λ (p : Plan). Becomes p.before p.after × IsOfSchema p.before) (sym (ok_is _ _ (then_ok after.2).2)) (after.1, of_schema _ before.0 before.1)
+    let texts = then_ok after.2 in
+    subst (IsFounded h) (sym (ok_is _ _ (then_ok texts.2).2))
+    (record { opened = all_opened h all.0 before.0 before.1; becomes = after.1; closes = texts.1 })
 
 -- ---- the new files are read
 
--- no text is deeper than the replicas were
-new_read : (before : Inputs) (after : Synced) → IsOfSchema before → Becomes before after → AreRead (texts_of after) after
-new_read t u of becomes =
-    let safe = becomes.safe.safe in
-    let a = of.left.1 in
-    let b = of.right.1 in
-    let archive = archive_shallow t.archive u.archive t.left t.right u.left u.right 1000 safe a b in
-    let left = left_shallow t.archive u.archive t.left t.right u.left u.right 1000 safe a b in
-    let right = right_shallow t.archive u.archive t.left t.right u.left u.right 1000 safe a b in record {
-      archive = (archive_text_utf8 u.archive, record { spelled = refl; shallow = archive });
-      left = (tree_text_utf8 u.left, record { spelled = refl; shallow = left });
-      right = (tree_text_utf8 u.right, record { spelled = refl; shallow = right });
+new_written : (h : Handed) (plan : Plan) → Closes h plan.before.sides plan.before.replicas plan.after (Ok plan.texts) → AreWritten h plan
+unfolding Closes
+new_written h plan closes =
+    let left = then_ok closes in
+    let right = then_ok left.2 in
+    let fits = then_ok right.2 in
+    let are : plan.texts ≡ record { archive = archive_text plan.after.archive; left = left.0; right = right.0 } = ok_is _ _ fits.2 in record {
+      archive = subst (λ (t : Texts). IsUtf8 t.archive × ReadsArchive t.archive (Ok plan.after.archive)) (sym are)
+          (archive_text_utf8 plan.after.archive, record { spelled = refl; shallow = fits_shallow plan.after.archive fits.1 });
+      left = subst (λ (t : Texts). ClosesOn h.means_of h.formats h.texts plan.before.sides.left plan.before.replicas.left plan.after.left ASlot (Ok t.left)) (sym are) left.1;
+      right = subst (λ (t : Texts). ClosesOn h.means_of h.formats h.texts plan.before.sides.right plan.before.replicas.right plan.after.right BSlot (Ok t.right)) (sym are) right.1;
     }
 
 -- ---- what the work left, by the rows of what it came to
 
-worked_output : (meant : Result FileNames Refusal) (told left : Option Contents) (before after : List Failure) (output : Output)
-    → Works meant told left before after (Ok output) → WhereTold told (λ c. IsDone meant c output left)
-worked_output (Ok files) told left before after output h = h.0.0
-worked_output (Err refusal) told left before after output h = absurd (let e = h.0 in let no : ⊥ = cc in no)
+worked_output : (hand : Handed) (meant : Result FileNames Refusal) (told left : Option Contents) (before after : List Failure) (output : Output)
+    → Works hand meant told left before after (Ok output) → WhereTold told (λ c. IsDone hand meant c output left)
+worked_output hand (Ok files) told left before after output h = h.0.0
+worked_output hand (Err refusal) told left before after output h = absurd (let e = h.0 in let no : ⊥ = cc in no)
 
-worked_refusal : (meant : Result FileNames Refusal) (told left : Option Contents) (before after : List Failure) (refusal : Refusal)
-    → Works meant told left before after (Err (Refused refusal)) → WhereTold told (λ c. VerdictOf c meant (Err refusal) × (left ≡ Some c))
+worked_refusal : (hand : Handed) (meant : Result FileNames Refusal) (told left : Option Contents) (before after : List Failure) (refusal : Refusal)
+    → Works hand meant told left before after (Err (Refused refusal)) → WhereTold told (λ c. VerdictOf hand c meant (Err refusal) × (left ≡ Some c))
 unfolding VerdictOf
-worked_refusal (Ok files) told left before after (At at fault) h = h.0.0
-worked_refusal (Ok files) told left before after Usage h = absurd h.0
-worked_refusal (Ok files) told left before after (SameName one two) h = absurd h.0
-worked_refusal (Err other) told left before after refusal h = λ c is_told.
+worked_refusal hand (Ok files) told left before after (At at fault) h = h.0.0
+worked_refusal hand (Ok files) told left before after Usage h = absurd h.0
+worked_refusal hand (Ok files) told left before after (SameName one two) h = absurd h.0
+worked_refusal hand (Err other) told left before after refusal h = λ c is_told.
     let e : refusal ≡ other = let is = h.0 in cc in
     (stops (ap (λ (z : Refusal). Err z) e), h.1 ∙ is_told)
 
 -- a fault of the store has left its call in the list
-worked_fault : (meant : Result FileNames Refusal) (told left : Option Contents) (before after : List Failure) (kind : Kind) (at : Slot)
-    → after ≡ before → Works meant told left before after (Err (Fault kind at)) → ⊥
-worked_fault (Ok files) told left before after kind at same h =
+worked_fault : (hand : Handed) (meant : Result FileNames Refusal) (told left : Option Contents) (before after : List Failure) (kind : Kind) (at : Slot)
+    → after ≡ before → Works hand meant told left before after (Err (Fault kind at)) → ⊥
+worked_fault hand (Ok files) told left before after kind at same h =
     ⊎_elim (λ k. not_risen same k.0.unread.risen) (λ k. not_risen same k.unwritten.failed.risen) h.0.0
-worked_fault (Err refusal) told left before after kind at same h = let e = h.0 in cc
+worked_fault hand (Err refusal) told left before after kind at same h = let e = h.0 in cc
 
 -- ---- what a user relies on after a run that ended with a status
 
-pub record IsRelied (words : List Name) (before after : Outside) (status : ℕ) : Type 0 where
-  pub synchronised : (status ≡ 0) ⊎ (status ≡ 1) → WhereTold before.contents (λ c. IsSynchronised words c status after.contents)
+pub record IsRelied (hand : Handed) (words : List Name) (before after : Outside) (status : ℕ) : Type 0 where
+  pub synchronised : (status ≡ 0) ⊎ (status ≡ 1) → WhereTold before.contents (λ c. IsSynchronised hand words c status after.contents)
   pub reported : (status ≡ 0) ⊎ (status ≡ 1)
-      → WhereTold before.contents (λ c. WhereTold before.written (λ w. IsReported words c w status after.written))
+      → WhereTold before.contents (λ c. WhereTold before.written (λ w. IsReported hand words c w status after.written))
   pub refused : (status ≡ 2) ⊎ (status ≡ 3) → WhereTold before.contents (λ c. after.contents ≡ Some c)
   pub complete : after.failed ≡ before.failed → after.faults ≡ before.faults
-      → WhereTold before.contents (λ c. IsComplete words c status after.contents)
+      → WhereTold before.contents (λ c. IsComplete hand words c status after.contents)
 
 conflicts_low : (n : ℕ) → conflicts_status n ≤ 1
 conflicts_low zero = omega arith
@@ -99,43 +110,43 @@ refusal_high : (refusal : Refusal) → 2 ≤ refusal_status refusal
 refusal_high Usage = omega arith
 refusal_high _ = omega arith
 
-module _ (words : List Name) (before after : Outside) where
-  carried_out : (c : Contents) (status : ℕ) (r : Result Plan Refusal) → Verdict c words r → IsCarriedOut c status after.contents r
-      → IsComplete words c status after.contents
-  carried_out c status r first out other k = inr (subst (IsCarriedOut c status after.contents) (verdict_once c (meaning words) r other first k) out)
+module _ (hand : Handed) (words : List Name) (before after : Outside) where
+  carried_out : (c : Contents) (status : ℕ) (r : Result Plan Refusal) → Verdict hand c words r → IsCarriedOut c status after.contents r
+      → IsComplete hand words c status after.contents
+  carried_out c status r first out other k = inr (subst (IsCarriedOut c status after.contents) (verdict_once hand c (meaning words) r other first k) out)
 
-  by_output : (output : Output) → WhereTold before.contents (λ c. IsDone (meaning words) c output after.contents)
-      → WhereTold before.written (λ w. PutsAfter w output.text.items put.Done after.written) → IsRelied words before after output.status
+  by_output : (output : Output) → WhereTold before.contents (λ c. IsDone hand (meaning words) c output after.contents)
+      → WhereTold before.written (λ w. PutsAfter w output.text.items put.Done after.written) → IsRelied hand words before after output.status
   by_output output done puts = record {
     synchronised = λ s c told.
         let h = done c told in
         let plan = h.state.plan in
         let root = plan.before.schema.root in
-        let begun = founded c (meaning words) plan h.state.planned in
-        let outcome = begun.0 in record {
+        let begun = founded hand c (meaning words) plan h.state.planned in
+        let outcome = begun.becomes in record {
           plan = plan;
-          planned = record { planned = h.state.planned; only = λ r k. verdict_once c (meaning words) r (Ok plan) k h.state.planned };
+          planned = record { planned = h.state.planned; only = λ r k. verdict_once hand c (meaning words) r (Ok plan) k h.state.planned };
           new = h.state.is;
-          read = new_read plan.before plan.after begun.1 outcome;
+          written = new_written hand plan begun.closes;
           safe = outcome.safe.safe;
           member_left = outcome.safe.members.left;
           member_right = outcome.safe.members.right;
           outcome = outcome;
-          best = outcome_maximal plan.before.schema root (old_trio plan) (new_trio plan) outcome;
-          only = outcome_only plan.before.schema root (old_trio plan) (new_trio plan) outcome;
+          best = outcome_maximal plan.before.schema root (old_trio plan.before) (new_trio plan.after) outcome;
+          only = outcome_only plan.before.schema root (old_trio plan.before) (new_trio plan.after) outcome;
           tells = h.tells.tells;
         };
     reported = λ s c told w is.
         let h = done c told in
         let plan = h.state.plan in
         let root = plan.before.schema.root in
-        let begun = founded c (meaning words) plan h.state.planned in record {
+        let begun = founded hand c (meaning words) plan h.state.planned in record {
           plan = plan;
-          planned = record { planned = h.state.planned; only = λ r k. verdict_once c (meaning words) r (Ok plan) k h.state.planned };
+          planned = record { planned = h.state.planned; only = λ r k. verdict_once hand c (meaning words) r (Ok plan) k h.state.planned };
           tells = h.tells.tells;
           put = puts w is ∙ ap (λ t. Some (w ++ t)) h.tells.text;
-          explained = explained plan.before.schema root (old_trio plan) (new_trio plan) h.tells.tells.conflicts begun.0 h.tells.tells.remain;
-          apart = marks_differ plan.before.schema root (old_trio plan) (new_trio plan) (record { left = begun.1.left.0; right = begun.1.right.0 }) begun.0;
+          explained = explained plan.before.schema root (old_trio plan.before) (new_trio plan.after) h.tells.tells.conflicts begun.becomes h.tells.tells.remain;
+          apart = marks_differ plan.before.schema root (old_trio plan.before) (new_trio plan.after) (record { left = begun.opened.member_left; right = begun.opened.member_right }) begun.becomes;
         };
     refused = λ s c told. let h = done c told in absurd (omega (arith, h.tells.tells.told, conflicts_low (length h.tells.tells.conflicts)));
     complete = λ same calm c told.
@@ -143,8 +154,8 @@ module _ (words : List Name) (before after : Outside) where
         carried_out c output.status (Ok h.state.plan) h.state.planned (h.tells.tells, h.state.is);
   }
 
-  by_refusal : (refusal : Refusal) → WhereTold before.contents (λ c. Verdict c words (Err refusal) × (after.contents ≡ Some c))
-      → IsRelied words before after (refusal_status refusal)
+  by_refusal : (refusal : Refusal) → WhereTold before.contents (λ c. Verdict hand c words (Err refusal) × (after.contents ≡ Some c))
+      → IsRelied hand words before after (refusal_status refusal)
   by_refusal refusal h = record {
     synchronised = λ s. absurd (omega (arith, refusal_high refusal));
     reported = λ s. absurd (omega (arith, refusal_high refusal));
@@ -153,7 +164,7 @@ module _ (words : List Name) (before after : Outside) where
   }
 
   by_fault : (status : ℕ) → 4 ≤ status → (after.failed ≡ before.failed → after.faults ≡ before.faults → status ≡ 5)
-      → IsRelied words before after status
+      → IsRelied hand words before after status
   by_fault status high five = record {
     synchronised = λ s. absurd (omega arith);
     reported = λ s. absurd (omega arith);
@@ -161,16 +172,16 @@ module _ (words : List Name) (before after : Outside) where
     complete = λ same calm c told r k. inl (five same calm);
   }
 
-  by_work : (work : Result Output Stop) (answer : Put) → Works (meaning words) before.contents after.contents before.failed after.failed work
-      → HasPut work answer before.written after.written before.faults after.faults → IsRelied words before after (put_status work answer)
+  by_work : (work : Result Output Stop) (answer : Put) → Works hand (meaning words) before.contents after.contents before.failed after.failed work
+      → HasPut work answer before.written after.written before.faults after.faults → IsRelied hand words before after (put_status work answer)
   by_work work put.Memory w p = by_fault 5 (omega arith) (λ same calm. refl)
-  by_work (Ok output) put.Done w p = by_output output (worked_output (meaning words) _ _ _ _ output w) p.written
+  by_work (Ok output) put.Done w p = by_output output (worked_output hand (meaning words) _ _ _ _ output w) p.written
   by_work (Ok output) put.Failed w p = by_fault 6 (omega arith) (λ same calm. absurd (let risen = p.faults in omega arith))
-  by_work (Err (Refused refusal)) answer w p = by_refusal refusal (worked_refusal (meaning words) _ _ _ _ refusal w)
-  by_work (Err (Fault kind at)) answer w p = by_fault 4 (omega arith) (λ same calm. absurd (worked_fault (meaning words) _ _ _ _ kind at same w))
+  by_work (Err (Refused refusal)) answer w p = by_refusal refusal (worked_refusal hand (meaning words) _ _ _ _ refusal w)
+  by_work (Err (Fault kind at)) answer w p = by_fault 4 (omega arith) (λ same calm. absurd (worked_fault hand (meaning words) _ _ _ _ kind at same w))
   by_work (Err Memory) answer w p = by_fault 5 (omega arith) (λ same calm. refl)
 
-pub relied : (ending : Ending) (words : List Name) (before after : Outside) (status : ℕ)
-    → status ≡ status_of ending → EndsAs ending words before after → IsRelied words before after status
-relied ending words before after status is h =
-    subst (IsRelied words before after) (sym is) (by_work words before after ending.work ending.put h.works h.puts)
+pub relied : (hand : Handed) (ending : Ending) (words : List Name) (before after : Outside) (status : ℕ)
+    → status ≡ status_of ending → EndsAs hand ending words before after → IsRelied hand words before after status
+relied hand ending words before after status is h =
+    subst (IsRelied hand words before after) (sym is) (by_work hand words before after ending.work ending.put h.works h.puts)

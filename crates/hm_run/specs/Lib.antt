@@ -1,3 +1,4 @@
+pub mod Handed
 pub mod Reads
 pub mod Verdict
 pub mod Endings

@@ -1,27 +1,33 @@
--- What reading the four files finds: each reader's relation, with its faults told as refusals.
-use Rattle.std.specs.Prelude.{◌≡◌, ℕ, List, [], get_or, Some, Result, Ok, Err, IsUtf8}
-use Rattle.std.specs.Str.Lossy.{utf8_valid_len}
+-- What reading the six files finds: each reader's relation, with its faults told as refusals.
+use Rattle.std.specs.Prelude.{◌≡◌, ℕ, List, [], get_or, Result, Ok}
 use Rattle.hm_tree.specs.Nodes.{Tree}
-use Rattle.hm_tree.specs.States.{Path, state}
-use Rattle.hm_tree_text.specs.Reads.{ReadsTree, ReadsArchive}
+use Rattle.hm_tree.specs.Archives.{Archive}
+use Rattle.hm_tree_text.specs.Reads.{ReadsArchive}
 use Rattle.hm_tree_text.specs.declared.fault.TextFault.{TextFault}
 use Rattle.hm_tree_text.specs.declared.fault.TextFault.TheVariants as text
 use Rattle.hm_schema.specs.Values.{SchemaValue}
-use Rattle.hm_schema.specs.Membership.{IsMember, IsFirstOutside}
+use Rattle.hm_schema.specs.Membership.{HasNoTwins}
 use Rattle.hm_schema_text.specs.SchemaFiles.{ReadsSchema}
 use Rattle.hm_schema_text.specs.declared.fault.SchemaFault.{SchemaFault}
 use Rattle.hm_schema_text.specs.declared.fault.SchemaFault.TheVariants as schema
+use Rattle.hm_node_laws.specs.Standing.{Alike}
+use Rattle.hm_types.specs.Checks.{Trees}
+use Rattle.hm_replica.specs.Replicas.{ReplicaValue, replica_value}
 use Rattle.hm_files.specs.declared.slot.Slot.{Slot}
 use Rattle.hm_files.specs.declared.slot.Slot.TheVariants as slot
 use Rattle.hm_files.specs.declared.stop.ArchiveFault.TheVariants as archive_fault
-use Rattle.hm_files.specs.declared.stop.ReplicaFault.TheVariants as replica_fault
-use Rattle.hm_files.specs.declared.stop.FileFault.TheVariants.{BadSchema, BadArchive, BadReplica}
+use Rattle.hm_files.specs.declared.stop.FileFault.TheVariants.{BadSchema, BadArchive}
 use Rattle.hm_files.specs.declared.stop.Refusal.{Refusal}
 use Rattle.hm_files.specs.declared.stop.Refusal.TheVariants.{At}
 use Rattle.hm_files.specs.declared.stop.Stop.{Stop}
 use Rattle.hm_files.specs.declared.stop.Stop.TheVariants.{Refused, Memory}
 use Rattle.hm_files.specs.Steps.{Then, Told}
+use Rattle.hm_sides.specs.Sides.{SideValue, side_value, OpensSide, ChecksView, IsSide}
+use Rattle.hm_sides.specs.SideReplicas.{OpensOn, IsReplicaOn}
+use Rattle.hm_run.specs.Handed.{Handed}
 use Rattle.hm_run.specs.declared.read.Inputs.{Inputs}
+use Rattle.hm_run.specs.declared.read.SidePair.{SidePair}
+use Rattle.hm_run.specs.declared.read.ReplicaPair.{ReplicaPair}
 
 -- the faults of readers, as what stops a run
 abbrev pub schema_stop : SchemaFault → Stop
@@ -33,38 +39,90 @@ archive_stop (text.BadTree place) = Refused (At slot.Archive (BadArchive (archiv
 archive_stop text.TooDeep = Refused (At slot.Archive (BadArchive archive_fault.Deep))
 archive_stop text.Memory = Memory
 
-abbrev pub replica_stop : Slot → TextFault → Stop
-replica_stop at (text.BadTree place) = Refused (At at (BadReplica (replica_fault.BadItem place)))
-replica_stop at text.TooDeep = Refused (At at (BadReplica (replica_fault.TooDeep 1001)))
-replica_stop at text.Memory = Memory
+-- ---- the sides
 
--- ---- a replica is UTF-8, the text of a tree, and a member of the schema
+-- replicas may be opened on a side, and closed with members of a schema
+pub record Serves (h : Handed) (s : SchemaValue) (side : SideValue) : Type 0 where
+  pub is_side : IsSide h.means_of h.formats h.texts side
+  pub members : Alike (Trees s) (Trees side.typed.view)
 
-abbrev pub ChecksText : Slot → List ℕ → Result (Unit {0}) Refusal → Type 0
-ChecksText at bytes (Ok x) = IsUtf8 bytes
-ChecksText at bytes (Err refusal) = ¬ (IsUtf8 bytes) × (refusal ≡ At at (BadReplica (replica_fault.NotUtf8 (utf8_valid_len bytes))))
+-- a lens file is opened as a side, whose view is the same as the schema
+unfoldable pub OpensView : Handed → SchemaValue → Slot → List ℕ → Result SideValue Refusal → Type 0
+OpensView h s at bytes =
+    Then (OpensSide h.means_of h.formats h.texts at bytes) (λ side.
+    Then (ChecksView at s side.typed.view) (λ same r. (r ≡ Ok side) × Serves h s side))
 
-abbrev pub ChecksMember : SchemaValue → Slot → Tree → Result Tree Refusal → Type 0
-ChecksMember s at t (Ok u) = (u ≡ t) × IsMember s s.root (state (Some t))
-ChecksMember s at t (Err refusal) =
-    (p : Path) × IsFirstOutside s s.root (state (Some t)) p × (refusal ≡ At at (BadReplica (replica_fault.Outside p)))
+-- the left one and the right one
+pub record Sides : Type 0 where
+  pub left : SideValue
+  pub right : SideValue
 
-unfoldable pub ReadsReplica : SchemaValue → Slot → List ℕ → Result Tree Refusal → Type 0
-ReadsReplica s at bytes =
-    Then (ChecksText at bytes) (λ checked.
-    Then (Told (replica_stop at) (ReadsTree bytes)) (ChecksMember s at))
+abbrev pub sides_of : SidePair → Sides
+sides_of p = record { left = side_value p.left; right = side_value p.right }
 
-unfoldable pub ReadsReplicas : SchemaValue → List ℕ → List ℕ → Result (Tree × Tree) Refusal → Type 0
-ReadsReplicas s left right =
-    Then (ReadsReplica s slot.A left) (λ a. Then (ReadsReplica s slot.B right) (λ b r. r ≡ Ok (a, b)))
+unfoldable pub OpensSides : Handed → SchemaValue → List ℕ → List ℕ → Result Sides Refusal → Type 0
+OpensSides h s left right =
+    Then (OpensView h s slot.LensA left) (λ a.
+    Then (OpensView h s slot.LensB right) (λ b r.
+    r ≡ Ok (record { left = a; right = b })))
 
-unfoldable pub ReadsFour : List ℕ → List ℕ → List ℕ → List ℕ → Result Inputs Refusal → Type 0
-ReadsFour schema archive left right =
+-- ---- the replicas
+
+pub record Replicas : Type 0 where
+  pub left : ReplicaValue
+  pub right : ReplicaValue
+
+abbrev pub replicas_of : ReplicaPair → Replicas
+replicas_of p = record { left = replica_value p.left; right = replica_value p.right }
+
+unfoldable pub OpensReplicas : Handed → Sides → List ℕ → List ℕ → Result Replicas Refusal → Type 0
+OpensReplicas h sides left right =
+    Then (OpensOn h.means_of h.formats h.texts sides.left slot.A left) (λ a.
+    Then (OpensOn h.means_of h.formats h.texts sides.right slot.B right) (λ b r.
+    r ≡ Ok (record { left = a; right = b })))
+
+-- ---- all six files
+
+-- the schema, the sides, the archive, and the replicas
+pub record Before : Type 0 where
+  pub schema : SchemaValue
+  pub sides : Sides
+  pub archive : Archive
+  pub replicas : Replicas
+
+abbrev pub before_with : SchemaValue → SidePair → Archive → ReplicaPair → Before
+before_with s sides o replicas = record { schema = s; sides = sides_of sides; archive = o; replicas = replicas_of replicas }
+
+abbrev pub before_of : Inputs → Before
+before_of t = before_with t.schema t.sides t.archive t.replicas
+
+unfoldable pub ReadsSix : Handed → List ℕ → List ℕ → List ℕ → List ℕ → List ℕ → List ℕ → Result Before Refusal → Type 0
+ReadsSix h schema lens_a lens_b archive left right =
     Then (Told schema_stop (ReadsSchema schema)) (λ s.
+    Then (OpensSides h s lens_a lens_b) (λ sides.
     Then (Told archive_stop (ReadsArchive archive)) (λ o.
-    Then (ReadsReplicas s left right) (λ t r.
-    r ≡ Ok (record { schema = s; archive = o; left = t.0; right = t.1 }))))
+    Then (OpensReplicas h sides left right) (λ replicas r.
+    r ≡ Ok (record { schema = s; sides = sides; archive = o; replicas = replicas })))))
 
 -- by the bytes of the files in the order of their slots
-unfoldable pub ReadsAll : List (List ℕ) → Result Inputs Refusal → Type 0
-ReadsAll all = ReadsFour (get_or all 0 []) (get_or all 1 []) (get_or all 2 []) (get_or all 3 [])
+unfoldable pub ReadsAll : Handed → List (List ℕ) → Result Before Refusal → Type 0
+ReadsAll h all =
+    ReadsSix h (get_or all 0 []) (get_or all 1 []) (get_or all 2 []) (get_or all 3 []) (get_or all 4 []) (get_or all 5 [])
+
+-- ---- what is known of what was read
+
+-- a replica may be closed on a side with a new view
+pub record MayClose (h : Handed) (side : SideValue) (replica : ReplicaValue) (shown : Tree) : Type 0 where
+  pub is_side : IsSide h.means_of h.formats h.texts side
+  pub on_side : IsReplicaOn h.means_of h.formats h.texts side replica
+  pub member : Trees side.typed.view shown
+
+-- the replicas are those of sides that serve the schema, of which their views are members
+pub record AreOpened (h : Handed) (b : Before) : Type 0 where
+  pub no_twins : HasNoTwins b.schema
+  pub serves_left : Serves h b.schema b.sides.left
+  pub serves_right : Serves h b.schema b.sides.right
+  pub left : IsReplicaOn h.means_of h.formats h.texts b.sides.left b.replicas.left
+  pub right : IsReplicaOn h.means_of h.formats h.texts b.sides.right b.replicas.right
+  pub member_left : Trees b.schema b.replicas.left.view
+  pub member_right : Trees b.schema b.replicas.right.view

@@ -1,93 +1,93 @@
 //! Making the new files of what was loaded.
-ghost use Rattle.std.specs.Prelude.{◌≡◌, [], IfOk, length, map};
+ghost use Rattle.std.specs.Prelude.{◌≡◌, ◌≤◌, IfOk, length, map};
+ghost use Rattle.hm_tree.specs.Nodes.{depth};
 ghost use Rattle.hm_schema.specs.Membership.{HasNoTwins};
 ghost use Rattle.hm_outcome.specs.Trios.{given, views, AreMembers};
+ghost use Rattle.hm_reconcile.specs.Reconciled.{IsReconciled};
 ghost use Rattle.hm_files.specs.Steps.{Computes};
 ghost use Rattle.hm_files.specs.Files.{all_bytes, new_of};
 ghost use Rattle.hm_command.specs.Words.{names};
-ghost use Rattle.hm_run.specs.Verdict.{texts_of, news_of, Tells, outcome_of, new_texts, all_as, IsMade, Makes};
+ghost use Rattle.hm_run.specs.Handed.{handed};
+ghost use Rattle.hm_run.specs.Reads.{before_of, before_with, AreOpened};
+ghost use Rattle.hm_run.specs.Verdict.{news_of, new_texts, MakesTexts, Makes};
 
-use crate::read::{Inputs, read_all};
+use crate::closing::{NewTexts, close, close_as_left, close_as_right};
+use crate::read::{Inputs, ReplicaPair, SidePair, read_all};
 use hm_command::{Files, Output};
 use hm_files::{NewFile, Slot, Stop, measure_all};
-use hm_reconcile::{reconcile_owned, side_for_all};
-use hm_report::{Conflict, Outcome, write_report};
-use hm_tree::{Memory, Tree};
-use hm_tree_text::{write_archive, write_tree};
+use hm_format::Format;
+use hm_reconcile::reconcile_owned;
+use hm_report::Outcome;
+use hm_schema::Schema;
+use hm_text_lens::TextLens;
+use hm_tree::{Archive, Memory, Tree};
 use std::alloc::Global;
 
-/// What the three files are to hold, and what is to be said of the conflicts that remain.
-#[derive(Drop)]
-pub struct NewTexts {
-    pub archive: Vec<u8>,
-    pub left: Vec<u8>,
-    pub right: Vec<u8>,
-    pub output: Output,
+// The greater of the depths of two trees.
+fn deeper(left: &Tree, right: &Tree) -> usize
+    ensures left { depth left.now ≤ result }
+    ensures right { depth right.now ≤ result }
+{
+    left.depth().max(right.depth())
 }
 
-fn output_of(alloc: Global, conflicts: &[Conflict]) -> Result<Output, Memory>
-    ensures { IfOk result (Tells conflicts.now) }
+// What the archive and the views become. The views are copied, since replicas are closed against them.
+fn reconcile(
+    alloc: Global,
+    schema: &Schema,
+    archive: Archive,
+    replicas: &ReplicaPair,
+) -> Result<Outcome, Memory>
+    requires no_twins { HasNoTwins schema.now }
+    requires members { AreMembers schema.now schema.now.root (views (given archive replicas.now.left.view replicas.now.right.view)) }
+    ensures { IfOk result (IsReconciled schema.now (given archive replicas.now.left.view replicas.now.right.view)) }
 {
-    Ok(Output {
-        status: u8::from(conflicts.len() > 0),
-        text: write_report(alloc, conflicts)?,
-    })
+    let left = replicas.left.view.copy()?;
+    let right = replicas.right.view.copy()?;
+    reconcile_owned(alloc, schema, archive, left, right)
 }
 
-// The texts of an outcome.
-fn spell(alloc: Global, outcome: &Outcome) -> Result<NewTexts, Memory>
-    ensures texts { IfOk result (λ made. new_texts made ≡ texts_of (outcome_of outcome.now)) }
-    ensures tells { IfOk result (λ made. Tells outcome.now.conflicts.items made.output) }
+// The new texts of what was read, whatever has changed.
+fn make_both(
+    alloc: Global,
+    formats: &[Box<dyn Format>],
+    texts: &[Box<dyn TextLens>],
+    schema: &Schema,
+    sides: &SidePair,
+    archive: Archive,
+    replicas: ReplicaPair,
+) -> Result<NewTexts, Stop>
+    requires { AreOpened (handed (λ b. means b) formats.now (map (λ b. meaning b) texts.now)) (before_with schema.now sides.now archive replicas) }
+    ensures { Computes (MakesTexts (handed (λ b. means b) formats.now (map (λ b. meaning b) texts.now)) (before_with schema.now sides.now archive replicas)) result }
 {
-    Ok(NewTexts {
-        archive: write_archive(alloc, &outcome.archive)?,
-        left: write_tree(alloc, &outcome.left)?,
-        right: write_tree(alloc, &outcome.right)?,
-        output: output_of(alloc, &outcome.conflicts)?,
-    })
+    let bound = deeper(&replicas.left.view, &replicas.right.view);
+    let outcome = reconcile(alloc, schema, archive, &replicas)?;
+    close(alloc, formats, texts, sides, replicas, outcome, bound)
 }
 
-fn copy_of(alloc: Global, text: &[u8]) -> Result<Vec<u8>, Memory>
-    ensures { IfOk result (λ copy. copy.items ≡ text.now) }
+// The new texts of what was read. In most runs only one side has changed since the last, or none has.
+fn make(
+    alloc: Global,
+    formats: &[Box<dyn Format>],
+    texts: &[Box<dyn TextLens>],
+    inputs: Inputs,
+) -> Result<NewTexts, Stop>
+    requires { AreOpened (handed (λ b. means b) formats.now (map (λ b. meaning b) texts.now)) (before_of inputs) }
+    ensures { Computes (MakesTexts (handed (λ b. means b) formats.now (map (λ b. meaning b) texts.now)) (before_of inputs)) result }
 {
-    let mut copy = Vec::with_capacity(alloc, text.len())?;
-    copy.extend_from_slice(text)?;
-    Ok(copy)
-}
-
-// The texts where all three become as one tree: they are the same, since an archive without a mark is spelled as its
-// tree.
-fn spell_for_all(alloc: Global, tree: &Tree) -> Result<NewTexts, Memory>
-    ensures texts { IfOk result (λ made. new_texts made ≡ texts_of (all_as tree.now)) }
-    ensures tells { IfOk result (λ made. Tells [] made.output) }
-{
-    let text = write_tree(alloc, tree)?;
-    Ok(NewTexts {
-        archive: copy_of(alloc, &text)?,
-        left: copy_of(alloc, &text)?,
-        right: text,
-        output: output_of(alloc, &[])?,
-    })
-}
-
-// The new texts of what was read.
-fn make(alloc: Global, inputs: Inputs) -> Result<NewTexts, Memory>
-    requires no_twins { HasNoTwins inputs.schema }
-    requires members { AreMembers inputs.schema inputs.schema.root (views (given inputs.archive inputs.left inputs.right)) }
-    ensures { IfOk result (IsMade inputs) }
-{
-    // In most runs only one side has changed since the last, or none has.
-    if let Some(side) = side_for_all(&inputs.archive, &inputs.left, &inputs.right) {
-        return spell_for_all(alloc, side);
-    }
     let Inputs {
         schema,
+        sides,
         archive,
-        left,
-        right,
+        replicas,
     } = inputs;
-    let outcome = reconcile_owned(alloc, &schema, archive, left, right)?;
-    spell(alloc, &outcome)
+    if archive.records(&replicas.left.view) {
+        return close_as_right(alloc, formats, texts, &sides, replicas);
+    }
+    if archive.records(&replicas.right.view) {
+        return close_as_left(alloc, formats, texts, &sides, replicas);
+    }
+    make_both(alloc, formats, texts, &schema, &sides, archive, replicas)
 }
 
 // The new files, in the order in which they are measured and written, and the output.
@@ -119,15 +119,15 @@ fn in_order<'a>(files: Files<'a>, new: NewTexts) -> ([NewFile<'a>; 3], Output)
 pub fn plan<'a>(
     alloc: Global,
     files: Files<'a>,
+    formats: &[Box<dyn Format>],
+    texts: &[Box<dyn TextLens>],
     loads: Vec<Vec<u8>>,
 ) -> Result<([NewFile<'a>; 3], Output), Stop>
-    requires { length loads.items ≡ 4 }
-    ensures { Computes (Makes (names files.entry) (all_bytes loads)) result }
+    requires { length loads.items ≡ 6 }
+    ensures { Computes (Makes (handed (λ b. means b) formats.now (map (λ b. meaning b) texts.now)) (names files.entry) (all_bytes loads)) result }
 {
-    let inputs = read_all(alloc, &loads)?;
-    // What was read isn't needed any more, and takes as much memory as the new files.
-    drop(loads);
-    let (news, output) = in_order(files, make(alloc, inputs)?);
+    let inputs = read_all(alloc, formats, texts, loads)?;
+    let (news, output) = in_order(files, make(alloc, formats, texts, inputs)?);
     measure_all(&news)?;
     Ok((news, output))
 }

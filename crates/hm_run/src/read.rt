@@ -1,29 +1,45 @@
-//! Reading the values that the four files hold.
+//! Reading the values that the six files hold.
 ghost use Rattle.std.specs.Prelude.{◌≡◌, length, map};
-ghost use Rattle.hm_schema.specs.Membership.{HasNoTwins};
-ghost use Rattle.hm_tree_text.specs.Reads.{ReadsTree, ReadsArchive};
+ghost use Rattle.hm_tree_text.specs.Reads.{ReadsArchive};
 ghost use Rattle.hm_schema_text.specs.SchemaFiles.{ReadsSchema};
 ghost use Rattle.hm_files.specs.Steps.{Computes, Told};
-ghost use Rattle.hm_files.specs.Files.{bytes_of};
-ghost use Rattle.hm_run.specs.Reads.{ChecksText, ChecksMember, ReadsReplica, ReadsReplicas, ReadsFour, ReadsAll, schema_stop, archive_stop, replica_stop};
+ghost use Rattle.hm_files.specs.Files.{all_bytes};
+ghost use Rattle.hm_sides.specs.Sides.{seen, side_value, IsSide};
+ghost use Rattle.hm_run.specs.Handed.{handed};
+ghost use Rattle.hm_run.specs.Reads.{Serves, OpensView, OpensSides, OpensReplicas, ReadsSix, ReadsAll, sides_of, replicas_of, before_of, schema_stop, archive_stop};
 
-use hm_files::{ArchiveFault, FileFault, Refusal, ReplicaFault, Slot, Stop};
+use hm_files::{ArchiveFault, FileFault, Refusal, Slot, Stop};
+use hm_format::Format;
+use hm_replica::Replica;
 use hm_schema::Schema;
 use hm_schema_text::SchemaFault;
-use hm_tree::{Archive, Tree};
+use hm_sides::{Side, check_view, open_replica, open_side};
+use hm_text_lens::TextLens;
+use hm_tree::Archive;
 use hm_tree_text::TextFault;
 use std::alloc::Global;
 
-// The depth that is too great, where more than 1,000 braces are open.
-const TOO_DEEP: usize = 1001;
+/// The sides of both replicas.
+#[derive(Drop)]
+pub struct SidePair {
+    pub left: Side,
+    pub right: Side,
+}
 
-/// The schema, the archive and the two replicas that were read.
+/// Both replicas.
+#[derive(Drop)]
+pub struct ReplicaPair {
+    pub left: Replica,
+    pub right: Replica,
+}
+
+/// The schema, the sides, the archive and the replicas that were read.
 #[derive(Drop)]
 pub struct Inputs {
     pub schema: Schema,
+    pub sides: SidePair,
     pub archive: Archive,
-    pub left: Tree,
-    pub right: Tree,
+    pub replicas: ReplicaPair,
 }
 
 fn schema_stop(fault: SchemaFault) -> Stop
@@ -48,17 +64,6 @@ fn archive_stop(fault: TextFault) -> Stop
     Stop::Refused(Refusal::At(Slot::Archive, FileFault::BadArchive(fault)))
 }
 
-fn replica_stop(slot: Slot, fault: TextFault) -> Stop
-    ensures { result ≡ replica_stop slot fault }
-{
-    let fault = match fault {
-        TextFault::BadTree { at } => ReplicaFault::BadItem(at),
-        TextFault::TooDeep => ReplicaFault::TooDeep(TOO_DEEP),
-        TextFault::Memory => return Stop::Memory,
-    };
-    Stop::Refused(Refusal::At(slot, FileFault::BadReplica(fault)))
-}
-
 fn read_schema(alloc: Global, bytes: &[u8]) -> Result<Schema, Stop>
     ensures { Computes (Told schema_stop (ReadsSchema bytes.now)) result }
 {
@@ -77,92 +82,103 @@ fn read_archive(alloc: Global, bytes: &[u8]) -> Result<Archive, Stop>
     }
 }
 
-fn read_tree(alloc: Global, slot: Slot, bytes: &[u8]) -> Result<Tree, Stop>
-    ensures { Computes (Told (replica_stop slot) (ReadsTree bytes.now)) result }
-{
-    match hm_tree_text::read_tree(alloc, bytes) {
-        Ok(tree) => Ok(tree),
-        Err(fault) => Err(replica_stop(slot, fault)),
-    }
-}
-
-fn check_text(slot: Slot, bytes: &[u8]) -> Result<(), Stop>
-    ensures { Computes (ChecksText slot bytes.now) result }
-{
-    match std::str::from_utf8(bytes) {
-        Ok(_) => Ok(()),
-        Err(error) => Err(Stop::Refused(Refusal::At(
-            slot,
-            FileFault::BadReplica(ReplicaFault::NotUtf8(error.valid_up_to())),
-        ))),
-    }
-}
-
-fn check_member(alloc: Global, schema: &Schema, slot: Slot, tree: Tree) -> Result<Tree, Stop>
-    requires { HasNoTwins schema.now }
-    ensures { Computes (ChecksMember schema.now slot tree) result }
-{
-    match schema.first_outside(alloc, &tree)? {
-        None => Ok(tree),
-        Some(path) => Err(Stop::Refused(Refusal::At(
-            slot,
-            FileFault::BadReplica(ReplicaFault::Outside(path)),
-        ))),
-    }
-}
-
-fn read_replica(alloc: Global, schema: &Schema, slot: Slot, bytes: &[u8]) -> Result<Tree, Stop>
-    requires { HasNoTwins schema.now }
-    ensures { Computes (ReadsReplica schema.now slot bytes.now) result }
-{
-    check_text(slot, bytes)?;
-    let tree = read_tree(alloc, slot, bytes)?;
-    check_member(alloc, schema, slot, tree)
-}
-
-// Both replicas, the left one first.
-fn read_replicas(
+// The side of a lens file, whose view has to be the same as the schema.
+fn open_view(
     alloc: Global,
+    slot: Slot,
+    formats: &[Box<dyn Format>],
+    texts: &[Box<dyn TextLens>],
+    schema: &Schema,
+    bytes: &[u8],
+) -> Result<Side, Stop>
+    ensures { Computes (OpensView (handed (λ b. means b) formats.now (map (λ b. meaning b) texts.now)) schema.now slot bytes.now) (seen side_value result) }
+{
+    let side = open_side(alloc, slot, formats, texts, bytes)?;
+    check_view(alloc, slot, schema, &side)?;
+    Ok(side)
+}
+
+// Both sides, the left one first.
+fn open_sides(
+    alloc: Global,
+    formats: &[Box<dyn Format>],
+    texts: &[Box<dyn TextLens>],
     schema: &Schema,
     left: &[u8],
     right: &[u8],
-) -> Result<(Tree, Tree), Stop>
-    requires { HasNoTwins schema.now }
-    ensures { Computes (ReadsReplicas schema.now left.now right.now) result }
+) -> Result<SidePair, Stop>
+    ensures { Computes (OpensSides (handed (λ b. means b) formats.now (map (λ b. meaning b) texts.now)) schema.now left.now right.now) (seen sides_of result) }
 {
-    let left = read_replica(alloc, schema, Slot::A, left)?;
-    let right = read_replica(alloc, schema, Slot::B, right)?;
-    Ok((left, right))
+    let left = open_view(alloc, Slot::LensA, formats, texts, schema, left)?;
+    let right = open_view(alloc, Slot::LensB, formats, texts, schema, right)?;
+    Ok(SidePair { left, right })
 }
 
-fn read_four(
+// Both replicas, the left one first.
+fn open_replicas(
     alloc: Global,
-    schema: &[u8],
-    archive: &[u8],
-    left: &[u8],
-    right: &[u8],
-) -> Result<Inputs, Stop>
-    ensures { Computes (ReadsFour schema.now archive.now left.now right.now) result }
+    formats: &[Box<dyn Format>],
+    texts: &[Box<dyn TextLens>],
+    sides: &SidePair,
+    left: Vec<u8>,
+    right: Vec<u8>,
+) -> Result<ReplicaPair, Stop>
+    requires left { IsSide (λ b. means b) formats.now (map (λ b. meaning b) texts.now) (side_value sides.now.left) }
+    requires right { IsSide (λ b. means b) formats.now (map (λ b. meaning b) texts.now) (side_value sides.now.right) }
+    ensures { Computes (OpensReplicas (handed (λ b. means b) formats.now (map (λ b. meaning b) texts.now)) (sides_of sides.now) left.items right.items) (seen replicas_of result) }
 {
-    let schema = read_schema(alloc, schema)?;
-    let archive = read_archive(alloc, archive)?;
-    let (left, right) = read_replicas(alloc, &schema, left, right)?;
+    let left = open_replica(alloc, Slot::A, formats, texts, &sides.left, left)?;
+    let right = open_replica(alloc, Slot::B, formats, texts, &sides.right, right)?;
+    Ok(ReplicaPair { left, right })
+}
+
+// The values of the six files, by their bytes; those of the replicas are kept.
+fn read_six(
+    alloc: Global,
+    formats: &[Box<dyn Format>],
+    texts: &[Box<dyn TextLens>],
+    read: (&[u8], &[u8], &[u8], &[u8]),
+    left: Vec<u8>,
+    right: Vec<u8>,
+) -> Result<Inputs, Stop>
+    ensures { Computes (ReadsSix (handed (λ b. means b) formats.now (map (λ b. meaning b) texts.now)) read.entry.0.now read.entry.1.now read.entry.2.now read.entry.3.now left.items right.items) (seen before_of result) }
+{
+    let schema = read_schema(alloc, read.0)?;
+    let sides = open_sides(alloc, formats, texts, &schema, read.1, read.2)?;
+    let archive = read_archive(alloc, read.3)?;
+    let replicas = open_replicas(alloc, formats, texts, &sides, left, right)?;
     Ok(Inputs {
         schema,
+        sides,
         archive,
-        left,
-        right,
+        replicas,
     })
 }
 
-/// The values of the four files, by their bytes in the order of their slots, or the first stop.
-#[tactic(auto, unfolding(crate::specs::Reads::ReadsAll))]
-pub fn read_all(alloc: Global, loads: &[Vec<u8>]) -> Result<Inputs, Stop>
-    requires { length loads.now ≡ 4 }
-    ensures { Computes (ReadsAll (map bytes_of loads.now)) result }
+/// The values of the six files, by their bytes in the order of their slots, or the first stop.
+pub fn read_all(
+    alloc: Global,
+    formats: &[Box<dyn Format>],
+    texts: &[Box<dyn TextLens>],
+    mut loads: Vec<Vec<u8>>,
+) -> Result<Inputs, Stop>
+    requires { length loads.items ≡ 6 }
+    ensures { Computes (ReadsAll (handed (λ b. means b) formats.now (map (λ b. meaning b) texts.now)) (all_bytes loads)) (seen before_of result) }
 {
-    let [schema, archive, left, right] = loads else {
+    let Some(right) = loads.pop() else {
         unreachable!();
     };
-    read_four(alloc, schema, archive, left, right)
+    let Some(left) = loads.pop() else {
+        unreachable!();
+    };
+    let [schema, lens_a, lens_b, archive] = loads.as_slice() else {
+        unreachable!();
+    };
+    let read = (
+        schema.as_slice(),
+        lens_a.as_slice(),
+        lens_b.as_slice(),
+        archive.as_slice(),
+    );
+    read_six(alloc, formats, texts, read, left, right)
 }

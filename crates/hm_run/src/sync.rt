@@ -1,24 +1,33 @@
 //! The top call.
-ghost use Rattle.std.specs.Prelude.{◌≡◌, ◌⊎◌, Some};
+ghost use Rattle.std.specs.Prelude.{◌≡◌, ◌⊎◌, Some, map};
 ghost use Rattle.hm_files.specs.Steps.{WhereTold};
 ghost use Rattle.hm_command.specs.declared.ending.Ending.{Ending as EndingOf};
-ghost use Rattle.hm_command.specs.Words.{meaning};
+ghost use Rattle.hm_command.specs.Words.{meaning as word_meaning};
 ghost use Rattle.hm_command.specs.Lines.{status_of};
+ghost use Rattle.hm_run.specs.Handed.{handed};
 ghost use Rattle.hm_run.specs.Endings.{Works, HasPut, EndsAs, IsSynchronised, IsReported, IsComplete};
 
 use crate::work::synchronise;
 use hm_command::{Ending, Output, files_of, line_of, status_of};
 use hm_files::Stop;
+use hm_format::Format;
 use hm_outside::{Put, Sink, Store};
+use hm_text_lens::TextLens;
 use hm_tree::Name;
 use std::alloc::Global;
 
 // What the words mean is carried out.
-fn work<S: Store>(alloc: Global, words: &[Name], store: &mut S) -> Result<Output, Stop>
-    ensures { Works (meaning words.now) (S.contents store.old) (S.contents store.new) (S.failed store.old) (S.failed store.new) result }
+fn work<S: Store>(
+    alloc: Global,
+    words: &[Name],
+    store: &mut S,
+    formats: &[Box<dyn Format>],
+    texts: &[Box<dyn TextLens>],
+) -> Result<Output, Stop>
+    ensures { Works (handed (λ b. means b) formats.now (map (λ b. meaning b) texts.now)) (word_meaning words.now) (S.contents store.old) (S.contents store.new) (S.failed store.old) (S.failed store.new) result }
 {
     match files_of(words) {
-        Ok(files) => synchronise(alloc, store, files),
+        Ok(files) => synchronise(alloc, store, files, formats, texts),
         Err(refusal) => Err(Stop::Refused(refusal)),
     }
 }
@@ -37,28 +46,37 @@ fn put_output<K: Sink>(alloc: Global, work: &Result<Output, Stop>, out: &mut K) 
     }
 }
 
-/// Synchronises the files that the words name, puts out the conflicts that remain or the line of a refusal, and answers
-/// the exit status.
-pub fn run<S: Store, K: Sink>(alloc: Global, words: &[Name], store: &mut S, out: &mut K) -> u8
+/// Synchronises the files that the words name, each through the side of its lens file, puts out the conflicts that remain or
+/// the line of a refusal, and answers the exit status. Lens files name the formats and the text lenses that are handed in; of
+/// formats of one tag, and of text lenses of one name, the first counts.
+pub fn run<S: Store, K: Sink>(
+    alloc: Global,
+    words: &[Name],
+    store: &mut S,
+    out: &mut K,
+    formats: &[Box<dyn Format>],
+    texts: &[Box<dyn TextLens>],
+) -> u8
     // How each run ends: why, what it leaves in the store, what it puts out, and that no failed call is passed over.
-    ensures ends { (ending : EndingOf) × (result ≡ status_of ending) × EndsAs ending words.now
+    ensures ends { (ending : EndingOf) × (result ≡ status_of ending) × EndsAs (handed (λ b. means b) formats.now (map (λ b. meaning b) texts.now)) ending words.now
         (record { contents = S.contents store.old; failed = S.failed store.old; written = K.written out.old; faults = K.faults out.old })
         (record { contents = S.contents store.new; failed = S.failed store.new; written = K.written out.new; faults = K.faults out.new }) }
 
-    // After 0 and 1 the three files have the new texts, and these hold the one best safe result of what was read.
-    ensures synchronised { (result ≡ 0) ⊎ (result ≡ 1) → WhereTold (S.contents store.old) (λ c. IsSynchronised words.now c result (S.contents store.new)) }
+    // After 0 and 1 the three files have the new texts: both replicas are read, through their formats and lenses, as the new views,
+    // with what is hidden kept, and with the archive these are the one best safe result of what was read.
+    ensures synchronised { (result ≡ 0) ⊎ (result ≡ 1) → WhereTold (S.contents store.old) (λ c. IsSynchronised (handed (λ b. means b) formats.now (map (λ b. meaning b) texts.now)) words.now c result (S.contents store.new)) }
 
     // After 0 and 1 the conflicts that remain are put out, and each difference that is left has its own.
-    ensures reported { (result ≡ 0) ⊎ (result ≡ 1) → WhereTold (S.contents store.old) (λ c. WhereTold (K.written out.old) (λ w. IsReported words.now c w result (K.written out.new))) }
+    ensures reported { (result ≡ 0) ⊎ (result ≡ 1) → WhereTold (S.contents store.old) (λ c. WhereTold (K.written out.old) (λ w. IsReported (handed (λ b. means b) formats.now (map (λ b. meaning b) texts.now)) words.now c w result (K.written out.new))) }
 
     // Refused input changes no file.
     ensures refused { (result ≡ 2) ⊎ (result ≡ 3) → WhereTold (S.contents store.old) (λ c. S.contents store.new ≡ Some c) }
 
     // Where nothing outside fails, what can be synchronised is, and what is refused is refused for this cause,
     // unless memory runs out.
-    ensures complete { S.failed store.new ≡ S.failed store.old → K.faults out.new ≡ K.faults out.old → WhereTold (S.contents store.old) (λ c. IsComplete words.now c result (S.contents store.new)) }
+    ensures complete { S.failed store.new ≡ S.failed store.old → K.faults out.new ≡ K.faults out.old → WhereTold (S.contents store.old) (λ c. IsComplete (handed (λ b. means b) formats.now (map (λ b. meaning b) texts.now)) words.now c result (S.contents store.new)) }
 {
-    let work = work(alloc, words, store);
+    let work = work(alloc, words, store, formats, texts);
     let put = put_output(alloc, &work, out);
     status_of(&Ending { work, put })
 }

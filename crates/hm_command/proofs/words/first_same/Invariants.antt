@@ -1,10 +1,10 @@
 use Rattle.std.proofs.Common.{◌≡◌, drop, find, map}
 use Rattle.hm_files.specs.Files.{file_of}
-use Rattle.hm_command.specs.Words.{has_name_of}
+use Rattle.hm_command.specs.Words.{clash}
 use Rattle.hm_command.proofs.words.first_same.Given as goal
 
 -- those that are left decide
 abbrev pub invariant-loop-other : goal.invariant-loop-other
 invariant-loop-other l =
-    find (has_name_of (file_of l.file)) (map file_of (drop l.other-index l.others))
-    ≡ find (has_name_of (file_of l.file)) (map file_of l.others)
+    find (clash (file_of l.file)) (map file_of (drop l.other-index l.others))
+    ≡ find (clash (file_of l.file)) (map file_of l.others)

@@ -1,10 +1,14 @@
+use Rattle.std.proofs.Common.{map}
 use Rattle.hm_command.specs.declared.ending.Ending.{Ending}
+use Rattle.hm_run.specs.Handed.{Handed, handed}
 use Rattle.hm_run.specs.Endings.{Outside, EndsAs}
 use Rattle.hm_run.proofs.Relied.{relied}
 use Rattle.hm_run.proofs.sync.run.Goals as goal
 
 pub returns : goal.returns
 returns g c =
+    let hand : Handed = (handed (λ b. (goal.Format-dyn g (b.vtable, b.value)).means b.value) c.args.formats.now
+    (map (λ b. (goal.TextLens-dyn g (b.vtable, b.value)).meaning b.value) c.args.texts.now)) in
     let before : Outside = record {
       contents = g.S.Store.contents c.args.store.now;
       failed = g.S.Store.failed c.args.store.now;
@@ -18,8 +22,8 @@ returns g c =
       faults = g.K.Sink.faults c.put_output-put.new.out;
     } in
     let ending : Ending = record { work = c.work-work.result; put = c.put_output-put.result } in
-    let so : EndsAs ending c.args.words.now before after = record { works = c.work-work.ensures; puts = c.put_output-put.ensures } in
-    let all = relied ending c.args.words.now before after c.status_of.result c.status_of.ensures so in record {
+    let so : EndsAs hand ending c.args.words.now before after = record { works = c.work-work.ensures; puts = c.put_output-put.ensures } in
+    let all = relied hand ending c.args.words.now before after c.status_of.result c.status_of.ensures so in record {
       ends = (ending, c.status_of.ensures, so);
       synchronised = all.synchronised;
       reported = all.reported;

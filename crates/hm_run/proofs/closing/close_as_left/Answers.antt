@@ -1,0 +1,24 @@
+use Rattle.std.proofs.Common.{refl, rules, ◌∙◌}
+use Rattle.hm_files.proofs.Steps.{then_go}
+use Rattle.hm_files.specs.declared.slot.Slot.TheVariants.{A}
+use Rattle.hm_run.specs.Verdict.{Closes, new_texts}
+use Rattle.hm_run.proofs.Seeing.{stopped_seen}
+use Rattle.hm_run.proofs.Making.{closed, stays_closed, view_text}
+use Rattle.hm_run.proofs.closing.close_as_left.Goals as goal
+
+pub returns-in_err-right-clause-closes : goal.returns-in_err-right-clause-closes
+unfolding Closes
+returns-in_err-right-clause-closes g c = then_go _ _ _ _ (stays_closed _ _ _ A c.requires.left)
+    (stopped_seen _ _ new_texts c.in_err-right.field-0.0 c.from_residual-in_err-right.result (search rules) c.in_err-right.ensures)
+
+pub returns-in_err-fits-clause-closes : goal.returns-in_err-fits-clause-closes
+unfolding Closes
+returns-in_err-fits-clause-closes g c = then_go _ _ _ _ (stays_closed _ _ _ A c.requires.left) (then_go _ _ _ _ c.in_ok-right.ensures.0
+    (stopped_seen _ _ new_texts c.in_err-fits.field-0.0 c.from_residual-in_err-fits.result (search rules) c.in_err-fits.ensures))
+
+pub returns-clause-closes : goal.returns-clause-closes
+returns-clause-closes g c = (
+  closed _ _ _ _ (record { archive = c.in_ok-archive.archive; left = c.args.replicas.left.bytes; right = c.in_ok-right.right; output = c.in_ok-output_of.field-0 })
+      (stays_closed _ _ _ A c.requires.left) c.in_ok-right.ensures.0 c.in_ok-fits.ensures.0 (c.in_ok-archive.ensures.value ∙ view_text _),
+  refl,
+)

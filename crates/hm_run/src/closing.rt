@@ -1,0 +1,208 @@
+//! Closing both replicas with what their views become, and the archive.
+ghost use Rattle.std.specs.Prelude.{◌≡◌, ◌≤◌, [], Some, IfOk, map};
+ghost use Rattle.hm_tree.specs.Archives.{depth_here, recorded};
+ghost use Rattle.hm_tree_text.specs.Text.{archive_text};
+ghost use Rattle.hm_files.specs.declared.slot.Slot.TheVariants as slot;
+ghost use Rattle.hm_files.specs.declared.stop.FileFault.TheVariants.{Unwritable};
+ghost use Rattle.hm_files.specs.declared.stop.Refusal.TheVariants.{At};
+ghost use Rattle.hm_files.specs.declared.stop.Stop.TheVariants.{Refused};
+ghost use Rattle.hm_files.specs.Steps.{Computes};
+ghost use Rattle.hm_replica.specs.Replicas.{replica_value};
+ghost use Rattle.hm_sides.specs.Sides.{seen, side_value};
+ghost use Rattle.hm_run.specs.Handed.{handed};
+ghost use Rattle.hm_run.specs.Reads.{sides_of, replicas_of, MayClose};
+ghost use Rattle.hm_run.specs.Verdict.{all_as, Tells, new_texts, archive_fits, Closes, outcome_of};
+
+use crate::read::{ReplicaPair, SidePair};
+use hm_command::Output;
+use hm_files::{FileFault, Refusal, Slot, Stop};
+use hm_format::Format;
+use hm_replica::Replica;
+use hm_report::{Conflict, Outcome, write_report};
+use hm_sides::close_replica;
+use hm_text_lens::TextLens;
+use hm_tree::{Archive, Memory, Tree};
+use hm_tree_text::{write_archive, write_tree};
+use std::alloc::Global;
+
+// The greatest depth of an archive that is written.
+const DEEPEST: usize = 1000;
+
+/// What the three files are to hold, and what is to be said of the conflicts that remain.
+#[derive(Drop)]
+pub struct NewTexts {
+    pub archive: Vec<u8>,
+    pub left: Vec<u8>,
+    pub right: Vec<u8>,
+    pub output: Output,
+}
+
+fn output_of(alloc: Global, conflicts: &[Conflict]) -> Result<Output, Memory>
+    ensures { IfOk result (Tells conflicts.now) }
+{
+    Ok(Output {
+        status: u8::from(conflicts.len() > 0),
+        text: write_report(alloc, conflicts)?,
+    })
+}
+
+// How many edges of an archive lie one below another, of which a bound is known.
+fn depth_of(archive: &Archive, bound: usize) -> usize
+    requires { depth_here archive.now ≤ bound }
+    ensures { result ≡ depth_here archive.now }
+{
+    let mut deep = 0;
+    for place in 0..archive.count() {
+        deep = deep.max(depth_of(archive.edge(place).1, bound - 1) + 1);
+    }
+    deep
+}
+
+fn too_deep(depth: usize) -> Stop
+    ensures { result ≡ Refused (At slot.Archive (Unwritable depth)) }
+{
+    Stop::Refused(Refusal::At(Slot::Archive, FileFault::Unwritable(depth)))
+}
+
+// Whether an archive may be written, of whose depth a bound is known.
+fn check_depth(archive: &Archive, bound: usize) -> Result<(), Stop>
+    requires { depth_here archive.now ≤ bound }
+    ensures { Computes (λ found. found ≡ archive_fits archive.now) result }
+{
+    if bound <= DEEPEST {
+        return Ok(());
+    }
+    let depth = depth_of(archive, bound);
+    if depth > DEEPEST {
+        return Err(too_deep(depth));
+    }
+    Ok(())
+}
+
+// The text of an archive, which isn't needed behind it.
+fn text_of(alloc: Global, archive: Archive) -> Result<Vec<u8>, Memory>
+    ensures { IfOk result (λ text. text.items ≡ archive_text archive) }
+{
+    write_archive(alloc, &archive)
+}
+
+/// The texts of an outcome, of the depth of whose archive a bound is known.
+pub fn close(
+    alloc: Global,
+    formats: &[Box<dyn Format>],
+    texts: &[Box<dyn TextLens>],
+    sides: &SidePair,
+    replicas: ReplicaPair,
+    outcome: Outcome,
+    bound: usize,
+) -> Result<NewTexts, Stop>
+    requires left { MayClose (handed (λ b. means b) formats.now (map (λ b. meaning b) texts.now)) (side_value sides.now.left) (replica_value replicas.left) outcome.left }
+    requires right { MayClose (handed (λ b. means b) formats.now (map (λ b. meaning b) texts.now)) (side_value sides.now.right) (replica_value replicas.right) outcome.right }
+    requires bound { depth_here outcome.archive ≤ bound }
+    ensures closes { Computes (Closes (handed (λ b. means b) formats.now (map (λ b. meaning b) texts.now)) (sides_of sides.now) (replicas_of replicas) (outcome_of outcome)) (seen new_texts result) }
+    ensures tells { IfOk result (λ made. Tells outcome.conflicts.items made.output) }
+{
+    let fits = check_depth(&outcome.archive, bound);
+    let archive = text_of(alloc, outcome.archive)?;
+    let left = close_replica(
+        alloc,
+        Slot::A,
+        formats,
+        texts,
+        &sides.left,
+        replicas.left,
+        outcome.left,
+    )?;
+    let right = close_replica(
+        alloc,
+        Slot::B,
+        formats,
+        texts,
+        &sides.right,
+        replicas.right,
+        outcome.right,
+    )?;
+    fits?;
+    Ok(NewTexts {
+        archive,
+        left,
+        right,
+        output: output_of(alloc, &outcome.conflicts)?,
+    })
+}
+
+// Whether an archive that holds a view may be written.
+#[tactic(auto, using(crate::proofs::ArchiveDepths::view_fits))]
+fn check_view(view: &Tree) -> Result<(), Stop>
+    ensures { Computes (λ found. found ≡ archive_fits (Some (recorded view.now))) result }
+{
+    let depth = view.depth();
+    if depth > DEEPEST {
+        return Err(too_deep(depth));
+    }
+    Ok(())
+}
+
+/// The texts where all three become as the right view. The bytes of the right replica stay.
+pub fn close_as_right(
+    alloc: Global,
+    formats: &[Box<dyn Format>],
+    texts: &[Box<dyn TextLens>],
+    sides: &SidePair,
+    replicas: ReplicaPair,
+) -> Result<NewTexts, Stop>
+    requires left { MayClose (handed (λ b. means b) formats.now (map (λ b. meaning b) texts.now)) (side_value sides.now.left) (replica_value replicas.left) replicas.right.view }
+    requires right { MayClose (handed (λ b. means b) formats.now (map (λ b. meaning b) texts.now)) (side_value sides.now.right) (replica_value replicas.right) replicas.right.view }
+    ensures closes { Computes (Closes (handed (λ b. means b) formats.now (map (λ b. meaning b) texts.now)) (sides_of sides.now) (replicas_of replicas) (all_as replicas.right.view)) (seen new_texts result) }
+    ensures tells { IfOk result (λ made. Tells [] made.output) }
+{
+    let ReplicaPair { left, right } = replicas;
+    let Replica {
+        bytes,
+        concrete,
+        view,
+    } = right;
+    drop(concrete);
+    let fits = check_view(&view);
+    let archive = write_tree(alloc, &view)?;
+    let left = close_replica(alloc, Slot::A, formats, texts, &sides.left, left, view)?;
+    fits?;
+    Ok(NewTexts {
+        archive,
+        left,
+        right: bytes,
+        output: output_of(alloc, &[])?,
+    })
+}
+
+/// The same with the sides exchanged.
+pub fn close_as_left(
+    alloc: Global,
+    formats: &[Box<dyn Format>],
+    texts: &[Box<dyn TextLens>],
+    sides: &SidePair,
+    replicas: ReplicaPair,
+) -> Result<NewTexts, Stop>
+    requires left { MayClose (handed (λ b. means b) formats.now (map (λ b. meaning b) texts.now)) (side_value sides.now.left) (replica_value replicas.left) replicas.left.view }
+    requires right { MayClose (handed (λ b. means b) formats.now (map (λ b. meaning b) texts.now)) (side_value sides.now.right) (replica_value replicas.right) replicas.left.view }
+    ensures closes { Computes (Closes (handed (λ b. means b) formats.now (map (λ b. meaning b) texts.now)) (sides_of sides.now) (replicas_of replicas) (all_as replicas.left.view)) (seen new_texts result) }
+    ensures tells { IfOk result (λ made. Tells [] made.output) }
+{
+    let ReplicaPair { left, right } = replicas;
+    let Replica {
+        bytes,
+        concrete,
+        view,
+    } = left;
+    drop(concrete);
+    let fits = check_view(&view);
+    let archive = write_tree(alloc, &view)?;
+    let right = close_replica(alloc, Slot::B, formats, texts, &sides.right, right, view)?;
+    fits?;
+    Ok(NewTexts {
+        archive,
+        left: bytes,
+        right,
+        output: output_of(alloc, &[])?,
+    })
+}
