@@ -1,0 +1,4 @@
+pub mod Lines
+pub mod Rewriting
+pub mod Lent
+pub mod Examples
