@@ -17,7 +17,7 @@ use Rattle.hm_tree.specs.Edges.{rank}
 use Rattle.hm_tree.proofs.Sorted.{name_total, name_one, rises, back_less, not_None}
 use Rattle.hm_items.specs.Items.{of_key, below_key, survivor, kept, fresh, added}
 use Rattle.std.proofs.lemmas.List.Elements.{All-push}
-use Rattle.hm_items.specs.Plans.{numbered, places, slots_of, IsWithin, AreWithin, AreCounts, past, past_at, next_survivor}
+use Rattle.hm_items.specs.Plans.{numbered, places, slots_of, IsWithin, AreWithin, AreCounts, past, past_at, place_for, next_survivor, IsPlaceUnder}
 use Rattle.hm_items.specs.declared.planned.Slot.{Slot}
 use Rattle.hm_items.proofs.ReadBack.{of_key-append, absent}
 
@@ -215,29 +215,35 @@ past_all wanted edge count place n =
     let z : 0 + count ≡ count = omega arith in
     ap (λ m. fresh name_cmp e.0 (range_with_len count m)) n ∙ ap (λ b. fresh name_cmp e.0 (range_with_len b (e.1 - count))) (sym z) ∙ ap (λ l. fresh name_cmp e.0 l) (sym (drop_range 0 e.1 count))
 
--- the slot of the next old item
-module _ (wanted : List (Name × ℕ)) (h : T (is_sorted name_cmp wanted)) (keys : List Name) (k : Name) (item : ℕ) (counts : List ℕ) (are : AreCounts wanted keys counts) where
-  pub survives : (i n : ℕ) → i ≡ rank k wanted → i < length wanted → find name_cmp k wanted ≡ Some n → (slots after : List Slot) (at : ℕ) → at ≡ get_or counts i 0 → at < n
-      → after ≡ slots ++ record { edge = i; from = Some item; place = at } ∷ []
+-- the place of the next old item
+module _ (wanted : List (Name × ℕ)) (h : T (is_sorted name_cmp wanted)) (keys : List Name) (k : Name) (counts : List ℕ) (are : AreCounts wanted keys counts) where
+  module _ (i n : ℕ) (place : i ≡ rank k wanted) (low : i < length wanted) (f : find name_cmp k wanted ≡ Some n) (at : ℕ) (is : at ≡ get_or counts i 0) where
+    counted_is : counted k keys ≡ at
+    counted_is = sym (is ∙ are.each i low ∙ ap (λ q. counted q keys) (name_at k wanted i n ([], 0) h place f))
+
+    place_is : place_for wanted keys k ≡ slice_get (range_with_len 0 n) at
+    place_is = ap (λ l. slice_get l (counted k keys)) (under k wanted n f) ∙ ap (λ m. slice_get (range_with_len 0 n) m) counted_is
+
+    pub survives : at < n → Some at ≡ place_for wanted keys k
+    survives lt = sym (place_is ∙ in_range 0 n at lt ∙ ap Some (let z : 0 + at ≡ at = omega arith in z))
+
+    pub falls_out : n ≤ at → None ≡ place_for wanted keys k
+    falls_out le = sym (place_is ∙ past_range 0 n at le)
+
+  pub no_place : find name_cmp k wanted ≡ None → None ≡ place_for wanted keys k
+  no_place f = ap (λ l. slice_get l (counted k keys)) (sym (not_under k wanted f))
+
+-- and its slot
+module _ (wanted : List (Name × ℕ)) (keys : List Name) (k : Name) (item : ℕ) where
+  pub slot_more : (edge place : ℕ) → IsPlaceUnder wanted k edge place → Some place ≡ place_for wanted keys k → (slots after : List Slot)
+      → after ≡ slots ++ record { edge = edge; from = Some item; place = place } ∷ []
       → slots_of wanted after ≡ slots_of wanted slots ++ next_survivor wanted keys k item
-  survives i n place low f slots after at is lt made =
-      let name = name_at k wanted i n ([], 0) h place f in
-      let c : counted k keys ≡ at = sym (is ∙ are.each i low ∙ ap (λ q. counted q keys) name) in
-      let there : slice_get (below_key name_cmp k (places wanted)) (counted k keys) ≡ Some at =
-      ap (λ l. slice_get l (counted k keys)) (under k wanted n f) ∙ ap (λ m. slice_get (range_with_len 0 n) m) c ∙ in_range 0 n at lt ∙ ap Some (let z : 0 + at ≡ at = omega arith in z) in
-      ap (slots_of wanted) made ∙ slots_of-append wanted slots _ ∙ ap (λ q. slots_of wanted slots ++ (q, Some item, at) ∷ []) name ∙ ap (λ o. slots_of wanted slots ++ survivor name_cmp (k, item) o) (sym there)
+  slot_more edge place is found slots after made =
+      ap (slots_of wanted) made ∙ slots_of-append wanted slots _ ∙ ap (λ q. slots_of wanted slots ++ (q, Some item, place) ∷ []) is.key_is
+      ∙ ap (λ o. slots_of wanted slots ++ survivor name_cmp (k, item) o) found
 
-  pub falls_out : (i n : ℕ) → i ≡ rank k wanted → i < length wanted → find name_cmp k wanted ≡ Some n → (slots : List Slot) (at : ℕ) → at ≡ get_or counts i 0 → n ≤ at → slots_of wanted slots ≡ slots_of wanted slots ++ next_survivor wanted keys k item
-  falls_out i n place low f slots p is le =
-      let name = name_at k wanted i n ([], 0) h place f in
-      let c : get_or counts i 0 ≡ counted k keys = are.each i low ∙ ap (λ q. counted q keys) name in
-      let at : slice_get (below_key name_cmp k (places wanted)) (counted k keys) ≡ None =
-      ap (λ l. slice_get l (counted k keys)) (under k wanted n f) ∙ ap (λ m. slice_get (range_with_len 0 n) m) (sym c) ∙ past_range 0 n (get_or counts i 0) (subst (λ q. n ≤ q) is le) in
-      sym (append-nil (slots_of wanted slots)) ∙ ap (λ o. slots_of wanted slots ++ survivor name_cmp (k, item) o) (sym at)
-
-  pub no_place : find name_cmp k wanted ≡ None → (slots : List Slot) → slots_of wanted slots ≡ slots_of wanted slots ++ next_survivor wanted keys k item
-  no_place f slots =
-      sym (append-nil (slots_of wanted slots)) ∙ ap (λ l. slots_of wanted slots ++ survivor name_cmp (k, item) (slice_get l (counted k keys))) (sym (not_under k wanted f))
+  pub no_slot : None ≡ place_for wanted keys k → (slots : List Slot) → slots_of wanted slots ≡ slots_of wanted slots ++ next_survivor wanted keys k item
+  no_slot none slots = sym (append-nil (slots_of wanted slots)) ∙ ap (λ o. slots_of wanted slots ++ survivor name_cmp (k, item) o) none
 
 -- a key more
 pub kept_more : (wanted : List (Name × ℕ)) (keys : List Name) (k : Name) → kept name_cmp (places wanted) [] (numbered 0 (keys ++ k ∷ [])) ≡ kept name_cmp (places wanted) [] (numbered 0 keys) ++ next_survivor wanted keys k (length keys)

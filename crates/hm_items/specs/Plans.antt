@@ -1,5 +1,5 @@
 -- Items as numbers: an old item by where it stands in its file, a new one by its place under its key.
-use Rattle.std.specs.Prelude.{◌≡◌, ℕ, ◌+◌, ◌<◌, All, IfSome, List, [], ◌∷◌, ◌++◌, length, get_or, slice_get, Option, drop}
+use Rattle.std.specs.Prelude.{◌≡◌, ℕ, ◌+◌, ◌<◌, All, IfSome, List, [], ◌∷◌, ◌++◌, length, get_or, slice_get, map, Option, drop}
 use Rattle.std.specs.List.{range_with_len}
 use Rattle.hm_tree.specs.Names.{Name, name_cmp}
 use Rattle.hm_items.specs.Items.{of_key, below_key, survivor, fresh}
@@ -14,6 +14,13 @@ numbered i (k ∷ ks) = (k, i) ∷ numbered (i + 1) ks
 abbrev pub places : List (Name × ℕ) → List (Name × List ℕ)
 places [] = []
 places (e ∷ es) = (e.0, range_with_len 0 e.1) ∷ places es
+
+-- the keys of items, and how many there are to be with each key of a tree
+abbrev pub keys_of : {C : Type 0} → List (Name × C) → List Name
+keys_of items = map (λ x. x.0) items
+
+abbrev pub wanted_of : {A : Type 0} → List (Name × List A) → List (Name × ℕ)
+wanted_of tree = map (λ e. (e.0, length e.1)) tree
 
 -- what a slot says
 abbrev pub slots_of : List (Name × ℕ) → List Slot → List (Name × Option ℕ × ℕ)
@@ -40,9 +47,19 @@ past [] counts = []
 past (e ∷ es) [] = []
 past (e ∷ es) (c ∷ cs) = fresh name_cmp e.0 (drop c (range_with_len 0 e.1)) ++ past es cs
 
+-- the place of an item behind items with these keys: how many of them have its key, if there are more places under it
+abbrev pub place_for : List (Name × ℕ) → List Name → Name → Option ℕ
+place_for wanted keys k = slice_get (below_key name_cmp k (places wanted)) (length (of_key name_cmp k (numbered 0 keys)))
+
 -- the slot of an item behind items with these keys, if it survives
 abbrev pub next_survivor : List (Name × ℕ) → List Name → Name → ℕ → List (Name × Option ℕ × ℕ)
-next_survivor wanted keys k item = survivor name_cmp (k, item) (slice_get (below_key name_cmp k (places wanted)) (length (of_key name_cmp k (numbered 0 keys))))
+next_survivor wanted keys k item = survivor name_cmp (k, item) (place_for wanted keys k)
+
+-- an edge is that of a key, and this is one of its places
+pub record IsPlaceUnder (wanted : List (Name × ℕ)) (k : Name) (edge place : ℕ) : Type 0 where
+  pub among : edge < length wanted
+  pub key_is : (get_or wanted edge ([], 0)).0 ≡ k
+  pub within : place < (get_or wanted edge ([], 0)).1
 
 -- the places of one edge past a count
 abbrev pub past_at : List (Name × ℕ) → ℕ → ℕ → List (Name × Option ℕ × ℕ)

@@ -5,7 +5,7 @@
 //! new list at that key is long enough; survivors keep their order, and new items stand behind them, by key and then by
 //! place. What is written so reads back as the new tree, and a file whose tree stays has its items as they are
 //! (`proofs/ReadBack`); a format that writes single items lawfully therefore writes files lawfully (`proofs/Fitting`).
-//! `plan` tells all this by numbers, for any format.
+//! `plan` tells all this by numbers, for any format, and `next_place` of one old item after another.
 #![tactic(auto)]
 
 mod planned;
@@ -13,4 +13,4 @@ mod planned;
 mod tests;
 mod wanted;
 
-pub use planned::{Slot, plan};
+pub use planned::{Slot, next_place, no_counts, plan};

@@ -1,10 +1,11 @@
 //! Which items of an old file survive where a new tree is written over it, and which are new.
-ghost use Rattle.std.specs.Prelude.{◌≡◌, ◌++◌, ◌∷◌, ℕ, List, ◌<◌, T, IfOk, OnOk, [], length};
+ghost use Rattle.std.specs.Prelude.{◌≡◌, ◌++◌, ◌∷◌, ℕ, List, ◌<◌, T, IfOk, IfSome, OnOk, [], length};
+ghost use Rattle.std.specs.Option.{option_map};
 ghost use Rattle.std.specs.FinMap.{is_sorted};
 ghost use Rattle.hm_tree.specs.Names.{Name as NameValue, name_cmp};
 ghost use Rattle.hm_items.specs.Items.{IsRewritten, kept};
 ghost use Rattle.hm_items.specs.Lent.{lent_counts};
-ghost use Rattle.hm_items.specs.Plans.{numbered, places, slots_of, AreCounts, AreWithin, past, past_at, next_survivor};
+ghost use Rattle.hm_items.specs.Plans.{numbered, places, slots_of, AreCounts, AreWithin, past, past_at, next_survivor, place_for, IsPlaceUnder};
 
 use crate::wanted::{count_at, place_of};
 use hm_tree::{Memory, Name};
@@ -28,7 +29,7 @@ pub fn plan(alloc: Global, keys: &[Name], wanted: &[(&Name, usize)]) -> Result<V
     ensures within { IfOk result (λ slots. AreWithin (lent_counts wanted.now) (length keys.now) slots.items) }
     ensures plan { IfOk result (λ slots. IsRewritten name_cmp (numbered 0 keys.now) (places (lent_counts wanted.now)) (slots_of (lent_counts wanted.now) slots.items)) }
 {
-    let mut counts = vec![in alloc; 0; wanted.len()]?;
+    let mut counts = no_counts(alloc, wanted)?;
     let mut slots = Vec::new(alloc);
     survivors(keys, wanted, &mut counts, &mut slots)?;
     newcomers(wanted, &counts, &mut slots)?;
@@ -55,6 +56,13 @@ fn survivors(
     Ok(())
 }
 
+/// How many old items have each key, before the first one.
+pub fn no_counts(alloc: Global, wanted: &[(&Name, usize)]) -> Result<Vec<usize>, Memory>
+    ensures { IfOk result (λ counts. AreCounts (lent_counts wanted.now) [] counts.items) }
+{
+    Ok(vec![in alloc; 0; wanted.len()]?)
+}
+
 // The next old item: it survives where the tree has something at its place.
 fn visit(
     wanted: &[(&Name, usize)],
@@ -69,6 +77,29 @@ fn visit(
     ensures slots { OnOk result ((keys : List NameValue) → AreCounts (lent_counts wanted.now) keys counts.old.items → slots_of (lent_counts wanted.now) slots.new.items ≡ slots_of (lent_counts wanted.now) slots.old.items ++ next_survivor (lent_counts wanted.now) keys key.now item) }
     ensures within { OnOk result ((count : ℕ) → item < count → AreWithin (lent_counts wanted.now) count slots.old.items → AreWithin (lent_counts wanted.now) count slots.new.items) }
 {
+    if let Some((edge, place)) = next_place(wanted, key, counts)? {
+        slots.push(Slot {
+            edge,
+            from: Some(item),
+            place,
+        })?;
+    }
+    Ok(())
+}
+
+/// Where the next old item survives, by its key, behind others that were counted: where its key stands among those of the new
+/// tree, and its place in the list there. None where the list is too short, or where there is none. The item is counted.
+pub fn next_place(
+    wanted: &[(&Name, usize)],
+    key: &Name,
+    counts: &mut Vec<usize>,
+) -> Result<Option<(usize, usize)>, Memory>
+    requires sorted { T (is_sorted name_cmp (lent_counts wanted.now)) }
+    requires counts { length counts.old.items ≡ length (lent_counts wanted.now) }
+    ensures counts { OnOk result ((keys : List NameValue) → AreCounts (lent_counts wanted.now) keys counts.old.items → AreCounts (lent_counts wanted.now) (keys ++ key.now ∷ []) counts.new.items) }
+    ensures place { IfOk result (λ found. (keys : List NameValue) → AreCounts (lent_counts wanted.now) keys counts.old.items → option_map (λ p. p.1) found ≡ place_for (lent_counts wanted.now) keys key.now) }
+    ensures edge { IfOk result (λ found. IfSome found (λ p. IsPlaceUnder (lent_counts wanted.now) key.now p.0 p.1)) }
+{
     if let Ok(edge) = place_of(wanted, key) {
         let place = counts[edge];
         let Some(after) = place.checked_add(1) else {
@@ -76,14 +107,10 @@ fn visit(
         };
         counts[edge] = after;
         if place < count_at(wanted, edge) {
-            slots.push(Slot {
-                edge,
-                from: Some(item),
-                place,
-            })?;
+            return Ok(Some((edge, place)));
         }
     }
-    Ok(())
+    Ok(None)
 }
 
 // The new items, which stand at places past the old ones.

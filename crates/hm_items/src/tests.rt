@@ -49,6 +49,19 @@ fn survivors_and_new_items(rt: HostRuntime) -> Result<(), Fail> {
             place: 0,
         },
     ];
-    assert_eq!(rt; slots.as_slice(), want.as_slice());
+    assert_eq!(&rt; slots.as_slice(), want.as_slice());
+    Ok(())
+}
+
+// The same of one item after another.
+#[test]
+fn places_of_survivors(rt: HostRuntime) -> Result<(), Fail> {
+    let alloc = rt.alloc();
+    let a = Name::from_text(alloc, "a")?;
+    let b = Name::from_text(alloc, "b")?;
+    let wanted = [(&a, 2), (&b, 1)];
+    let mut counts = no_counts(alloc, &wanted)?;
+    assert_eq!(&rt; next_place(&wanted, &b, &mut counts)?, Some((1, 0)));
+    assert_eq!(&rt; next_place(&wanted, &b, &mut counts)?, None);
     Ok(())
 }

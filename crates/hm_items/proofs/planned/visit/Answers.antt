@@ -1,62 +1,8 @@
-use Rattle.std.proofs.Common.{◌≡◌, [], ◌+◌, ap, ◌∙◌, arith, get_or}
 use Rattle.hm_items.specs.Lent.{lent_counts}
-use Rattle.hm_items.proofs.Plans.{more_within, survives, falls_out, no_place, counts_more, counts_same, read_at}
+use Rattle.hm_items.proofs.Plans.{slot_more}
 use Rattle.hm_items.proofs.planned.visit.Goals as goal
-
-pub returns-in_ok-push-clause-counts : goal.returns-in_ok-push-clause-counts
-returns-in_ok-push-clause-counts c = λ keys are.
-    let f = c.in-Ok.ensures.found in
-    let wanted = lent_counts c.args.wanted.now in
-    let i = c.in-Ok.edge in
-    let counts = c.args.counts.now.items in
-    let at : c.index-place.result.now ≡ get_or counts i 0 = read_at counts i c.index-place.result.now 0 (let r = f.in_range in let n = c.requires.counts in omega (arith, r, n)) c.index-place.ensures in
-    counts_more wanted c.requires.sorted keys c.args.key.now counts i c.in-Some.after (get_or wanted i ([], 0)).1 are f.place f.in_range (f.found ([], 0)) (c.in-Some.ensures.1 ∙ ap (λ n. n + 1) at)
 
 pub returns-in_ok-push-clause-slots : goal.returns-in_ok-push-clause-slots
 returns-in_ok-push-clause-slots c = λ keys are.
-    let f = c.in-Ok.ensures.found in
-    let wanted = lent_counts c.args.wanted.now in
-    let i = c.in-Ok.edge in
-    let counts = c.args.counts.now.items in
-    let at : c.index-place.result.now ≡ get_or counts i 0 = read_at counts i c.index-place.result.now 0 (let r = f.in_range in let n = c.requires.counts in omega (arith, r, n)) c.index-place.ensures in
-    let count = c.count_at.ensures in
-    let lt = c.if-place-count_at.true in
-    survives wanted c.requires.sorted keys c.args.key.now c.args.item counts are i (get_or wanted i ([], 0)).1 f.place f.in_range (f.found ([], 0)) c.args.slots.now.items c.push.new.self.items c.index-place.result.now at (omega (arith, count, lt)) c.in_ok-push.ensures.items
-
-pub returns-else-place-count_at-clause-counts : goal.returns-else-place-count_at-clause-counts
-returns-else-place-count_at-clause-counts c = λ keys are.
-    let f = c.in-Ok.ensures.found in
-    let wanted = lent_counts c.args.wanted.now in
-    let i = c.in-Ok.edge in
-    let counts = c.args.counts.now.items in
-    let at : c.index-place.result.now ≡ get_or counts i 0 = read_at counts i c.index-place.result.now 0 (let r = f.in_range in let n = c.requires.counts in omega (arith, r, n)) c.index-place.ensures in
-    counts_more wanted c.requires.sorted keys c.args.key.now counts i c.in-Some.after (get_or wanted i ([], 0)).1 are f.place f.in_range (f.found ([], 0)) (c.in-Some.ensures.1 ∙ ap (λ n. n + 1) at)
-
-pub returns-else-place-count_at-clause-slots : goal.returns-else-place-count_at-clause-slots
-returns-else-place-count_at-clause-slots c = λ keys are.
-    let f = c.in-Ok.ensures.found in
-    let wanted = lent_counts c.args.wanted.now in
-    let i = c.in-Ok.edge in
-    let counts = c.args.counts.now.items in
-    let at : c.index-place.result.now ≡ get_or counts i 0 = read_at counts i c.index-place.result.now 0 (let r = f.in_range in let n = c.requires.counts in omega (arith, r, n)) c.index-place.ensures in
-    let count = c.count_at.ensures in
-    let ge = c.if-place-count_at.false in
-    falls_out wanted c.requires.sorted keys c.args.key.now c.args.item counts are i (get_or wanted i ([], 0)).1 f.place f.in_range (f.found ([], 0)) c.args.slots.now.items c.index-place.result.now at (omega (arith, count, ge))
-
-pub returns-in_default-clause-counts : goal.returns-in_default-clause-counts
-returns-in_default-clause-counts c = λ keys are. counts_same (lent_counts c.args.wanted.now) c.requires.sorted keys c.args.key.now c.args.counts.now.items are c.in_default.ensures.absent.absent
-
-pub returns-in_default-clause-slots : goal.returns-in_default-clause-slots
-returns-in_default-clause-slots c = λ keys are. no_place (lent_counts c.args.wanted.now) c.requires.sorted keys c.args.key.now c.args.item c.args.counts.now.items are c.in_default.ensures.absent.absent c.args.slots.now.items
-
-pub returns-in_ok-push-clause-within : goal.returns-in_ok-push-clause-within
-returns-in_ok-push-clause-within c = λ count lt old.
-    let f = c.in-Ok.ensures.found in
-    let wanted = lent_counts c.args.wanted.now in
-    more_within wanted count c.args.slots.now.items c.push.new.self.items _ old c.in_ok-push.ensures.items
-    (record {
-      edge = f.in_range;
-      place =
-          let count = c.count_at.ensures in let less = c.if-place-count_at.true in omega (arith, count, less);
-      from = lt;
-    })
+    slot_more (lent_counts c.args.wanted.now) keys c.args.key.now c.args.item c.in-Some.edge c.in-Some.place
+    (rw c.in-Some.is at c.in_ok-edge.ensures.edge) (rw c.in-Some.is at (c.in_ok-edge.ensures.place keys are)) c.args.slots.now.items c.push.new.self.items c.in_ok-push.ensures.items
