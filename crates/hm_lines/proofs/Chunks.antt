@@ -1,13 +1,10 @@
 -- What is unfolded of bytes up to their first line feed.
-use Rattle.std.proofs.Common.{◌≡◌, ℕ, suc, Bool, true, false, cond, ◌&&◌, List, [], ◌∷◌, ◌++◌, All, refl, sym, ap, ◌∙◌, arith, inl, inr}
+use Rattle.std.proofs.Common.{◌≡◌, ℕ, suc, Bool, true, false, cond, ◌&&◌, List, [], ◌∷◌, ◌++◌, refl, sym, ap, ◌∙◌, arith, inl, inr}
 use Rattle.std.specs.Bool.{◌==◌}
 use Rattle.std.proofs.lemmas.Bool.{ne_eqb, eqb-true, or_cases}
 use Rattle.std.proofs.lemmas.List.{append-nil}
+use Rattle.hm_lines.specs.Folding.{HasNone}
 use Rattle.hm_lines.specs.Unfolding.{feed, return, is_blank, begins_with_blank, begins_with_fold, unfolded_behind, unfolded, without_return}
-
--- bytes that are none of a kind
-abbrev pub HasNone : ℕ → List ℕ → Type 0
-HasNone x bytes = All (λ b. (b == x) ≡ false) bytes
 
 skip : (r : Bool) (x y : List ℕ) → cond (r && false) x y ≡ y
 skip true x y = refl

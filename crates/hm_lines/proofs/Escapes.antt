@@ -4,7 +4,7 @@ use Rattle.std.specs.Bool.{◌==◌}
 use Rattle.std.proofs.lemmas.List.{append-nil}
 use Rattle.hm_lines.specs.Values.{backslash, is_escape, meaning, unescaped}
 use Rattle.std.proofs.lemmas.List.{append_assoc, nil_from_length}
-use Rattle.hm_lines.proofs.Chunks.{HasNone}
+use Rattle.hm_lines.specs.Folding.{HasNone}
 use Rattle.hm_lines.proofs.Found.{IsFound}
 
 pub plain_byte : (b : ℕ) (rest : List ℕ) → (b == backslash) ≡ false → unescaped (b ∷ rest) ≡ b ∷ unescaped rest

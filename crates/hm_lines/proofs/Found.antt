@@ -7,7 +7,8 @@ use Rattle.std.proofs.lemmas.List.{drop_more, take_more, get_or-take, get_or_def
 use Rattle.memchr.specs.Find.{IsFirstByte, is_byte}
 use Rattle.hm_lines.specs.Unfolding.{feed, begins_with_blank, unfolded, without_return}
 use Rattle.hm_lines.specs.Shown.{feeds}
-use Rattle.hm_lines.proofs.Chunks.{HasNone, fold_dropped, line_end}
+use Rattle.hm_lines.specs.Folding.{HasNone}
+use Rattle.hm_lines.proofs.Chunks.{fold_dropped, line_end}
 use Rattle.hm_lines.proofs.Places.{feeds_chunk, feeds_line}
 use Rattle.hm_lines.proofs.Returns.{kept_none}
 

@@ -1,7 +1,6 @@
 -- What was folded is unfolded to the same lines, and what was escaped is read as the same text; and there is one fold, and
 -- one way to part a line.
-pub use Rattle.hm_lines.proofs.Chunks.{HasNone}
-pub use Rattle.hm_lines.proofs.UnfoldedLines.{IsPlain, ended, folded_unfolded, ended_lines, folded_lines, ended_utf8, lines_no_feed}
+pub use Rattle.hm_lines.proofs.UnfoldedLines.{ended, folded_unfolded, ended_lines, folded_lines, ended_utf8, lines_no_feed}
 pub use Rattle.hm_lines.proofs.Once.{pieces_once, folded_once, all_folded_once, parted_once}
 pub use Rattle.hm_lines.proofs.LineTexts.{lines_utf8}
 pub use Rattle.hm_lines.proofs.EscapedText.{escaped_utf8, unescaped_utf8}
@@ -15,6 +14,7 @@ use Rattle.hm_tree.specs.Cleaned.{cleaned}
 use Rattle.hm_tree.specs.Classes.{IsClean}
 use Rattle.hm_lines.specs.declared.content.LineParts.{LineParts}
 use Rattle.hm_lines.specs.Content.{colon, dot, is_of_word, IsWord, IsGroup, IsContentLine}
+use Rattle.hm_lines.specs.Folding.{HasNone}
 use Rattle.hm_lines.specs.Unfolding.{feed, is_blank, begins_with_blank}
 use Rattle.hm_lines.specs.Values.{backslash, is_special, unescaped, text_of, escaped_byte, escaped}
 use Rattle.hm_lines.proofs.Escapes.{plain_byte}

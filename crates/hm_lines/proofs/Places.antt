@@ -6,7 +6,7 @@ use Rattle.std.proofs.lemmas.Bool.{cond_both}
 use Rattle.std.proofs.lemmas.List.{append-nil, length-map, map-append}
 use Rattle.hm_lines.specs.Unfolding.{feed, cut}
 use Rattle.hm_lines.specs.Shown.{feeds, start, end}
-use Rattle.hm_lines.proofs.Chunks.{HasNone}
+use Rattle.hm_lines.specs.Folding.{HasNone}
 
 -- ---- where line feeds stand, in bytes behind others
 

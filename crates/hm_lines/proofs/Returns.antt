@@ -4,7 +4,7 @@ use Rattle.std.specs.Bool.{◌==◌}
 use Rattle.std.proofs.lemmas.Bool.{eqb-true, eq-eqb, ne_eqb}
 use Rattle.std.proofs.lemmas.List.{get_or_append_left, length-append, append-nil}
 use Rattle.hm_lines.specs.Unfolding.{return, without_return}
-use Rattle.hm_lines.proofs.Chunks.{HasNone}
+use Rattle.hm_lines.specs.Folding.{HasNone}
 
 pub at_last : (front : List ℕ) (b : ℕ) → without_return (front ++ b ∷ []) ≡ front ++ cond (b == return) [] (b ∷ [])
 at_last [] b = refl

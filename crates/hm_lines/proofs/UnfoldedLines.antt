@@ -5,17 +5,12 @@ use Rattle.std.specs.List.{flat_map, onto_first}
 use Rattle.std.proofs.lemmas.List.{append_assoc, append-nil, length-append, length-map, get_or-map, get_or_append_left, get_or-append-add}
 use Rattle.std.proofs.lemmas.List.Elements.{All-append, All-cons}
 use Rattle.hm_lines.specs.Unfolding.{feed, return, begins_with_blank, unfolded, cut, without_return, lines}
-use Rattle.hm_lines.specs.Folding.{ArePieces, further_limit, joined, AreFolded}
+use Rattle.hm_lines.specs.Folding.{HasNone, IsPlain, ArePieces, further_limit, joined, AreFolded}
 use Rattle.std.specs.Str.{IsUtf8}
 use Rattle.std.proofs.lemmas.Str.{IsUtf8-nil, IsUtf8-append}
 use Rattle.hm_lines.proofs.Characters.{one_ascii}
-use Rattle.hm_lines.proofs.Chunks.{HasNone, fold_dropped, line_end}
+use Rattle.hm_lines.proofs.Chunks.{fold_dropped, line_end}
 use Rattle.hm_lines.proofs.Returns.{at_last, kept_none}
-
--- a line that can be written: it has no line feed, and doesn't begin with a blank
-pub record IsPlain (line : List ℕ) : Type 0 where
-  pub no_feed : HasNone feed line
-  pub no_blank : begins_with_blank line ≡ false
 
 -- a line and its end
 abbrev pub ended : List ℕ → List ℕ

@@ -1,8 +1,18 @@
 -- Folding: lines of at most 75 octets, each with its end (RFC 5545, section 3.1; RFC 6350, section 3.2). A line is cut between
 -- characters alone.
-use Rattle.std.specs.Prelude.{◌≡◌, ℕ, ◌<◌, ◌≤◌, List, [], ◌∷◌, ◌++◌, length}
+use Rattle.std.specs.Prelude.{◌≡◌, ℕ, ◌<◌, ◌≤◌, false, List, [], ◌∷◌, ◌++◌, length, All}
+use Rattle.std.specs.Bool.{◌==◌}
 use Rattle.std.specs.Str.{IsCharBoundary}
-use Rattle.hm_lines.specs.Unfolding.{feed, return}
+use Rattle.hm_lines.specs.Unfolding.{feed, return, begins_with_blank}
+
+-- bytes that are none of a kind
+abbrev pub HasNone : ℕ → List ℕ → Type 0
+HasNone x bytes = All (λ b. (b == x) ≡ false) bytes
+
+-- a line that can be written: it has no line feed, and doesn't begin with a blank
+pub record IsPlain (line : List ℕ) : Type 0 where
+  pub no_feed : HasNone feed line
+  pub no_blank : begins_with_blank line ≡ false
 
 -- how many octets the first piece of a line has at the most, and each further one, which stands behind a space
 abbrev pub first_limit : ℕ

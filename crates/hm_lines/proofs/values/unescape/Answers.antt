@@ -3,7 +3,7 @@ use Rattle.std.specs.Prelude.{IfOk}
 use Rattle.hm_tree.specs.Cleaned.{cleaned}
 use Rattle.hm_tree.specs.Names.{Name}
 use Rattle.hm_lines.specs.Values.{backslash, unescaped}
-use Rattle.hm_lines.proofs.Chunks.{HasNone}
+use Rattle.hm_lines.specs.Folding.{HasNone}
 use Rattle.hm_lines.proofs.Found.{not_found}
 use Rattle.hm_lines.proofs.Escapes.{no_backslash}
 use Rattle.hm_lines.proofs.EscapedText.{unescaped_utf8}

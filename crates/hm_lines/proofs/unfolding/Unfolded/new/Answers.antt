@@ -1,7 +1,8 @@
 use Rattle.std.proofs.Common.{◌∙◌, ◌++◌, sym, ap}
 use Rattle.hm_lines.specs.Unfolding.{feed}
 use Rattle.hm_lines.specs.Shown.{feeds}
-use Rattle.hm_lines.proofs.Chunks.{HasNone, no_feed}
+use Rattle.hm_lines.specs.Folding.{HasNone}
+use Rattle.hm_lines.proofs.Chunks.{no_feed}
 use Rattle.hm_lines.proofs.Places.{feeds_chunk}
 use Rattle.hm_lines.proofs.Found.{none_found}
 use Rattle.hm_lines.proofs.unfolding.Unfolded.new.Goals as goal
