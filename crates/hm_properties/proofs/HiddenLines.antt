@@ -24,6 +24,11 @@ same_one (p ∷ ps) l is t = λ i. cond (same_property p.0 l is t i) (Some p) (s
 abbrev pub is_hidden : Shown → Line → Bool
 is_hidden properties line = is_none (property_of properties line)
 
+-- one without parts is of none
+pub unparted_hidden : (ps : Shown) (line : List ℕ) → property_of ps (line, None) ≡ None
+unparted_hidden [] line = refl
+unparted_hidden (p ∷ ps) line = unparted_hidden ps line
+
 module _ (properties : Shown) (are : AreProperties properties) (card : Tree) (all : List Line) where
   abbrev hidden : List Line → List Line
   hidden ls = filter (is_hidden properties) ls

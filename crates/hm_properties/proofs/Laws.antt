@@ -7,7 +7,10 @@ pub use Rattle.hm_properties.proofs.ShownCards.{rewritten_shows, rewritten_few}
 pub use Rattle.hm_properties.proofs.StayingLines.{rewritten_stays}
 pub use Rattle.hm_properties.proofs.HiddenLines.{is_hidden, hidden_stay}
 pub use Rattle.hm_properties.proofs.Keys.{key_stays}
-pub use Rattle.hm_properties.proofs.LinesAgain.{rewritten_lines, rewritten_plain}
+pub use Rattle.hm_properties.proofs.LinesAgain.{in_kept, in_new, rewritten_lines, rewritten_plain}
+pub use Rattle.hm_properties.proofs.MadeLines.{parts_of, made_new, made_is_line, same_property, new_is_of, new_shows}
+pub use Rattle.hm_properties.proofs.Seconds.{few_more, many_then}
+pub use Rattle.hm_properties.proofs.HiddenLines.{unparted_hidden}
 use Rattle.std.proofs.Common.{◌≡◌, List, get_or, Option, Some, None, refl, sym, ap, ◌∙◌, subst}
 use Rattle.std.specs.Prelude.{All, IsUtf8}
 use Rattle.std.specs.Option.{unwrap_or}

@@ -17,7 +17,8 @@ use Rattle.hm_lines.specs.declared.content.LineParts.{LineParts}
 use Rattle.hm_lines.specs.Content.{colon, is_of_word, IsWord}
 use Rattle.hm_lines.specs.Unfolding.{feed}
 use Rattle.hm_lines.specs.Values.{escaped}
-use Rattle.hm_lines.proofs.Laws.{IsPlain, HasNone, escaped_utf8, escaped_no_feed, content_no_blank}
+use Rattle.hm_lines.specs.Folding.{IsPlain, HasNone}
+use Rattle.hm_lines.proofs.Laws.{escaped_utf8, escaped_no_feed, content_no_blank}
 use Rattle.hm_pieces.specs.Texts.{new_names}
 use Rattle.hm_cards.specs.Cards.{Shown, texts_at}
 use Rattle.hm_properties.specs.Lines.{Line, AreProperties, HasParts, IsLine, text_shown, set_of}
@@ -58,7 +59,7 @@ module _ (P : Line → Type 0) (Good : Name → Type 0) (made : (l : Line) → I
           in_one l is h (first_in (texts_at p.0 card)) (text_shown p.0 l) (λ t e. first_good p.0 (ascending (texts_at p.0 card)) (good p.0) t e)
       go false false = one l h
 
-  in_kept : (properties : Shown) (all : List Line) (place : ℕ) (ls : List Line) → All IsLine ls → All P ls → All P (rewritten_from properties card all place ls)
+  pub in_kept : (properties : Shown) (all : List Line) (place : ℕ) (ls : List Line) → All IsLine ls → All P ls → All P (rewritten_from properties card all place ls)
   in_kept properties all place [] lines h = All-nil P
   in_kept properties all place (l ∷ ls) lines h =
       All-append P (line_at properties card all place l) (rewritten_from properties card all (place + 1) ls)
@@ -73,23 +74,34 @@ module _ (P : Line → Type 0) (Good : Name → Type 0) (made : (l : Line) → I
       go false true = good p.0
       go false false = All-nil Good
 
-  module _ (new : (p : Property) → IsWord p.0 → IsUtf8 p.0 → (t : Name) → Good t → P (new_line p.0 t)) where
-    all_new : (p : Property) → IsWord p.0 → IsUtf8 p.0 → (ts : List Name) → All Good ts → All P (map (new_line p.0) ts)
-    all_new p word text [] h = All-nil P
-    all_new p word text (t ∷ ts) h =
-        All-cons P (new_line p.0 t) (map (new_line p.0) ts) (new p word text t (All-head Good t ts h)) (all_new p word text ts (All-tail Good t ts h))
+  -- new lines are of properties of which something is known
+  module _ (Named : Property → Type 0) (new : (p : Property) → Named p → (t : Name) → Good t → P (new_line p.0 t)) where
+    all_new : (p : Property) → Named p → (ts : List Name) → All Good ts → All P (map (new_line p.0) ts)
+    all_new p named [] h = All-nil P
+    all_new p named (t ∷ ts) h =
+        All-cons P (new_line p.0 t) (map (new_line p.0) ts) (new p named t (All-head Good t ts h)) (all_new p named ts (All-tail Good t ts h))
 
-    in_new : (all : List Line) (ps : Shown) → T (are_edges ps) → All (λ (p : Property). IsWord p.0) ps → All P (flat_map (lines_for card all) ps)
-    in_new all [] names words = All-nil P
-    in_new all (p ∷ ps) names words =
+    pub in_new : (all : List Line) (ps : Shown) → All Named ps → All P (flat_map (lines_for card all) ps)
+    in_new all [] named = All-nil P
+    in_new all (p ∷ ps) named =
         All-append P (lines_for card all p) (flat_map (lines_for card all) ps)
-        (all_new p (All-head (λ (p : Property). IsWord p.0) p ps words) (text_tested p.0 (edges_head p ps names)) (new_texts card all p) (new_good all p))
-        (in_new all ps (edges_tail p ps names) (All-tail (λ (p : Property). IsWord p.0) p ps words))
+        (all_new p (All-head Named p ps named) (new_texts card all p) (new_good all p))
+        (in_new all ps (All-tail Named p ps named))
 
-    pub in_all : (properties : Shown) → AreProperties properties → (lines : List Line) → All IsLine lines → All P lines → All P (rewritten properties card lines)
-    in_all properties are lines is h =
+    in_all : (properties : Shown) → All Named properties → (lines : List Line) → All IsLine lines → All P lines → All P (rewritten properties card lines)
+    in_all properties named lines is h =
         All-append P (rewritten_from properties card lines 0 lines) (flat_map (lines_for card lines) properties) (in_kept properties lines 0 lines is h)
-        (in_new lines properties are.names are.words)
+        (in_new lines properties named)
+
+-- names of properties are words of UTF-8
+abbrev IsTextWord : Property → Type 0
+IsTextWord p = IsWord p.0 × IsUtf8 p.0
+
+text_words : (ps : Shown) → T (are_edges ps) → All (λ (p : Property). IsWord p.0) ps → All IsTextWord ps
+text_words [] names words = All-nil IsTextWord
+text_words (p ∷ ps) names words =
+    All-cons IsTextWord p ps (All-head (λ (p : Property). IsWord p.0) p ps words, text_tested p.0 (edges_head p ps names))
+    (text_words ps (edges_tail p ps names) (All-tail (λ (p : Property). IsWord p.0) p ps words))
 
 -- ---- lines
 
@@ -100,14 +112,17 @@ word_no_feed : (name : Name) → IsWord name → HasNone feed name
 word_no_feed name word i b lt = ne_eqb (get_or name i b) feed (λ is. both_ways (is_of_word (get_or name i b)) (ap is_of_word is) (word.all i b lt))
 
 module _ (properties : Shown) (are : AreProperties properties) (card : Tree) (lines : List Line) (is : All IsLine lines) where
+  named : All IsTextWord properties
+  named = text_words properties are.names are.words
+
   pub rewritten_lines : All IsLine (rewritten properties card lines)
   rewritten_lines =
-      in_all IsLine (λ t. Unit {0}) (λ l is h t good. made_is_line l is t) card (λ k i d lt. tt) (λ p word text t good. made_new p.0 word t) properties are lines is is
+      in_all IsLine (λ t. Unit {0}) (λ l is h t good. made_is_line l is t) card (λ k i d lt. tt) IsTextWord (λ p named t good. made_new p.0 named.0 t) properties named lines is is
 
   pub utf8_again : All (λ (l : Line). IsUtf8 l.0) lines → ((k : Name) → All IsUtf8 (ascending (texts_at k card)))
       → All (λ (l : Line). IsUtf8 l.0) (rewritten properties card lines)
   utf8_again text sound =
-      in_all (λ (l : Line). IsUtf8 l.0) IsUtf8 made card sound new properties are lines is text
+      in_all (λ (l : Line). IsUtf8 l.0) IsUtf8 made card sound IsTextWord new properties named lines is text
     where
       made : (l : Line) → IsLine l → IsUtf8 l.0 → (t : Name) → IsUtf8 t → IsUtf8 (with_value l.0 l.1 t).0
       made l is text t good = go l.1 is
@@ -117,13 +132,13 @@ module _ (properties : Shown) (are : AreProperties properties) (card : Tree) (li
           go (Some parts) is =
               IsUtf8-append (take parts.value_from l.0) (escaped t) (IsUtf8-take l.0 parts.value_from text (value_boundary l.0 parts is text)) (escaped_utf8 t good)
 
-      new : (p : Property) → IsWord p.0 → IsUtf8 p.0 → (t : Name) → IsUtf8 t → IsUtf8 (new_line p.0 t).0
-      new p word text t good = IsUtf8-append p.0 (colon ∷ escaped t) text (IsUtf8-append (colon ∷ []) (escaped t) colon_utf8 (escaped_utf8 t good))
+      new : (p : Property) → IsTextWord p → (t : Name) → IsUtf8 t → IsUtf8 (new_line p.0 t).0
+      new p named t good = IsUtf8-append p.0 (colon ∷ escaped t) named.1 (IsUtf8-append (colon ∷ []) (escaped t) colon_utf8 (escaped_utf8 t good))
 
   -- so that they can be folded and unfolded
   pub rewritten_plain : All (λ (l : Line). IsPlain l.0) lines → All (λ (l : Line). IsPlain l.0) (rewritten properties card lines)
   rewritten_plain plain =
-      in_all (λ (l : Line). IsPlain l.0) (λ t. Unit {0}) made card (λ k i d lt. tt) new properties are lines is plain
+      in_all (λ (l : Line). IsPlain l.0) (λ t. Unit {0}) made card (λ k i d lt. tt) IsTextWord new properties named lines is plain
     where
       made : (l : Line) → IsLine l → IsPlain l.0 → (t : Name) → Unit {0} → IsPlain (with_value l.0 l.1 t).0
       made l is plain t good = go l.1 is
@@ -136,9 +151,9 @@ module _ (properties : Shown) (are : AreProperties properties) (card : Tree) (li
             no_blank = content_no_blank (take parts.value_from l.0 ++ escaped t) parts (made_line l.0 parts is t);
           }
 
-      new : (p : Property) → IsWord p.0 → IsUtf8 p.0 → (t : Name) → Unit {0} → IsPlain (new_line p.0 t).0
-      new p word text t good = record {
-        no_feed = All-append (λ b. (b == feed) ≡ false) p.0 (colon ∷ escaped t) (word_no_feed p.0 word)
+      new : (p : Property) → IsTextWord p → (t : Name) → Unit {0} → IsPlain (new_line p.0 t).0
+      new p named t good = record {
+        no_feed = All-append (λ b. (b == feed) ≡ false) p.0 (colon ∷ escaped t) (word_no_feed p.0 named.0)
             (All-cons (λ b. (b == feed) ≡ false) colon (escaped t) refl (escaped_no_feed t));
-        no_blank = content_no_blank (p.0 ++ colon ∷ escaped t) (parts_of p.0) (made_new p.0 word t);
+        no_blank = content_no_blank (p.0 ++ colon ∷ escaped t) (parts_of p.0) (made_new p.0 named.0 t);
       }

@@ -23,4 +23,4 @@ mod writing;
 pub use card::{card_of, key_of};
 pub use line::{Line, NewLine};
 pub use rewriting::rewrite;
-pub use second::second_of;
+pub use second::{is_second, second_of};

@@ -26,8 +26,8 @@ pub fn second_of(
     Ok(None)
 }
 
-// Whether a line shows a text of a property that may have one, behind lines that show one too.
-fn is_second(
+/// Whether a line shows a text of a property that may have one, behind lines of which one shows one too.
+pub fn is_second(
     alloc: Global,
     properties: &[(Name, bool)],
     before: &[Line],
