@@ -1,0 +1,3 @@
+pub mod ShownProperties
+pub mod KnownNames
+mod Pieces

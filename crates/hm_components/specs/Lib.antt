@@ -1,0 +1,10 @@
+pub mod Components
+pub mod Rewriting
+pub mod Renewed
+pub mod Reading
+pub mod Forms
+pub mod FormLaws
+pub mod Files
+pub mod Writing
+pub mod Stops
+pub mod Lent

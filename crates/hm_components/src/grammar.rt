@@ -1,0 +1,46 @@
+//! What a form of files tells of its own lines.
+ghost use Rattle.std.specs.Prelude.{◌≡◌, IfOk, IfErr};
+ghost use Rattle.hm_schema.specs.Values.{OptionsValue};
+ghost use Rattle.hm_properties.specs.Lent.{AreLines};
+ghost use Rattle.hm_components.specs.Forms.{Form, shown_of};
+ghost use Rattle.hm_components.specs.FormLaws.{IsForm};
+ghost use Rattle.hm_components.specs.Stops.{AreOf, IsStop};
+ghost use Rattle.hm_components.specs.Lent.{texts, layout_of, kind_of, HaveLines};
+
+use crate::component::{Kind, Layout};
+use crate::stop::Stop;
+use hm_tree::{Memory, Name};
+use std::alloc::Global;
+
+/// How the lines of files of a form are laid out.
+pub trait Grammar {
+    /// The form.
+    ghost form: { Self → Form };
+
+    /// The number of its format.
+    fn tag(&self) -> u8
+        ensures tag { result ≡ (form self.now).tag }
+        ensures lawful { IsForm (form self.now) };
+
+    /// The properties that may be shown, whose names rise, each with whether a component may have many texts of it.
+    fn properties(&self, alloc: Global) -> Result<Vec<(Name, bool)>, Memory>
+        ensures { IfOk result (λ found. found.items ≡ (form self.now).properties) };
+
+    /// What a new component has.
+    fn kind(&self, alloc: Global) -> Result<Kind<'static>, Memory>
+        ensures kind { IfOk result (λ found. kind_of found ≡ (form self.now).kind) }
+        ensures front { IfOk result (λ found. AreLines found.front.items) }
+        ensures more { IfOk result (λ found. AreLines found.more.items) };
+
+    /// The layout of lines, of which none is empty, or the place at which they stop to be those of a file. Some properties are
+    /// shown.
+    fn layout<'a>(
+        &self,
+        alloc: Global,
+        shown: &[(Name, bool)],
+        lines: &'a [&'a str],
+    ) -> Result<Layout<'a>, Stop>
+        ensures layout { (o : OptionsValue) → shown.now ≡ shown_of (form self.now) o → IfOk result (λ found. AreOf (form self.now) o (texts lines.now) (layout_of found)) }
+        ensures lines { IfOk result (λ found. HaveLines found.pieces.items) }
+        ensures stop { (o : OptionsValue) → shown.now ≡ shown_of (form self.now) o → IfErr result (IsStop (form self.now) o (texts lines.now)) };
+}
