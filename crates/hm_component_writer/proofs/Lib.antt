@@ -1,0 +1,9 @@
+pub mod KeyLines
+pub mod OneComponent
+pub mod Renewed
+pub mod TreeLaws
+mod WrittenLines
+mod Taking
+mod Passes
+mod Examples
+pub mod Laws

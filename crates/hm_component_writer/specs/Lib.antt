@@ -1,0 +1,4 @@
+pub mod Writing
+pub mod Written
+pub mod Taken
+pub mod Examples
