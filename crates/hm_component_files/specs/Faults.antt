@@ -1,0 +1,52 @@
+-- Which fault of a file is told.
+use Rattle.std.specs.Prelude.{ℕ, List}
+use Rattle.hm_components.specs.Components.{Bytes, Component}
+use Rattle.hm_components.specs.Reading.{IsFirstKeyless, AreTooDeep}
+use Rattle.hm_cards.specs.Cards.{Shown}
+use Rattle.hm_tree.specs.Names.{Name}
+use Rattle.hm_format.specs.declared.fault.FormatFault.{FormatFault}
+use Rattle.hm_format.specs.declared.fault.FormatFault.TheVariants.{BadOption, NotUtf8, BadItem, NoKey, TooDeep, Outside, Memory}
+use Rattle.hm_format.specs.Formats.{deepest}
+use Rattle.hm_components.specs.Files.{StopsAt}
+use Rattle.hm_components.specs.Stops.{IsNumberOf}
+use Rattle.hm_components.specs.declared.stop.Stop.{Stop}
+use Rattle.hm_components.specs.declared.stop.Stop.TheVariants as stop
+
+abbrev pub IsTextFault : Bytes → FormatFault → Type 0
+IsTextFault bytes (NotUtf8 at) = StopsAt bytes at
+IsTextFault bytes Memory = Unit {0}
+IsTextFault bytes (BadOption name) = ⊥
+IsTextFault bytes (BadItem number) = ⊥
+IsTextFault bytes (NoKey number) = ⊥
+IsTextFault bytes (TooDeep depth) = ⊥
+IsTextFault bytes (Outside path) = ⊥
+
+-- of a place among the lines that aren't empty the number of the line is told
+abbrev pub IsBadItem : List Bytes → ℕ → FormatFault → Type 0
+IsBadItem lines place (BadItem number) = IsNumberOf lines place number
+IsBadItem lines place Memory = ⊥
+IsBadItem lines place (NotUtf8 at) = ⊥
+IsBadItem lines place (BadOption name) = ⊥
+IsBadItem lines place (NoKey number) = ⊥
+IsBadItem lines place (TooDeep depth) = ⊥
+IsBadItem lines place (Outside path) = ⊥
+
+abbrev pub IsFaultOf : List Bytes → Stop → FormatFault → Type 0
+IsFaultOf lines (stop.At place) fault = IsBadItem lines place fault
+IsFaultOf lines stop.Memory Memory = Unit {0}
+IsFaultOf lines stop.Memory (BadItem number) = ⊥
+IsFaultOf lines stop.Memory (NotUtf8 at) = ⊥
+IsFaultOf lines stop.Memory (BadOption name) = ⊥
+IsFaultOf lines stop.Memory (NoKey number) = ⊥
+IsFaultOf lines stop.Memory (TooDeep depth) = ⊥
+IsFaultOf lines stop.Memory (Outside path) = ⊥
+
+-- of components: the first that has no key, or how deep their tree would be
+abbrev pub IsBookFault : Name → Shown → List Component → FormatFault → Type 0
+IsBookFault key shown cs (NoKey number) = IsFirstKeyless key cs number
+IsBookFault key shown cs (TooDeep depth) = AreTooDeep key shown cs deepest depth
+IsBookFault key shown cs Memory = Unit {0}
+IsBookFault key shown cs (BadOption name) = ⊥
+IsBookFault key shown cs (NotUtf8 at) = ⊥
+IsBookFault key shown cs (BadItem number) = ⊥
+IsBookFault key shown cs (Outside path) = ⊥

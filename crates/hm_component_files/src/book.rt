@@ -1,0 +1,70 @@
+//! Address books of files that are opened.
+ghost use Rattle.std.specs.Prelude.{◌≡◌, All, IfOk, IfErr, T};
+ghost use Rattle.hm_tree.specs.Nodes.{are_edges};
+ghost use Rattle.hm_item_trees.specs.ItemTrees.{HasLists};
+ghost use Rattle.hm_lines.specs.Content.{IsWord};
+ghost use Rattle.hm_format.specs.Formats.{deepest};
+ghost use Rattle.hm_properties.specs.Lent.{AreLines};
+ghost use Rattle.hm_components.specs.Components.{components, HasKey, all_lines};
+ghost use Rattle.hm_components.specs.Reading.{IsTreeOf};
+ghost use Rattle.hm_components.specs.Lent.{texts, layout_of, kind_of, HaveLines};
+ghost use Rattle.hm_component_files.specs.Faults.{IsBookFault};
+ghost use Rattle.hm_component_files.specs.Written.{IsWritten, ListsRise};
+
+use hm_component_writer::rewrite;
+use hm_components::{ItemFault, Kind, Layout, tree_of};
+use hm_format::FormatFault;
+use hm_item_trees::item_lists;
+use hm_tree::{Memory, Name, Tree};
+use std::alloc::Global;
+
+/// How deep a tree may be.
+pub const DEEPEST: usize = 1000;
+
+/// The address book of a file, by its layout, or why it has none.
+pub fn book_of(
+    alloc: Global,
+    key: &Name,
+    shown: &[(Name, bool)],
+    layout: &Layout,
+) -> Result<Tree, FormatFault>
+    requires names { T (are_edges shown.now) }
+    requires lines { HaveLines layout.now.pieces.items }
+    ensures tree { IfOk result (IsTreeOf key.now shown.now (components (layout_of layout.now)) deepest) }
+    ensures fault { IfErr result (IsBookFault key.now shown.now (components (layout_of layout.now))) }
+{
+    match tree_of(alloc, key, shown, layout, DEEPEST) {
+        Ok(tree) => Ok(tree),
+        Err(ItemFault::NoKey { number }) => Err(FormatFault::NoKey { number }),
+        Err(ItemFault::TooDeep { depth }) => Err(FormatFault::TooDeep { depth }),
+        Err(ItemFault::Memory) => Err(FormatFault::Memory),
+    }
+}
+
+/// The bytes of an address book behind those from before, which stay where their lines do. The layout is that of the lines from
+/// before that aren't empty.
+pub fn write_layout(
+    alloc: Global,
+    kind: &Kind,
+    shown: &[(Name, bool)],
+    layout: &Layout,
+    lines: &[&str],
+    tree: &Tree,
+    before: &[u8],
+) -> Result<Vec<u8>, Memory>
+    requires word { IsWord kind.now.key }
+    requires lines { HaveLines layout.now.pieces.items }
+    requires front { AreLines kind.now.front.items }
+    requires more { AreLines kind.now.more.items }
+    requires keyed { All (HasKey kind.now.key) (components (layout_of layout.now)) }
+    requires old { texts lines.now ≡ all_lines (layout_of layout.now) }
+    requires lists { HasLists tree.now }
+    requires rise { ListsRise tree.now }
+    ensures { IfOk result (λ bytes. IsWritten (kind_of kind.now) shown.now tree.now (layout_of layout.now) before.now bytes.items) }
+{
+    let lists = item_lists(alloc, tree)?;
+    match rewrite(alloc, kind, shown, layout, lines, &lists)? {
+        Some(text) => Ok(text),
+        None => Ok(Vec::from_slice(alloc, before)?),
+    }
+}

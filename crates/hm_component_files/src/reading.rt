@@ -1,0 +1,36 @@
+//! Reading a file of a form as an address book.
+ghost use Rattle.hm_schema.specs.Values.{options_value};
+ghost use Rattle.hm_format.specs.Formats.{MayRead};
+ghost use Rattle.hm_format.specs.Answers.{Reads};
+ghost use Rattle.hm_components.specs.Writing.{meaning_of};
+ghost use Rattle.hm_components.specs.Files as files;
+
+use crate::book::book_of;
+use crate::opening::{fault_of, full_lines, unfolded_text};
+use crate::options::shown_by;
+use hm_components::Grammar;
+use hm_format::FormatFault;
+use hm_schema::Options;
+use hm_tree::Tree;
+use std::alloc::Global;
+
+/// The address book of a file of a form, or why it has none.
+pub fn read_book<G: Grammar>(
+    alloc: Global,
+    grammar: &G,
+    options: &Options,
+    bytes: &[u8],
+) -> Result<Tree, FormatFault>
+    requires { MayRead (meaning_of (G.form grammar.now)) (options_value options.now) }
+    ensures { Reads (files.Reads (G.form grammar.now) (options_value options.now) bytes.now) result }
+{
+    let _tag = grammar.tag();
+    let kind = grammar.kind(alloc)?;
+    let shown = shown_by(alloc, &grammar.properties(alloc)?, options)?;
+    let unfolded = unfolded_text(alloc, bytes)?;
+    let lines = full_lines(alloc, &unfolded)?;
+    match grammar.layout(alloc, &shown, &lines) {
+        Ok(layout) => book_of(alloc, &kind.key, &shown, &layout),
+        Err(stop) => Err(fault_of(&unfolded, stop)),
+    }
+}
