@@ -1,0 +1,13 @@
+mod Frames
+mod Fronts
+mod FirstCard
+mod FirstStops
+mod LentTexts
+mod LentLines
+mod CardLists
+mod FileStops
+mod CardNames
+mod CardProperties
+mod Showing
+mod CardFiles
+mod CardForm

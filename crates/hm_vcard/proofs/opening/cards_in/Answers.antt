@@ -1,0 +1,15 @@
+use Rattle.std.proofs.Common.{[], refl}
+use Rattle.hm_components.specs.Lent.{texts, pieces_of}
+use Rattle.hm_components.specs.Stops.{IsStop}
+use Rattle.hm_vcard.specs.Cards.{vcards}
+use Rattle.hm_vcard.proofs.FirstStops.{passed}
+use Rattle.hm_vcard.proofs.FileStops.{stop_told, layout_told}
+use Rattle.hm_vcard.proofs.opening.cards_in.Goals as goal
+
+pub returns-in_err-all_of-clause-stop : goal.returns-in_err-all_of-clause-stop
+returns-in_err-all_of-clause-stop c o =
+    passed c.from_residual.result c.in_err-all_of.field-0.0 (IsStop vcards o (texts c.args.lines.now)) c.from_residual.ensures.1
+    (stop_told o (texts c.args.lines.now) c.in_err-all_of.field-0.0 c.in_err-all_of.ensures.stop)
+
+pub returns-clause-layout : goal.returns-clause-layout
+returns-clause-layout c o = layout_told o (texts c.args.lines.now) (record { pieces = pieces_of c.in_ok-all_of.field-0.items; end = [] }) c.in_ok-all_of.ensures.cards refl

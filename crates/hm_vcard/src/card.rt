@@ -1,0 +1,52 @@
+//! Cards by their lines.
+ghost use Rattle.std.specs.Prelude.{◌≡◌, IfOk, length};
+ghost use Rattle.hm_properties.specs.Lent.{AreLines};
+ghost use Rattle.hm_components.specs.Lent.{component_of};
+ghost use Rattle.hm_vcard.specs.Cards.{lines_of, component_with};
+ghost use Rattle.hm_vcard.specs.Lent.{card_lines};
+
+use hm_components::Component;
+use hm_properties::Line;
+use hm_tree::Memory;
+use std::alloc::Global;
+
+/// The lines of a card, unfolded and without their ends.
+#[derive(Drop)]
+pub struct Card<'a> {
+    pub begin: &'a str,
+    pub version: &'a str,
+    /// The lines between those and the last, each with its parts.
+    pub properties: Vec<Line<'a>>,
+    pub end: &'a str,
+}
+
+impl<'a> Card<'a> {
+    /// How many lines there are.
+    pub fn count(&self) -> usize
+        ensures { result ≡ length (lines_of (card_lines self.now)) }
+    {
+        self.properties.len() + 3
+    }
+
+    /// The card as a component of a file.
+    pub fn component(&self, alloc: Global) -> Result<Component<'a>, Memory>
+        requires { AreLines self.now.properties.items }
+        ensures component { IfOk result (λ made. component_of made ≡ component_with (card_lines self.now)) }
+        ensures lines { IfOk result (λ made. AreLines made.lines.items) }
+    {
+        let mut lines = Vec::with_capacity(alloc, self.properties.len() + 2)?;
+        lines.push(Line {
+            text: self.begin,
+            parts: None,
+        })?;
+        lines.push(Line {
+            text: self.version,
+            parts: None,
+        })?;
+        lines.extend_from_slice(&self.properties)?;
+        Ok(Component {
+            lines,
+            end: self.end,
+        })
+    }
+}

@@ -1,0 +1,59 @@
+//! The form of files of vCards.
+ghost use Rattle.std.specs.Prelude.{◌≡◌, None};
+
+use crate::opening::cards_in;
+use hm_components::{Grammar, Kind, Layout, Stop};
+use hm_properties::Line;
+use hm_tree::{Memory, Name};
+use std::alloc::Global;
+
+/// The form of files of vCards (RFC 6350).
+#[derive(Clone, Copy, Debug)]
+pub(crate) struct VCards;
+
+impl Grammar for VCards {
+    ghost use Rattle.hm_vcard.specs.Cards.{vcards};
+
+    ghost form = { λ g. vcards };
+
+    fn tag(&self) -> u8 {
+        3
+    }
+
+    fn properties(&self, alloc: Global) -> Result<Vec<(Name, bool)>, Memory> {
+        Ok(vec![in alloc;
+            (Name::from_text(alloc, "BDAY")?, false),
+            (Name::from_text(alloc, "EMAIL")?, true),
+            (Name::from_text(alloc, "NOTE")?, true),
+            (Name::from_text(alloc, "ROLE")?, true),
+            (Name::from_text(alloc, "TEL")?, true),
+            (Name::from_text(alloc, "TITLE")?, true),
+        ]?)
+    }
+
+    fn kind(&self, alloc: Global) -> Result<Kind<'static>, Memory> {
+        Ok(Kind {
+            key: Name::from_text(alloc, "FN")?,
+            front: vec![in alloc; frame_line("BEGIN:VCARD"), frame_line("VERSION:4.0")]?,
+            more: Vec::new(alloc),
+            end: "END:VCARD",
+        })
+    }
+
+    fn layout<'a>(
+        &self,
+        alloc: Global,
+        _shown: &[(Name, bool)],
+        lines: &'a [&'a str],
+    ) -> Result<Layout<'a>, Stop> {
+        cards_in(alloc, lines)
+    }
+}
+
+// A line that is no property.
+fn frame_line(text: &str) -> Line
+    ensures text { result.text.now ≡ text.now }
+    ensures parts { result.parts ≡ None }
+{
+    Line { text, parts: None }
+}
