@@ -1,0 +1,41 @@
+-- Places between lines, as the code has them.
+use Rattle.std.proofs.Common.{◌≡◌, List, [], ◌∷◌, length, refl, sym, ap, ◌∙◌, subst, arith}
+use Rattle.std.specs.Prelude.{All}
+use Rattle.std.specs.Borrow.{Bor}
+use Rattle.std.proofs.lemmas.List.{length-map, length-reverse, get_or-map}
+use Rattle.hm_lines.specs.declared.content.LineParts.{LineParts}
+use Rattle.hm_cards.specs.Cards.{Shown}
+use Rattle.hm_properties.specs.declared.line.Line.{Line as LentLine}
+use Rattle.hm_properties.specs.Lines.{Line, IsLine}
+use Rattle.hm_properties.specs.Lent.{AreLines, lent, line_of}
+use Rattle.hm_components.specs.Components.{Bytes}
+use Rattle.hm_components.specs.Lent.{texts}
+use Rattle.hm_ical.specs.Events.{other_line}
+use Rattle.hm_ical.specs.Scanning.{property, event, next, with_line, Step}
+use Rattle.hm_ical.specs.Lent.{names_of, place_of}
+use Rattle.hm_ical.specs.Scanning as plain
+use Rattle.hm_ical.specs.declared.place.Place.{Place}
+use Rattle.hm_ical.specs.declared.place.Place.TheVariants.{Before, Behind, Calendar, Event, Component}
+
+-- the lines of an event have the parts that they say
+pub are_lines : (ls : List LentLine) → All IsLine (lent ls) → AreLines ls
+are_lines ls all = λ i d lt.
+    let long = length-map ls line_of in
+    subst IsLine (get_or-map line_of ls i d (line_of d) lt) (all i (line_of d) (omega (arith, lt, long)))
+
+-- in a component of an event no line is a property of its own
+pub in_some : (singles : Shown) (lines : List Line) (names : List Bytes) (line : Bytes) (parts : LineParts) → (names ≡ [] → ⊥)
+    → with_line lines (other_line line) names ≡ next singles (event lines names) line (property parts)
+in_some singles lines [] line parts some = absurd (some refl)
+in_some singles lines (name ∷ names) line parts some = refl
+
+pub some_names : (names : List (Bor Bytes)) → (length names ≡ 0 → ⊥) → names_of names ≡ [] → ⊥
+some_names names some none =
+    some (sym (length-map names (λ (l : Bor Bytes). l.now)) ∙ sym (length-reverse (texts names)) ∙ ap length none)
+
+pub at_end : (at : Place) → place_of at ≡ plain.behind → at ≡ Behind
+at_end Before e = let bad : ⊥ = cc in absurd bad
+at_end Behind e = refl
+at_end (Calendar told) e = let bad : ⊥ = cc in absurd bad
+at_end (Event lines names) e = let bad : ⊥ = cc in absurd bad
+at_end (Component name around) e = let bad : ⊥ = cc in absurd bad

@@ -1,0 +1,5 @@
+pub mod Lines
+pub mod Events
+pub mod Calendars
+pub mod Scanning
+pub mod Lent

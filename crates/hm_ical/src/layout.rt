@@ -1,0 +1,103 @@
+//! The pieces of a calendar.
+ghost use Rattle.std.specs.Prelude.{◌≡◌, ◌-◌, ◌<◌, IfErr, IfOk, drop, length};
+ghost use Rattle.std.specs.Option.{option_map};
+ghost use Rattle.hm_schema.specs.Values.{OptionsValue};
+ghost use Rattle.hm_components.specs.Forms.{shown_of};
+ghost use Rattle.hm_components.specs.Lent.{texts, pieces_of, layout_of, HaveLines};
+ghost use Rattle.hm_components.specs.Stops.{AreOf, IsStop};
+ghost use Rattle.hm_ical.specs.Events.{singles as singles_of};
+ghost use Rattle.hm_ical.specs.Calendars.{ical};
+ghost use Rattle.hm_ical.specs.Scanning as spec;
+ghost use Rattle.hm_ical.specs.Lent.{place_of};
+
+use crate::line::kind_of;
+use crate::place::{Place, Step};
+use crate::scanning::next;
+use hm_components::{Layout, Piece, Stop};
+use hm_tree::{Memory, Name};
+use std::alloc::Global;
+
+/// The pieces of a calendar with these lines, of which none is empty, or the place of the first line with which none begins.
+/// Of the properties that are shown an event has one text alone.
+pub fn layout_of<'a>(
+    alloc: Global,
+    shown: &[(Name, bool)],
+    lines: &'a [&'a str],
+) -> Result<Layout<'a>, Stop>
+    ensures layout { (o : OptionsValue) → shown.now ≡ shown_of ical o → IfOk result (λ l. AreOf ical o (texts lines.now) (layout_of l)) }
+    ensures lines { IfOk result (λ l. HaveLines l.pieces.items) }
+    ensures stop { (o : OptionsValue) → shown.now ≡ shown_of ical o → IfErr result (IsStop ical o (texts lines.now)) }
+{
+    let singles = singles(alloc, shown)?;
+    let pieces = pieces(alloc, &singles, lines)?;
+    Ok(Layout {
+        pieces,
+        end: last(lines),
+    })
+}
+
+// The properties of which an event has one text: its key, and those that are shown.
+fn singles(alloc: Global, shown: &[(Name, bool)]) -> Result<Vec<(Name, bool)>, Memory>
+    ensures { IfOk result (λ singles. singles.items ≡ singles_of shown.now) }
+{
+    let mut singles = vec![in alloc; (Name::from_text(alloc, "UID")?, false)]?;
+    for property in shown {
+        singles.push((property.0.copy()?, property.1))?;
+    }
+    Ok(singles)
+}
+
+// The pieces of lines that lead to the end.
+fn pieces<'a>(
+    alloc: Global,
+    singles: &[(Name, bool)],
+    lines: &[&'a str],
+) -> Result<Vec<Piece<'a>>, Stop>
+    ensures pieces { IfOk result (λ pieces. spec.Runs singles.now spec.before (texts lines.now) (pieces_of pieces.items) spec.behind) }
+    ensures stop { IfErr result (spec.IsRunStop singles.now (texts lines.now)) }
+{
+    let mut pieces = Vec::new(alloc);
+    let mut at = Place::Before;
+    for place in 0..lines.len() {
+        match step(alloc, singles, &mut pieces, at, lines[place])? {
+            Some(to) => at = to,
+            None => return Err(Stop::At(place)),
+        }
+    }
+    match at {
+        Place::Behind => Ok(pieces),
+        _ => Err(Stop::At(lines.len())),
+    }
+}
+
+// Where a line leads, if it fits; puts the piece that it's of or ends behind others.
+fn step<'a>(
+    alloc: Global,
+    singles: &[(Name, bool)],
+    pieces: &mut Vec<Piece<'a>>,
+    from: Place<'a>,
+    line: &'a str,
+) -> Result<Option<Place<'a>>, Memory>
+    requires { spec.AreSound (place_of from) }
+    ensures { IfOk result (λ to. spec.IsStep singles.now (place_of from.entry) line.now (pieces_of pieces.old.items) (pieces_of pieces.new.items) (option_map place_of to)) }
+{
+    let Some(kind) = kind_of(line) else {
+        return Ok(None);
+    };
+    let Some(Step { to, piece }) = next(alloc, singles, from, line, kind)? else {
+        return Ok(None);
+    };
+    if let Some(piece) = piece {
+        pieces.push(piece)?;
+    }
+    Ok(Some(to))
+}
+
+// The last of some lines.
+fn last<'a>(lines: &'a [&'a str]) -> &'a [&'a str]
+    requires { 0 < length lines.now }
+    ensures { result.now ≡ drop (length lines.now - 1) lines.now }
+{
+    let (_, last) = lines.split_at(lines.len() - 1);
+    last
+}
