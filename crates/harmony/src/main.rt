@@ -3,10 +3,12 @@
 
 use hm_csv::Csv;
 use hm_format::{Format, Plain};
+use hm_ical::ICalendar;
 use hm_outside::{FileStore, StdSink};
 use hm_text_kit::{date, email, trim, yes_no};
 use hm_text_lens::TextLens;
 use hm_tree::{Memory, Name};
+use hm_vcard::VCard;
 use std::alloc::Global;
 use std::env;
 use std::io::ErrorKind;
@@ -37,6 +39,8 @@ fn words_of(alloc: Global, rt: &HostRuntime) -> Result<Vec<Name>, Memory> {
 fn status_of(alloc: Global, rt: &HostRuntime) -> Result<u8, Memory> {
     let words = words_of(alloc, rt)?;
     let mut formats: Vec<Box<dyn Format>> = Vec::new(alloc);
+    formats.push(Box::new(alloc, VCard)?)?;
+    formats.push(Box::new(alloc, ICalendar)?)?;
     formats.push(Box::new(alloc, Csv)?)?;
     formats.push(Box::new(alloc, Plain)?)?;
     let mut texts: Vec<Box<dyn TextLens>> = Vec::new(alloc);
