@@ -4,6 +4,10 @@
 #[cfg(test)]
 mod books;
 #[cfg(test)]
+mod cards;
+#[cfg(test)]
+mod events;
+#[cfg(test)]
 mod results;
 #[cfg(test)]
 mod setting;

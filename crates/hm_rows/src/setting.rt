@@ -2,10 +2,13 @@
 
 use hm_csv::Csv;
 use hm_format::{Format, Plain};
+use hm_ical::ICalendar;
 use hm_outside::{Loaded, MemSink, MemStore, Store, Stored};
 use hm_run::run;
+use hm_text_kit::date;
 use hm_text_lens::TextLens;
 use hm_tree::Name;
+use hm_vcard::VCard;
 use std::alloc::Global;
 use std::process::Abort;
 use std::test::Fail;
@@ -82,9 +85,12 @@ pub fn expect_output(
     status: u8,
 ) -> Result<(), Fail> {
     let mut formats: Vec<Box<dyn Format>> = Vec::new(alloc);
+    formats.push(Box::new(alloc, VCard)?)?;
+    formats.push(Box::new(alloc, ICalendar)?)?;
     formats.push(Box::new(alloc, Csv)?)?;
     formats.push(Box::new(alloc, Plain)?)?;
-    let texts: Vec<Box<dyn TextLens>> = Vec::new(alloc);
+    let mut texts: Vec<Box<dyn TextLens>> = Vec::new(alloc);
+    texts.push(Box::new(alloc, date(alloc)?)?)?;
     let mut out = MemSink::empty(alloc);
     let words = names_of(alloc, words)?;
     let answer = run(alloc, &words, store, &mut out, &formats, &texts);
