@@ -1,7 +1,6 @@
 pub mod TextTrees
 pub mod CardTrees
 pub mod NodeShapes
-pub mod Examples
 pub mod KindPlaces
 pub mod OpenNodes
 pub mod CardNodes

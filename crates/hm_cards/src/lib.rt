@@ -11,8 +11,6 @@
 mod book;
 mod card;
 mod nodes;
-#[cfg(test)]
-mod tests;
 
 pub use book::book_schema;
 pub use card::{card_tree, texts_at};

@@ -1,4 +1,3 @@
-mod Examples
 mod FullLines
 mod Numbers
 mod PieceLines

@@ -13,8 +13,6 @@ mod book;
 mod opening;
 mod options;
 mod reading;
-#[cfg(test)]
-mod tests;
 mod writing;
 
 pub use options::schema_of;

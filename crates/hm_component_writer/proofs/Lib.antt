@@ -5,5 +5,4 @@ pub mod TreeLaws
 mod WrittenLines
 mod Taking
 mod Passes
-mod Examples
 pub mod Laws

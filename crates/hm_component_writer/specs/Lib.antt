@@ -1,4 +1,3 @@
 pub mod Writing
 pub mod Written
 pub mod Taken
-pub mod Examples

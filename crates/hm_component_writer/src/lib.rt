@@ -7,8 +7,6 @@
 #![tactic(auto)]
 
 mod rewriting;
-#[cfg(test)]
-mod tests;
 mod trees;
 mod writer;
 

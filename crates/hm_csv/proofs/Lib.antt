@@ -1,6 +1,5 @@
 mod Books
 mod ColumnFacts
-mod Examples
 mod Keys
 mod Openings
 mod ShownNames

@@ -17,8 +17,6 @@ mod format;
 mod opening;
 mod options;
 mod reading;
-#[cfg(test)]
-mod tests;
 mod writing;
 
 pub use format::Csv;

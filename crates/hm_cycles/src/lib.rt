@@ -10,8 +10,6 @@ mod call_set;
 mod callees;
 mod first;
 mod places;
-#[cfg(test)]
-mod tests;
 mod ways;
 
 pub use first::first_in_bad_cycle;

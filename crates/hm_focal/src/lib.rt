@@ -28,8 +28,6 @@ mod lines;
 mod own;
 mod program;
 mod read;
-#[cfg(test)]
-mod tests;
 mod writer;
 
 pub use fault::LensFault;

@@ -14,8 +14,6 @@ mod format;
 mod keys;
 mod plain;
 mod sound;
-#[cfg(test)]
-mod tests;
 
 pub use fault::FormatFault;
 pub use format::Format;

@@ -7,7 +7,5 @@
 #![tactic(auto)]
 
 mod sameness;
-#[cfg(test)]
-mod tests;
 
 pub use sameness::{Vertex, same};

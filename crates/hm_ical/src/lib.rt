@@ -21,7 +21,5 @@ mod layout;
 mod line;
 mod place;
 mod scanning;
-#[cfg(test)]
-mod tests;
 
 pub use format::ICalendar;

@@ -10,8 +10,6 @@ mod depths;
 mod fault;
 mod gathering;
 mod listing;
-#[cfg(test)]
-mod tests;
 
 pub use fault::ItemTreeFault;
 pub use gathering::item_tree;

@@ -9,8 +9,6 @@
 #![tactic(auto)]
 
 mod planned;
-#[cfg(test)]
-mod tests;
 mod wanted;
 
 pub use planned::{Slot, next_place, no_counts, plan};

@@ -19,8 +19,6 @@
 
 mod content;
 mod folding;
-#[cfg(test)]
-mod tests;
 mod unfolding;
 mod values;
 

@@ -29,8 +29,6 @@ mod firsts;
 mod judge;
 mod node_line;
 mod section;
-#[cfg(test)]
-mod tests;
 mod token;
 mod writer;
 

@@ -308,24 +308,3 @@ impl<R: Files + Drop> Store for FileStore<R> {
         }
     }
 }
-
-#[cfg(test)]
-mod tests {
-    use super::*;
-
-    #[test]
-    fn reads_up_to_the_limit(rt: HostRuntime) {
-        let mut buffer = [0u8; 4];
-        for (limit, want) in [(10, true), (11, true), (9, false), (0, false)] {
-            let answer = read_all(rt.alloc(), b"0123456789".as_slice(), &mut buffer, limit);
-            match answer {
-                Loaded::Bytes(bytes) => {
-                    assert!(rt; want, "at {limit}");
-                    assert_eq!(rt; bytes.as_slice(), b"0123456789".as_slice());
-                }
-                Loaded::Large => assert!(rt; !want, "at {limit}"),
-                _ => assert!(rt; false, "at {limit}"),
-            }
-        }
-    }
-}

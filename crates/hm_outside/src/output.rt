@@ -58,35 +58,3 @@ impl<W: Write + Drop> Sink for StdSink<W> {
         }
     }
 }
-
-#[cfg(test)]
-mod tests {
-    use super::*;
-    use std::cmp;
-
-    // A writer with room for so many bytes.
-    #[derive(Drop)]
-    struct Narrow {
-        room: usize,
-    }
-
-    impl Write for Narrow {
-        fn write(&mut self, buf: &[u8]) -> io::Result<usize> {
-            let count = cmp::min(self.room, buf.len());
-            self.room -= count;
-            Ok(count)
-        }
-
-        fn flush(&mut self) -> io::Result<()> {
-            Ok(())
-        }
-    }
-
-    #[test]
-    fn a_full_writer_is_a_fault(rt: HostRuntime) {
-        let mut sink = StdSink::new(rt.alloc(), Narrow { room: 8 });
-        assert_eq!(rt; sink.put(b"12345"), Put::Done);
-        assert_eq!(rt; sink.put(b"67890"), Put::Failed);
-        assert_eq!(rt; sink.put(b""), Put::Done);
-    }
-}

@@ -52,8 +52,3 @@ all_built whole left t so none = go left so.all none
     go : (left : List Tree) → whole ≡ left ++ so.done → length left ≡ 0 → HasItems t whole
     go [] all none = subst (HasItems t) (sym all) so.is
     go (x ∷ xs) all none = absurd (omega arith)
-
--- a tree that has items is a list
-pub items_list : (t : Tree) (xs : List Tree) → HasItems t xs → IsList t
-items_list t xs (none_left none) = no_items none
-items_list t xs (and_then {r = r} {xs = ys} is rest) = an_item is tt (items_list r ys rest)

@@ -8,8 +8,6 @@
 
 mod edge;
 mod list;
-#[cfg(test)]
-mod tests;
 mod twin;
 
 pub use edge::{hoist, into_child, plunge, under, value, value_of};

@@ -13,8 +13,6 @@
 
 mod cutting;
 mod showing;
-#[cfg(test)]
-mod tests;
 mod writing;
 
 pub use cutting::pieces;

@@ -14,5 +14,4 @@ mod HiddenLines
 mod Keys
 mod OwnCards
 mod StayingLines
-mod Examples
 pub mod Laws

@@ -1,4 +1,3 @@
 pub mod Lines
 pub mod Rewriting
 pub mod Lent
-pub mod Examples

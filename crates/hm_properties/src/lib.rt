@@ -16,8 +16,6 @@ mod card;
 mod line;
 mod rewriting;
 mod second;
-#[cfg(test)]
-mod tests;
 mod writing;
 
 pub use card::{card_of, key_of};

@@ -13,8 +13,6 @@ mod fields;
 mod header;
 mod reader;
 mod records;
-#[cfg(test)]
-mod tests;
 mod writer;
 
 pub use fault::RecordsFault;

@@ -12,7 +12,5 @@ mod keys;
 mod partition;
 mod quotient;
 mod reduced;
-#[cfg(test)]
-mod tests;
 
 pub use reduced::Reduced;

@@ -8,6 +8,8 @@ mod cards;
 #[cfg(test)]
 mod events;
 #[cfg(test)]
+mod outside;
+#[cfg(test)]
 mod results;
 #[cfg(test)]
 mod setting;

@@ -15,8 +15,6 @@ mod fault;
 mod head;
 mod judge;
 mod read;
-#[cfg(test)]
-mod tests;
 
 pub use fault::SchemaFault;
 pub use read::read_schema;

@@ -13,8 +13,6 @@ mod opening;
 mod replicas;
 mod side;
 mod stops;
-#[cfg(test)]
-mod tests;
 mod views;
 
 pub use opening::open_side;

@@ -33,8 +33,6 @@ mod limit;
 mod names;
 mod plain;
 mod reader;
-#[cfg(test)]
-mod tests;
 mod writer;
 
 pub use count::is_long;

@@ -6,8 +6,6 @@ mod fold_case;
 mod lenses;
 mod swap_date;
 mod swap_words;
-#[cfg(test)]
-mod tests;
 mod trim_ends;
 
 pub use fold_case::FoldCase;

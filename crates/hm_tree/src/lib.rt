@@ -19,8 +19,6 @@ mod name_set;
 mod parts;
 mod path;
 mod spelling;
-#[cfg(test)]
-mod tests;
 mod text;
 mod tree;
 mod within;

@@ -26,6 +26,3 @@ mod writer;
 pub use fault::TextFault;
 pub use reader::{first_tree, read_archive, read_tree};
 pub use writer::{spell_tree, write_archive, write_tree};
-
-#[cfg(test)]
-mod tests;

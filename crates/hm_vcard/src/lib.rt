@@ -17,7 +17,5 @@ mod format;
 mod grammar;
 mod opening;
 mod property;
-#[cfg(test)]
-mod tests;
 
 pub use format::VCard;

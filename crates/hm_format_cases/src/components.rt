@@ -1,0 +1,197 @@
+//! Small files of cards, with expected lines by hand.
+ghost use Rattle.std.specs.Prelude.{◌≡◌, ◌++◌, IfOk, OnOk};
+ghost use Rattle.hm_lines.specs.Content.{IsWord};
+ghost use Rattle.hm_properties.specs.Lines.{IsLine};
+ghost use Rattle.hm_properties.specs.Lent.{AreLines, line_of};
+ghost use Rattle.hm_components.specs.Components as spec;
+ghost use Rattle.hm_components.specs.Lent.{texts, component_of, piece_of, layout_of, HasLines, HaveLines};
+ghost use Rattle.hm_format_cases.specs.Shown.{one_property};
+
+use hm_component_writer::rewrite;
+use hm_components::{Component, Kind, Layout, Piece, tree_of};
+use hm_item_trees::item_lists;
+use hm_lines::parts;
+use hm_properties::Line;
+use hm_tree::Name;
+use std::alloc::Global;
+use std::process::Abort;
+use std::test::Fail;
+
+fn line(text: &str) -> Line<'_>
+    ensures { IsLine (line_of result) }
+{
+    Line {
+        text,
+        parts: parts(text),
+    }
+}
+
+fn with_parts<'a>(alloc: Global, texts: &[&'a str]) -> Result<Vec<Line<'a>>, Fail>
+    ensures { IfOk result (λ lines. AreLines lines.items) }
+{
+    let mut lines = Vec::new(alloc);
+    for text in texts {
+        lines.push(line(text))?;
+    }
+    Ok(lines)
+}
+
+// One line is of no component; more of them are one.
+fn piece<'a>(alloc: Global, lines: &[&'a str]) -> Result<Piece<'a>, Fail>
+    ensures { IfOk result HasLines }
+{
+    if let [line] = lines {
+        return Ok(Piece::Other(line));
+    }
+    let Some((end, others)) = lines.split_last() else {
+        return Err("no line".into());
+    };
+    Ok(Piece::Item(Component {
+        lines: with_parts(alloc, others)?,
+        end,
+    }))
+}
+
+fn pieces<'a>(alloc: Global, all: &[&[&'a str]]) -> Result<Vec<Piece<'a>>, Fail>
+    ensures { IfOk result (λ pieces. HaveLines pieces.items) }
+{
+    let mut pieces = Vec::new(alloc);
+    for lines in all {
+        pieces.push(piece(alloc, lines)?)?;
+    }
+    Ok(pieces)
+}
+
+fn append<'a>(lines: &mut Vec<&'a str>, piece: &Piece<'a>) -> Result<(), Fail>
+    ensures { OnOk result (texts lines.new.items ≡ texts lines.old.items ++ spec.piece_lines (piece_of piece.now)) }
+{
+    match piece {
+        Piece::Other(line) => lines.push(line)?,
+        Piece::Item(component) => append_all(lines, component)?,
+    }
+    Ok(())
+}
+
+fn append_all<'a>(lines: &mut Vec<&'a str>, component: &Component<'a>) -> Result<(), Fail>
+    ensures { OnOk result (texts lines.new.items ≡ texts lines.old.items ++ spec.lines_of (component_of component.now)) }
+{
+    for line in &component.lines {
+        lines.push(line.text)?;
+    }
+    lines.push(component.end)?;
+    Ok(())
+}
+
+fn lines_of<'a>(alloc: Global, layout: &Layout<'a>) -> Result<Vec<&'a str>, Fail>
+    ensures { IfOk result (λ lines. texts lines.items ≡ spec.all_lines (layout_of layout.now)) }
+{
+    let mut lines = Vec::new(alloc);
+    for piece in &layout.pieces {
+        append(&mut lines, piece)?;
+    }
+    for line in layout.end {
+        lines.push(*line)?;
+    }
+    Ok(lines)
+}
+
+fn kind(alloc: Global) -> Result<Kind<'static>, Fail>
+    ensures word { IfOk result (λ kind. IsWord kind.key) }
+    ensures front { IfOk result (λ kind. AreLines kind.front.items) }
+    ensures more { IfOk result (λ kind. AreLines kind.more.items) }
+{
+    Ok(Kind {
+        key: Name::from_text(alloc, "FN")?,
+        front: with_parts(alloc, &["BEGIN"])?,
+        more: with_parts(alloc, &["VERSION:4.0"])?,
+        end: "END",
+    })
+}
+
+fn shown(alloc: Global) -> Result<Vec<(Name, bool)>, Fail>
+    ensures { IfOk result (λ shown. shown.items ≡ one_property) }
+{
+    let telephone = Name::from_text(alloc, "TEL")?;
+    Ok(vec![in alloc; (telephone, true)]?)
+}
+
+// What is written of some components where those of others are shown.
+fn written<'a>(
+    alloc: Global,
+    before: &[&[&'a str]],
+    other: &[&[&'a str]],
+) -> Result<Option<Vec<u8>>, Fail> {
+    let end: &'static [&'static str] = &["Z"];
+    let old = Layout {
+        pieces: pieces(alloc, before)?,
+        end,
+    };
+    let new = Layout {
+        pieces: pieces(alloc, other)?,
+        end,
+    };
+    let kind = kind(alloc)?;
+    let shown = shown(alloc)?;
+    let Ok(_) = tree_of(alloc, &kind.key, &shown, &old, 100) else {
+        return Err("a component has no key".into());
+    };
+    let Ok(tree) = tree_of(alloc, &kind.key, &shown, &new, 100) else {
+        return Err("a component has no key".into());
+    };
+    let lists = item_lists(alloc, &tree)?;
+    let lines = lines_of(alloc, &old)?;
+    Ok(rewrite(alloc, &kind, &shown, &old, &lines, &lists)?)
+}
+
+fn expect(
+    rt: &impl Abort,
+    alloc: Global,
+    before: &[&[&str]],
+    other: &[&[&str]],
+    want: Option<&str>,
+) -> Result<(), Fail> {
+    let text = written(alloc, before, other)?;
+    assert_eq!(rt; text.as_deref(), want.map(|text| text.as_bytes()));
+    Ok(())
+}
+
+#[test]
+fn components_survive_and_new_ones_follow(rt: HostRuntime) -> Result<(), Fail> {
+    let alloc = rt.alloc();
+    expect(
+        &rt,
+        alloc,
+        &[
+            &["A:1"],
+            &["BEGIN", "FN:Ann", "TEL:1", "END"],
+            &["A:2"],
+            &["BEGIN", "FN:Bob", "X:", "END"],
+            &["BEGIN", "FN:Ann", "TEL:2", "END"],
+        ],
+        &[
+            &["BEGIN", "FN:Ann", "TEL:1", "TEL:3", "END"],
+            &["BEGIN", "FN:Eve", "TEL:4", "END"],
+        ],
+        Some(
+            "A:1\r\nBEGIN\r\nFN:Ann\r\nTEL:1\r\nTEL:3\r\nEND\r\nA:2\r\nBEGIN\r\nFN:Eve\r\nVERSION:4.0\r\nTEL:4\r\nEND\r\nZ\r\n",
+        ),
+    )
+}
+
+#[test]
+fn lines_that_stay_are_not_written(rt: HostRuntime) -> Result<(), Fail> {
+    let alloc = rt.alloc();
+    let ann: &[&str] = &["BEGIN", "FN:Ann", "TEL:1", "X:", "END"];
+    // The same card, by other lines.
+    let other: &[&str] = &["BEGIN", "TEL:1", "FN:Ann", "END"];
+    expect(&rt, alloc, &[&["A:1"], ann, &["A:2"]], &[ann], None)?;
+    expect(&rt, alloc, &[&["A:1"], ann, &["A:2"]], &[other], None)?;
+    expect(&rt, alloc, &[&["A:1"], ann], &[], Some("A:1\r\nZ\r\n"))?;
+    expect(
+        &rt,
+        alloc,
+        &[&["A:1"]],
+        &[other],
+        Some("A:1\r\nBEGIN\r\nFN:Ann\r\nVERSION:4.0\r\nTEL:1\r\nEND\r\nZ\r\n"),
+    )
+}

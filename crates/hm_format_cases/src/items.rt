@@ -1,0 +1,67 @@
+//! A file whose tree has changed.
+use hm_items::{Slot, next_place, no_counts, plan};
+use hm_tree::{Memory, Name};
+use std::alloc::Global;
+use std::test::Fail;
+
+fn named(alloc: Global, names: &[&str]) -> Result<Vec<Name>, Memory> {
+    let mut all = Vec::new(alloc);
+    for name in names {
+        all.push(Name::from_text(alloc, name)?)?;
+    }
+    Ok(all)
+}
+
+// Two of three items with one key stay, one of another key goes, and there is an item of a third key.
+#[test]
+fn survivors_and_new_items(rt: HostRuntime) -> Result<(), Fail> {
+    let alloc = rt.alloc();
+    let keys = named(alloc, &["b", "a", "b", "c", "b"])?;
+    let a = Name::from_text(alloc, "a")?;
+    let b = Name::from_text(alloc, "b")?;
+    let d = Name::from_text(alloc, "d")?;
+    let wanted = [(&a, 2), (&b, 2), (&d, 1)];
+    let slots = plan(alloc, &keys, &wanted)?;
+    let want = [
+        Slot {
+            edge: 1,
+            from: Some(0),
+            place: 0,
+        },
+        Slot {
+            edge: 0,
+            from: Some(1),
+            place: 0,
+        },
+        Slot {
+            edge: 1,
+            from: Some(2),
+            place: 1,
+        },
+        Slot {
+            edge: 0,
+            from: None,
+            place: 1,
+        },
+        Slot {
+            edge: 2,
+            from: None,
+            place: 0,
+        },
+    ];
+    assert_eq!(&rt; slots.as_slice(), want.as_slice());
+    Ok(())
+}
+
+// The same of one item after another.
+#[test]
+fn places_of_survivors(rt: HostRuntime) -> Result<(), Fail> {
+    let alloc = rt.alloc();
+    let a = Name::from_text(alloc, "a")?;
+    let b = Name::from_text(alloc, "b")?;
+    let wanted = [(&a, 2), (&b, 1)];
+    let mut counts = no_counts(alloc, &wanted)?;
+    assert_eq!(&rt; next_place(&wanted, &b, &mut counts)?, Some((1, 0)));
+    assert_eq!(&rt; next_place(&wanted, &b, &mut counts)?, None);
+    Ok(())
+}

@@ -1,0 +1,17 @@
+//! Small cases of the calls on lens programs and lens files, with expected values by hand.
+#![tactic(auto)]
+
+#[cfg(test)]
+mod cycles;
+#[cfg(test)]
+mod lens_files;
+#[cfg(test)]
+mod numbers;
+#[cfg(test)]
+mod parts;
+#[cfg(test)]
+mod sides;
+#[cfg(test)]
+mod terms;
+#[cfg(test)]
+mod text_lenses;

@@ -1,0 +1,21 @@
+//! Small cases of the calls on trees, schemas and their texts, with expected values by hand.
+#![tactic(auto)]
+
+#[cfg(test)]
+mod graphs;
+#[cfg(test)]
+mod node_lines;
+#[cfg(test)]
+mod reduced;
+#[cfg(test)]
+mod reports;
+#[cfg(test)]
+mod sameness;
+#[cfg(test)]
+mod schema_texts;
+#[cfg(test)]
+mod schemas;
+#[cfg(test)]
+mod tree_texts;
+#[cfg(test)]
+mod trees;
