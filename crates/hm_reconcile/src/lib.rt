@@ -1,7 +1,7 @@
 //! Reconciling two replicas against the archive of what they last agreed on.
 //!
 //! Under each name one of a few things happens: what one side alone has, or both have alike, is settled as a whole
-//! (`side`, `whole`); what both have is gone through name by name (`node`), once it is known which names the sides are
+//! (`side`); what both have is gone through name by name (`node`), once it is known which names the sides are
 //! to have and that the schema permits them (`carried`, `names`). Then the topmost marks of the new archive are listed
 //! (`marks`), and for each of them what shows why is found in what the old archive held there (`conflicts`,
 //! `reasons`). Nothing is copied that can be moved.
@@ -19,7 +19,6 @@ mod paths;
 mod reasons;
 mod side;
 mod trees;
-mod whole;
 
 ghost use Rattle.std.specs.Prelude.{IfOk};
 ghost use Rattle.hm_schema.specs.Membership.{HasNoTwins};
@@ -33,7 +32,6 @@ pub use hm_report::Outcome;
 use hm_schema::Schema;
 use hm_tree::{Archive, Memory, Tree};
 use std::alloc::Global;
-pub use whole::side_for_all;
 
 /// Reconciles two members of a schema against the archive of what they last agreed on: name by name, what only one
 /// side changed is carried to the other, as far as each node permits the names that come to stand there; where both
