@@ -65,32 +65,21 @@ fn reads_the_examples(rt: HostRuntime) -> Result<(), Fail> {
 #[test]
 fn heads(rt: HostRuntime) {
     let alloc = rt.alloc();
-    expect_line(
-        &rt,
-        alloc,
-        "harmony lens 1\nformat tree\nmain = rename(a,b)\n",
-        0,
-    );
-    expect_line(&rt, alloc, "", 1);
-    expect_line(&rt, alloc, "harmony lens 1", 2);
-    expect_line(&rt, alloc, "harmony lens 1\nformat tree", 3);
-    expect_line(&rt, alloc, "harmony lens 2\nformat tree\nmain = id\n", 1);
-    expect_line(&rt, alloc, "harmony schema 1\nformat tree\nmain = id\n", 1);
-    expect_line(
-        &rt,
-        alloc,
-        "#\n\nharmony  lens 1\r\n#\nformat tree\r\n\nmain = id",
-        0,
-    );
-    expect_line(&rt, alloc, "harmony lens 1\nmain = id\n", 2);
-    expect_line(&rt, alloc, "format tree\nharmony lens 1\nmain = id\n", 1);
-    expect_line(
-        &rt,
-        alloc,
-        "harmony lens 1\nformat tree\nformat tree\nmain = id\n",
-        3,
-    );
-    expect_line(&rt, alloc, "node A\n  shape\n", 1);
+    for (text, line) in [
+        ("harmony lens 1\nformat tree\nmain = rename(a,b)\n", 0),
+        ("", 1),
+        ("harmony lens 1", 2),
+        ("harmony lens 1\nformat tree", 3),
+        ("harmony lens 2\nformat tree\nmain = id\n", 1),
+        ("harmony schema 1\nformat tree\nmain = id\n", 1),
+        ("#\n\nharmony  lens 1\r\n#\nformat tree\r\n\nmain = id", 0),
+        ("harmony lens 1\nmain = id\n", 2),
+        ("format tree\nharmony lens 1\nmain = id\n", 1),
+        ("harmony lens 1\nformat tree\nformat tree\nmain = id\n", 3),
+        ("node A\n  shape\n", 1),
+    ] {
+        expect_line(&rt, alloc, text, line);
+    }
 }
 
 #[test]
@@ -124,100 +113,103 @@ fn options(rt: HostRuntime) {
 #[test]
 fn lens_lines(rt: HostRuntime) -> Result<(), Fail> {
     let alloc = rt.alloc();
-    expect_behind(&rt, alloc, "lens a Empty Empty = id\nmain = call(a)\n", 0)?;
-    expect_behind(
-        &rt,
-        alloc,
-        "lens  a Empty  Empty  =  ( id ; id )\nmain = call(a)\n",
-        0,
-    )?;
-    expect_behind(&rt, alloc, "lens a Empty Empty= id\nmain = id\n", 3)?;
-    expect_behind(&rt, alloc, "lens a Empty Empty =id\nmain = id\n", 3)?;
-    expect_behind(&rt, alloc, "lens a Empty = id\nmain = id\n", 3)?;
-    expect_behind(&rt, alloc, "lens a Empty Empty Empty = id\nmain = id\n", 3)?;
-    expect_behind(&rt, alloc, "lens a Empty Empty = id \nmain = id\n", 3)?;
-    expect_behind(&rt, alloc, " lens a Empty Empty = id\nmain = id\n", 3)?;
-    expect_behind(&rt, alloc, "lens a Empty Empty = i\nmain = id\n", 3)?;
-    expect_behind(&rt, alloc, "lens a A Empty = id\nmain = id\n", 3)?;
-    expect_behind(&rt, alloc, "lens a Empty A = id\nmain = id\n", 3)?;
-    expect_behind(
-        &rt,
-        alloc,
-        "lens a Empty Empty = id\nlens a Empty Empty = id\nmain = id\n",
-        4,
-    )?;
-    expect_behind(&rt, alloc, "lens a Empty Empty = call(b)\nmain = id\n", 3)?;
-    expect_behind(
-        &rt,
-        alloc,
-        "lens a Empty Empty = call(b)\nlens b Empty Empty = i\nmain = id\n",
-        3,
-    )?;
-    expect_behind(
-        &rt,
-        alloc,
-        "lens a Empty Empty = call(b)\nmain = id\nlens b Empty Empty = id\n",
-        3,
-    )
+    for (lines, number) in [
+        ("lens a Empty Empty = id\nmain = call(a)\n", 0),
+        ("lens  a Empty  Empty  =  ( id ; id )\nmain = call(a)\n", 0),
+        ("lens a Empty Empty= id\nmain = id\n", 3),
+        ("lens a Empty Empty =id\nmain = id\n", 3),
+        ("lens a Empty = id\nmain = id\n", 3),
+        ("lens a Empty Empty Empty = id\nmain = id\n", 3),
+        ("lens a Empty Empty = id \nmain = id\n", 3),
+        (" lens a Empty Empty = id\nmain = id\n", 3),
+        ("lens a Empty Empty = i\nmain = id\n", 3),
+        ("lens a A Empty = id\nmain = id\n", 3),
+        ("lens a Empty A = id\nmain = id\n", 3),
+        (
+            "lens a Empty Empty = id\nlens a Empty Empty = id\nmain = id\n",
+            4,
+        ),
+        ("lens a Empty Empty = call(b)\nmain = id\n", 3),
+        (
+            "lens a Empty Empty = call(b)\nlens b Empty Empty = i\nmain = id\n",
+            3,
+        ),
+        (
+            "lens a Empty Empty = call(b)\nmain = id\nlens b Empty Empty = id\n",
+            3,
+        ),
+    ] {
+        expect_behind(&rt, alloc, lines, number)?;
+    }
+    Ok(())
 }
 
 #[test]
 fn the_order_of_lines(rt: HostRuntime) -> Result<(), Fail> {
     let alloc = rt.alloc();
-    expect_behind(&rt, alloc, "main = call(b)\n", 3)?;
-    expect_behind(&rt, alloc, "main = id\nmain = id\n", 4)?;
-    expect_behind(&rt, alloc, "main = id\nnode A\n", 4)?;
-    expect_behind(&rt, alloc, "lens a Empty Empty = id\n", 4)?;
-    expect_behind(&rt, alloc, "# one\nlens a Empty Empty = id\n# two\n", 6)?;
-    expect_behind(
-        &rt,
-        alloc,
-        "node A\n  edge x B\n  shape x\nlens a A A = id\nnode B\n  shape\nmain = id\n",
-        4,
-    )?;
-    expect_behind(
-        &rt,
-        alloc,
-        "node A\n  shape x\nlens a A A = id\n  edge x Empty\nmain = id\n",
-        4,
-    )?;
-    expect_behind(
-        &rt,
-        alloc,
-        "node A\n  shape\nlens a A A = i\nnode B\n  shape\nmain = id\n",
-        5,
-    )
+    for (lines, number) in [
+        ("main = call(b)\n", 3),
+        ("main = id\nmain = id\n", 4),
+        ("main = id\nnode A\n", 4),
+        ("lens a Empty Empty = id\n", 4),
+        ("# one\nlens a Empty Empty = id\n# two\n", 6),
+        (
+            "node A\n  edge x B\n  shape x\nlens a A A = id\nnode B\n  shape\nmain = id\n",
+            4,
+        ),
+        (
+            "node A\n  shape x\nlens a A A = id\n  edge x Empty\nmain = id\n",
+            4,
+        ),
+        (
+            "node A\n  shape\nlens a A A = i\nnode B\n  shape\nmain = id\n",
+            5,
+        ),
+    ] {
+        expect_behind(&rt, alloc, lines, number)?;
+    }
+    Ok(())
 }
 
+// Two hundred definitions are read, and no more.
 #[test]
-fn limits(rt: HostRuntime) -> Result<(), Fail> {
+fn definitions_are_limited(rt: HostRuntime) -> Result<(), Fail> {
     let alloc = rt.alloc();
     let mut lines = String::new(alloc);
     for number in 0..200 {
         let line = format!(in alloc; "lens a{number} Empty Empty = id\n")?;
         lines.push_str(line.as_str())?;
     }
-    let full = format!(in alloc; "{lines}main = id\n", lines = lines.as_str())?;
-    expect_behind(&rt, alloc, full.as_str(), 0)?;
-    let over = format!(in alloc;
-        "{lines}lens b Empty Empty = id\nmain = id\n",
-        lines = lines.as_str()
-    )?;
-    expect_behind(&rt, alloc, over.as_str(), 203)?;
-    // A lens on each of 1,999 names is 2,000 terms, and one more is too many.
+    for (more, number) in [("", 0), ("lens b Empty Empty = id\n", 203)] {
+        let text = format!(in alloc; "{lines}{more}main = id\n", lines = lines.as_str())?;
+        expect_behind(&rt, alloc, text.as_str(), number)?;
+    }
+    Ok(())
+}
+
+// A lens on each of 1,999 names is 2,000 terms, and one more is too many.
+#[test]
+fn terms_are_limited(rt: HostRuntime) -> Result<(), Fail> {
+    let alloc = rt.alloc();
     let mut pairs = String::new(alloc);
     for number in 1..1999 {
         let pair = format!(in alloc; "k{number}=id,")?;
         pairs.push_str(pair.as_str())?;
     }
-    let full = format!(in alloc; "main = wmap({pairs}a=id)\n", pairs = pairs.as_str())?;
-    expect_behind(&rt, alloc, full.as_str(), 0)?;
-    let over = format!(in alloc;
-        "lens a Empty Empty = wmap({pairs}a=id,b=id)\nmain = id\n",
-        pairs = pairs.as_str()
-    )?;
-    expect_behind(&rt, alloc, over.as_str(), 3)?;
-    // Parentheses that are open within one another.
+    for (more, number) in [("a=id", 0), ("a=id,b=id", 3)] {
+        let text = format!(in alloc;
+            "lens a Empty Empty = wmap({pairs}{more})\nmain = id\n",
+            pairs = pairs.as_str()
+        )?;
+        expect_behind(&rt, alloc, text.as_str(), number)?;
+    }
+    Ok(())
+}
+
+// Parentheses that are open within one another.
+#[test]
+fn parentheses_are_limited(rt: HostRuntime) -> Result<(), Fail> {
+    let alloc = rt.alloc();
     let mut open = String::new(alloc);
     let mut closed = String::new(alloc);
     for _ in 0..201 {
