@@ -5,6 +5,7 @@ mod ShowSteps
 mod PutSteps
 mod PutItems
 mod PutChildren
+mod BackSteps
 mod StageSteps
 mod Indexing
 mod Giving

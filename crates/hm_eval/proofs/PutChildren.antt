@@ -35,11 +35,15 @@ pub record IsPutChild (S : Setting) (b : Option Tree) (e : Name × Child) (f : N
 abbrev pub AreBefore : List (Name × Child) → Name → Type 0
 AreBefore xs k = (j : ℕ) (d : Name × Child) → j < length xs → name_cmp (get_or xs j d).0 k ≡ Less
 
+-- what is left of a tree from before, behind the children that a loop has taken
+pub record IsLeft (b : Option Tree) (xs : List (Name × Child)) (rest : List (Name × Tree)) : Type 0 where
+  pub sorted : T (is_sorted name_cmp rest)
+  pub later : (k : Name) → AreBefore xs k → find name_cmp k rest ≡ under k b
+
 -- how far a loop has come: what was put of the children so far, and what is left of the tree from before
 pub record IsPutSoFar (S : Setting) (b : Option Tree) (xs : List (Name × Child)) (made rest : List (Name × Tree)) : Type 0 where
   pub paired : Paired (IsPutChild S b) xs made
-  pub sorted : T (is_sorted name_cmp rest)
-  pub left : (k : Name) → AreBefore xs k → find name_cmp k rest ≡ under k b
+  pub left : IsLeft b xs rest
 
 before_last : (xs : List (Name × Child)) (k q : Name) (c : Child) → AreBefore (xs ++ (k, c) ∷ []) q → AreBefore xs q × (name_cmp k q ≡ Less)
 before_last [] k q c h = (λ j d lt. absurd (omega arith), h 0 (k, c) (omega arith))
@@ -50,6 +54,18 @@ before_last (x ∷ xs) k q c h =
     go : (j : ℕ) (d : Name × Child) → j < length (x ∷ xs) → AreBefore xs q → name_cmp (get_or (x ∷ xs) j d).0 q ≡ Less
     go zero d lt r = h 0 d (omega arith)
     go (suc j) d lt r = r j d (omega arith)
+
+pub none_left : (b : Option Tree) (rest : List (Name × Tree)) → T (is_sorted name_cmp rest) → ((k : Name) → find name_cmp k rest ≡ under k b)
+    → IsLeft b [] rest
+none_left b rest s f = record { sorted = s; later = λ k h. f k }
+
+pub more_left : (b : Option Tree) (xs : List (Name × Child)) (rest taken left : List (Name × Tree)) (k : Name) (x : Child) → IsLeft b xs rest → left ≡ taken
+    → T (is_sorted name_cmp taken) → ((q : Name) → name_cmp k q ≡ Less → find name_cmp q taken ≡ find name_cmp q rest)
+    → IsLeft b (xs ++ (k, x) ∷ []) left
+more_left b xs rest taken left k x so same s f = subst (IsLeft b (xs ++ (k, x) ∷ [])) (sym same) (record {
+  sorted = s;
+  later = λ q h. let parts = before_last xs k q x h in f q parts.1 ∙ so.later q parts.0;
+})
 
 -- the names that a loop has taken are less than the next one
 below_mapped : (n : Name) (es : List (Name × Child)) → T (below_all n (map edge_of es)) → T (below_all n es)
@@ -78,22 +94,21 @@ next_before z v es xs us k x are cut = sorted_cut k x xs us (subst (λ l. T (is_
 module _ (S : Setting) where
   pub none_put : (b : Option Tree) (made rest : List (Name × Tree)) → made ≡ [] → T (is_sorted name_cmp rest)
       → ((k : Name) → find name_cmp k rest ≡ under k b) → IsPutSoFar S b [] made rest
-  none_put b made rest e s f = record { paired = none_paired made e; sorted = s; left = λ k h. f k }
+  none_put b made rest e s f = record { paired = none_paired made e; left = none_left b rest s f }
 
   pub more_put : (b : Option Tree) (xs : List (Name × Child)) (made more rest taken left : List (Name × Tree)) (k : Name) (x : Child) (y : Tree)
       → IsPutSoFar S b xs made rest → PutsBy S (option_lens x.lens) x.tree (under k b) y → more ≡ made ++ (k, y) ∷ [] → left ≡ taken
       → T (is_sorted name_cmp taken) → ((q : Name) → name_cmp k q ≡ Less → find name_cmp q taken ≡ find name_cmp q rest)
       → IsPutSoFar S b (xs ++ (k, x) ∷ []) more left
-  more_put b xs made more rest taken left k x y so p e same s f = subst (IsPutSoFar S b (xs ++ (k, x) ∷ []) more) (sym same) (record {
+  more_put b xs made more rest taken left k x y so p e same s f = record {
     paired = more_paired xs made more (k, x) (k, y) so.paired (record { name = refl; put = p }) e;
-    sorted = s;
-    left = λ q h. let parts = before_last xs k q x h in f q parts.1 ∙ so.left q parts.0;
-  })
+    left = more_left b xs rest taken left k x so.left same s f;
+  }
 
-  abbrev PutsFor : Lens → Option Tree → Name → Tree → Tree → Type 0
+  abbrev pub PutsFor : Lens → Option Tree → Name → Tree → Tree → Type 0
   PutsFor z b k x y = PutsBy S (lens_for z k) x (under k b) y
 
-  puts_over : (z : Lens) → IsOnChildren z → (v : Tree) (b : Option Tree) (c : Tree) → Puts S z v b c → IsBesideTree (PutsFor z b) v c
+  pub puts_over : (z : Lens) → IsOnChildren z → (v : Tree) (b : Option Tree) (c : Tree) → Puts S z v b c → IsBesideTree (PutsFor z b) v c
   puts_over z on_each v b c (put_each e f) = record { same = e; each = f }
   puts_over z (on_among {ls = ls}) v b c (put_among e f o) = record { same = e; each = λ k x y at there. go k x y (lens_at k ls) refl at there }
     where

@@ -28,7 +28,7 @@ module _ (S : Setting) (l : Lens) where
   puts_of v b c (put_items_none is e f) = is
   puts_of v b c (put_items_more is e p q f) = is
 
-  view_list : (v : Tree) (b : Option Tree) (c : Tree) → Puts S (items l) v b c → IsList v
+  pub view_list : (v : Tree) (b : Option Tree) (c : Tree) → Puts S (items l) v b c → IsList v
   view_list v b c (put_items_none is none f) = no_items none
   view_list v b c (put_items_more {r = r} {t = t} is e p q f) = an_item e tt (view_list r (under tail b) t q)
 

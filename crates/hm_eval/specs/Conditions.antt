@@ -1,5 +1,5 @@
 -- When a lens may run.
-use Rattle.std.specs.Prelude.{◌≡◌, not, Option}
+use Rattle.std.specs.Prelude.{◌≡◌, not, Option, Some, None}
 use Rattle.std.specs.Option.{option_map}
 use Rattle.std.specs.FinSet.{contains}
 use Rattle.hm_tree.specs.Parts.{part}
@@ -23,6 +23,11 @@ pub record IsPut (S : Setting) (l : Lens) (v : Tree) (b : Option Tree) : Type 0 
 pub record IsShownBefore (S : Setting) (l : Lens) (b : Option Tree) : Type 0 where
   pub tree : Option Tree
   pub is : ShowsBefore S l b tree
+
+-- a lens puts what was shown of the tree from before back as that tree; or there is neither
+pub data GivesBack (S : Setting) (l : Lens) : Option Tree → Option Tree → Type 0 where
+  neither : GivesBack S l None None
+  given_back : {v b : Tree} → Puts S l v (Some b) b → GivesBack S l (Some v) (Some b)
 
 -- the edges of a tree from before whose names are in a set, and the others
 pub record IsSplitBefore (P : Names) (b : Option Tree) (parts : Option Tree × Option Tree) : Type 0 where

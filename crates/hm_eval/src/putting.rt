@@ -48,9 +48,9 @@ pub fn put_owned(
     put_by(u64::MAX, &run, &program.main, shown, before)
 }
 
-// What a lens puts, by so many levels of recursion at most. Each kind of lens has its steps here, since functions that call
-// one another may not be lent text lenses of unknown types.
-fn put_by(
+/// What a lens puts, by so many levels of recursion at most. Each kind of lens has its steps here, since functions that call
+/// one another may not be lent text lenses of unknown types.
+pub fn put_by(
     levels: u64,
     run: &Run,
     term: &Term,

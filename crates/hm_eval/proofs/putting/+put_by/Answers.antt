@@ -185,7 +185,7 @@ put_by-requires-in-Some-lens g t c =
             (next_at all road c.loop-name.yielded c.loop-name.name-iterator c.loop-name.yielded_by c.next-in-loop-name.result c.next-in-loop-name.new.self
             c.next-in-loop-name.ensures.steps _ c.in-Some-2.is)
             c.in-Some-lens.is
-            (c.take_under-old.ensures.taken ∙ c.loop-name.invariant.left c.in-Some-2.name (next_before _ _ _ _ _ _ c.in-Some-2.child
+            (c.take_under-old.ensures.taken ∙ c.loop-name.invariant.left.later c.in-Some-2.name (next_before _ _ _ _ _ _ c.in-Some-2.child
             c.in_ok-items-in-Map.ensures w.1))
             c.requires.put,
       ),
@@ -197,7 +197,7 @@ loop-name-preserved g t c =
     let road = YieldsList-from_vec {s = c.into_iter-name-iterator.result} all (search rules) (search rules) in
     let w = next_cut all road c.loop-name.yielded c.loop-name.name-iterator c.loop-name.yielded_by c.next-in-loop-name.result c.next-in-loop-name.new.self
     c.next-in-loop-name.ensures.steps _ c.in-Some-2.is in
-    let left = c.loop-name.invariant.left c.in-Some-2.name (next_before _ _ _ _ _ _ c.in-Some-2.child c.in_ok-items-in-Map.ensures w.1) in
+    let left = c.loop-name.invariant.left.later c.in-Some-2.name (next_before _ _ _ _ _ _ c.in-Some-2.child c.in_ok-items-in-Map.ensures w.1) in
     elim c.match-child.branch [
       | in-Some-lens+in_ok-tree-in-Some-lens w ↦
           more_put _ _ _ _ _ _ _ _ c.in-Some-2.name c.in-Some-2.child c.match-child.tree c.loop-name.invariant
@@ -207,7 +207,7 @@ loop-name-preserved g t c =
       | in-None-lens w ↦
           more_put _ _ _ _ _ _ _ _ c.in-Some-2.name c.in-Some-2.child c.match-child.tree c.loop-name.invariant
           (put_by_none _ _ _ _ _ w.in-None-lens.is w.tree-is) c.in_ok-push-in-Map.ensures.items
-          (ap deque_items w.rest-is) c.loop-name.invariant.sorted (λ q less. refl)
+          (ap deque_items w.rest-is) c.loop-name.invariant.left.sorted (λ q less. refl)
     ]
 
 pub of_edges-requires : goal.of_edges-requires

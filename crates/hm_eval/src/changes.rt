@@ -1,0 +1,136 @@
+//! What lenses put of a view that is for the most part as it was.
+ghost use Rattle.std.specs.Prelude.{◌≡◌, ◌↔◌, IfOk, IsTrue, Some, map, option_copied};
+ghost use Rattle.hm_terms.specs.Programs.{lens_of, program_value, setting_of};
+ghost use Rattle.hm_terms.specs.Put.{Puts};
+ghost use Rattle.hm_eval.specs.Conditions.{GivesBack, IsPut};
+ghost use Rattle.hm_eval.specs.Terms.{setting_in, IsIndex};
+
+use crate::before::{edges_before, item_before};
+use crate::bodies::{bodies_of, body};
+use crate::children::children;
+use crate::putting::put_by;
+use crate::run::Run;
+use hm_parts::{into_items, list_build};
+use hm_terms::{Program, Term};
+use hm_text_lens::TextLens;
+use hm_tree::{Memory, Tree, take_under};
+
+/// What the lens of a program puts of a view over the tree from before, given the view that was shown of that: where the
+/// view stays, so does the tree, and nothing is put there.
+pub fn put_changes(
+    program: &Program,
+    texts: &[Box<dyn TextLens>],
+    shown: Tree,
+    before: Tree,
+    old: Tree,
+) -> Result<Tree, Memory>
+    requires put { IsPut (setting_of (map (λ b. meaning b) texts.now) (program_value program.now)) (program_value program.now).main shown (Some before) }
+    requires back { Puts (setting_of (map (λ b. meaning b) texts.now) (program_value program.now)) (program_value program.now).main old (Some before) before }
+    ensures { IfOk result (Puts (setting_of (map (λ b. meaning b) texts.now) (program_value program.now)) (program_value program.now).main shown (Some before)) }
+{
+    let bodies = bodies_of(shown.allocator(), &program.definitions)?;
+    let run = Run {
+        definitions: &program.definitions,
+        bodies: &bodies,
+        texts,
+    };
+    put_changed(
+        u64::MAX,
+        &run,
+        &program.main,
+        shown,
+        Some(before),
+        Some(old),
+    )
+}
+
+// What a lens puts, by so many levels of recursion at most, given what it showed of the tree from before. It goes into
+// items and children, each with what stood there before and what was shown of that. Both loops stand here, since functions
+// that call one another may not be lent text lenses of unknown types.
+fn put_changed(
+    levels: u64,
+    run: &Run,
+    term: &Term,
+    shown: Tree,
+    before: Option<Tree>,
+    old: Option<Tree>,
+) -> Result<Tree, Memory>
+    requires index { IsIndex run.now.definitions.now run.now.bodies.now }
+    requires put { IsPut (setting_in (map (λ b. meaning b) run.now.texts.now) run.now.definitions.now) (lens_of term.now) shown before }
+    requires back { GivesBack (setting_in (map (λ b. meaning b) run.now.texts.now) run.now.definitions.now) (lens_of term.now) old before }
+    ensures { IfOk result (Puts (setting_in (map (λ b. meaning b) run.now.texts.now) run.now.definitions.now) (lens_of term.now) shown before) }
+{
+    if levels == 0 {
+        return Err(Memory);
+    }
+    match term {
+        Term::Call(name) => {
+            let inner = body(run.definitions, run.bodies, name);
+            put_changed(levels - 1, run, inner, shown, before, old)
+        }
+        Term::List(inner) => {
+            let mut made = Vec::new(shown.allocator());
+            let mut rest = before;
+            let mut views = old;
+            for item in into_items(shown)? {
+                let (first, others) = item_before(rest);
+                let (view, more) = item_before(views);
+                made.push(put_changed(levels - 1, run, inner, item, first, view)?)?;
+                rest = others;
+                views = more;
+            }
+            Ok(list_build(made)?)
+        }
+        Term::Map(_) | Term::Each(_) => {
+            let mut edges = Vec::with_capacity(shown.allocator(), shown.count())?;
+            let mut rest = edges_before(shown.allocator(), before);
+            let mut views = edges_before(shown.allocator(), old);
+            for (name, child) in children(term, shown)? {
+                let tree = match child.lens {
+                    Some(lens) => {
+                        let first = take_under(&mut rest, &name);
+                        let view = take_under(&mut views, &name);
+                        put_changed(levels - 1, run, lens, child.tree, first, view)?
+                    }
+                    None => child.tree,
+                };
+                edges.push((name, tree))?;
+            }
+            Ok(Tree::of_edges(edges)?)
+        }
+        _ => put_whole(levels, run, term, shown, before, old),
+    }
+}
+
+// What a lens puts that isn't followed into parts of the view: the tree from before, where the view stays.
+fn put_whole(
+    levels: u64,
+    run: &Run,
+    term: &Term,
+    shown: Tree,
+    before: Option<Tree>,
+    old: Option<Tree>,
+) -> Result<Tree, Memory>
+    requires index { IsIndex run.now.definitions.now run.now.bodies.now }
+    requires put { IsPut (setting_in (map (λ b. meaning b) run.now.texts.now) run.now.definitions.now) (lens_of term.now) shown before }
+    requires back { GivesBack (setting_in (map (λ b. meaning b) run.now.texts.now) run.now.definitions.now) (lens_of term.now) old before }
+    ensures { IfOk result (Puts (setting_in (map (λ b. meaning b) run.now.texts.now) run.now.definitions.now) (lens_of term.now) shown before) }
+{
+    if !stays(&shown, old.as_ref()) {
+        return put_by(levels, run, term, shown, before);
+    }
+    let Some(tree) = before else {
+        unreachable!();
+    };
+    Ok(tree)
+}
+
+// Whether a view is the one from before.
+fn stays(shown: &Tree, old: Option<&Tree>) -> bool
+    ensures { IsTrue result ↔ (option_copied old.entry ≡ Some shown.now) }
+{
+    match old {
+        Some(view) => shown.same(view),
+        None => false,
+    }
+}
