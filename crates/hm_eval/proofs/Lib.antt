@@ -2,6 +2,7 @@ mod Paired
 mod Beside
 mod OnChildren
 mod ShowSteps
+mod Renamed
 mod PutSteps
 mod PutItems
 mod PutChildren

@@ -3,3 +3,4 @@ pub mod Conditions
 pub mod Children
 pub mod Stages
 pub mod Texts
+pub mod Renaming

@@ -9,6 +9,7 @@ mod bodies;
 mod changes;
 mod children;
 mod putting;
+mod renaming;
 mod run;
 mod show;
 mod stages;

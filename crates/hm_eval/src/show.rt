@@ -7,6 +7,7 @@ ghost use Rattle.hm_eval.specs.Terms.{setting_in, IsIndex};
 
 use crate::bodies::{bodies_of, body};
 use crate::children::{children, chosen};
+use crate::renaming::{renamed, renaming};
 use crate::run::Run;
 use crate::texts::show_text;
 use hm_parts::{into_child, into_items, list_build, under, with_copy, without_edge};
@@ -37,6 +38,9 @@ pub fn show(levels: u64, run: &Run, term: &Term, tree: Tree) -> Result<Tree, Mem
 {
     if levels == 0 {
         return Err(Memory);
+    }
+    if let Some((from, to)) = renaming(term) {
+        return renamed(tree, from, to);
     }
     match term {
         Term::Id => Ok(tree),

@@ -7,8 +7,20 @@ use Rattle.hm_eval.proofs.OnChildren.{on_children, child_shown, shown_edges, chi
 use Rattle.hm_terms.proofs.Terms.{row_sequence, row_fork, row_items}
 use Rattle.hm_eval.proofs.ShowSteps.{fewer, same_shown, same_shows, row_shows, first_shown, second_shown, plunge_shows, inside_shown, outside_shown, apart_shown, fork_shows, branch_shown, branch_shows, called_shown, call_shows, items_list, item_shown, items_show}
 use Rattle.hm_terms.specs.Shown.{by_sequence}
+use Rattle.hm_eval.proofs.Renamed.{renamed_there, renamed_free, renamed_shows}
 use Rattle.hm_eval.proofs.show.+show.Goals.{in-Some-lens+in_ok-view-in-Some-lens, in-None-lens}
 use Rattle.hm_eval.proofs.show.+show.Goals as goal
+
+-- ---- another name in place of one
+
+pub renamed-requires-clause-there : goal.renamed-requires-clause-there
+renamed-requires-clause-there g t c = renamed_there _ _ _ _ _ c.in-Some.ensures c.requires.shown
+
+pub renamed-requires-clause-free : goal.renamed-requires-clause-free
+renamed-requires-clause-free g t c = renamed_free _ _ _ _ _ c.in-Some.ensures c.requires.shown
+
+pub returns-in-Some : goal.returns-in-Some
+returns-in-Some g t c = IfOk-weaker _ _ _ (renamed_shows _ _ _ _ _ c.in-Some.ensures c.requires.shown) c.renamed.ensures
 
 -- ---- lenses without lenses inside, and calls
 
@@ -113,7 +125,7 @@ show-requires-in-loop-item g t c =
         c.requires.index,
         item_shown _ _ _ _ _ _ c.in_ok-item-items-in-List.ensures
             (next_at all road c.loop-item.yielded c.loop-item.item-iterator c.loop-item.yielded_by c.next.result c.next.new.self c.next.ensures.steps _
-            c.in-Some.is)
+            c.in-Some-item.is)
             (same_shown _ _ _ _ (row_items c.in-List.is c.deref-in-loop-item.ensures) c.requires.shown),
       ),
     )
