@@ -52,6 +52,41 @@ fn items_with_one_key_are_a_list(rt: HostRuntime) -> Result<(), Fail> {
 }
 
 #[test]
+fn items_that_are_sorted_keep_their_order(rt: HostRuntime) -> Result<(), Fail> {
+    let alloc = rt.alloc();
+    let mut items = Vec::new(alloc);
+    add(alloc, &mut items, "Alice", "3")?;
+    add(alloc, &mut items, "Bob", "2")?;
+    add(alloc, &mut items, "Bob", "1")?;
+    add(alloc, &mut items, "Zoe", "4")?;
+    let tree = item_tree(alloc, items, 10)?;
+    assert_eq!(rt; tree.count(), 3);
+    expect_list(&rt, alloc, &tree, "Alice", &["3"])?;
+    expect_list(&rt, alloc, &tree, "Bob", &["2", "1"])?;
+    expect_list(&rt, alloc, &tree, "Zoe", &["4"])?;
+    Ok(())
+}
+
+#[test]
+fn many_items_by_turns_are_two_lists(rt: HostRuntime) -> Result<(), Fail> {
+    let alloc = rt.alloc();
+    let mut items = Vec::new(alloc);
+    let mut texts = Vec::new(alloc);
+    for _ in 0..15 {
+        add(alloc, &mut items, "Zoe", "1")?;
+        add(alloc, &mut items, "Alice", "2")?;
+        add(alloc, &mut items, "Zoe", "3")?;
+        texts.push("1")?;
+        texts.push("3")?;
+    }
+    let tree = item_tree(alloc, items, 100)?;
+    assert_eq!(rt; tree.count(), 2);
+    expect_list(&rt, alloc, &tree, "Alice", &["2"; 15])?;
+    expect_list(&rt, alloc, &tree, "Zoe", &texts)?;
+    Ok(())
+}
+
+#[test]
 fn no_item_is_the_empty_tree(rt: HostRuntime) -> Result<(), Fail> {
     let alloc = rt.alloc();
     assert_eq!(rt; item_tree(alloc, Vec::new(alloc), 0)?.count(), 0);

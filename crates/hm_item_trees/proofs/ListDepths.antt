@@ -1,13 +1,16 @@
 -- The depth of a tree of lists, by its items.
-use Rattle.std.proofs.Common.{◌≡◌, ℕ, ◌+◌, max, List, [], ◌∷◌, map, Vec, refl, ap, ◌∙◌, arith}
-use Rattle.std.specs.declared.alloc.Global.{Global}
-use Rattle.std.specs.Ordering.{nat_cmp, ord_max}
-use Rattle.hm_tree.specs.Names.{Name}
-use Rattle.hm_tree.specs.Nodes.{Tree, depth, edges, deepest}
+use Rattle.std.proofs.Common.{◌≡◌, ◌≢◌, ℕ, ◌+◌, ◌≤◌, max, Bool, true, false, cond, List, [], ◌∷◌, Some, slice_get, refl, sym, ap, ◌∙◌, arith}
+use Rattle.std.specs.Prelude.{T}
+use Rattle.std.specs.Str.{is_utf8}
+use Rattle.std.specs.Ordering.{eq_by_cmp}
+use Rattle.std.proofs.lemmas.Option.{same_Some}
+use Rattle.hm_tree.specs.Names.{Name, name_cmp}
+use Rattle.hm_tree.specs.Nodes.{Tree, depth, edges, deepest, are_texts, both}
 use Rattle.hm_tree.specs.NodeLaws.{depth-edges}
 use Rattle.hm_terms.specs.Parts.{HasItems, none_left, and_then}
 use Rattle.hm_item_trees.specs.ItemTrees.{AreLists, list_depth, lists_depth}
-use Rattle.hm_item_trees.specs.Gathered.{list_of}
+use Rattle.hm_item_trees.specs.Runs.{list_first, lists_behind, runs, first_depth}
+use Rattle.hm_item_trees.proofs.Runs.{tied_when, untied}
 
 -- a list is as deep as its items say
 pub depth_items : (xs : List Tree) (t : Tree) → HasItems t xs → depth t ≡ list_depth xs
@@ -30,26 +33,46 @@ depth_lists (e ∷ es) (l ∷ ls) h =
 pub depth_tree : (ls : List (Name × List Tree)) (t : Tree) → AreLists (edges t) ls → depth t ≡ lists_depth ls
 depth_tree ls t h = depth-edges t ∙ depth_lists (edges t) ls h
 
--- ---- the depth of the lists of a map, one after another
+-- ---- the depth of runs, from their end
 
-ord_max_is_max : (a b : ℕ) → ord_max nat_cmp a b ≡ max a b
-ord_max_is_max a b = search arith
+-- how deep lists are, by that of a key where it stands first, and by those behind it
+parted : (k : Name) (ls : List (Name × List Tree))
+    → (lists_depth (lists_behind k ls) ≤ lists_depth ls) × (lists_depth ls ≤ max (list_depth (list_first k ls) + 1) (lists_depth (lists_behind k ls)))
+parted k [] = (omega arith, omega arith)
+parted k (l ∷ ls) = go (eq_by_cmp name_cmp k l.0)
+  where
+    go : (b : Bool) → (lists_depth (cond b ls (l ∷ ls)) ≤ lists_depth (l ∷ ls))
+        × (lists_depth (l ∷ ls) ≤ max (list_depth (cond b l.1 []) + 1) (lists_depth (cond b ls (l ∷ ls))))
+    go true = (omega arith, omega arith)
+    go false = (omega arith, omega arith)
 
-pub one_looked_at : (all left next : List (Name × Vec Tree Global)) (e : Name × Vec Tree Global) (deep here under new : ℕ)
-    → lists_depth (map list_of all) ≡ max deep (lists_depth (map list_of left)) → left ≡ e ∷ next → here ≡ list_depth e.1.items → under ≡ here + 1
-    → new ≡ ord_max nat_cmp deep under → lists_depth (map list_of all) ≡ max new (lists_depth (map list_of next))
-one_looked_at all left next e deep here under new so step is one_more taken =
-    let split : lists_depth (map list_of left) ≡ max (list_depth e.1.items + 1) (lists_depth (map list_of next)) = ap (λ es. lists_depth (map list_of es)) step in
-    let top = taken ∙ ord_max_is_max deep under in
-    omega (arith, so, split, is, one_more, top)
+-- what is told of items from their end: the depth that they make, that of the list of the first, and that their keys are UTF-8
+pub record AreLookedAt (xs : List (Name × Tree)) (deepest list : ℕ) : Type 0 where
+  pub depth_is : deepest ≡ lists_depth (runs xs)
+  pub list_is : list ≡ first_depth (runs xs)
+  pub texts : T (are_texts xs)
 
-pub none_looked_at : (all left : List (Name × Vec Tree Global)) → left ≡ all → lists_depth (map list_of all) ≡ max 0 (lists_depth (map list_of left))
-none_looked_at all left whole =
-    let same = ap (λ es. lists_depth (map list_of es)) whole in
-    omega (arith, same)
+pub one_looked_at : (x : Name × Tree) (xs : List (Name × Tree)) (deep first others own most list below new : ℕ) → AreLookedAt xs deep first
+    → T (is_utf8 x.0) → others ≡ list_depth (list_first x.0 (runs xs)) → own ≡ depth x.1 → most ≡ max others own → list ≡ most + 1 → below ≡ list + 1
+    → new ≡ max deep below → AreLookedAt (x ∷ xs) new list
+one_looked_at x xs deep first others own most list below new so text behind is deeper one_more two_more taken =
+    let split = parted x.0 (runs xs) in
+    record {
+      depth_is = omega (arith, so.depth_is, behind, is, deeper, one_more, two_more, taken, split.0, split.1);
+      list_is = omega (arith, behind, is, deeper, one_more);
+      texts = both _ _ text so.texts;
+    }
 
-pub all_looked_at : (all left : List (Name × Vec Tree Global)) (deep : ℕ) → lists_depth (map list_of all) ≡ max deep (lists_depth (map list_of left))
-    → left ≡ [] → deep ≡ lists_depth (map list_of all)
-all_looked_at all left deep so none =
-    let rest : lists_depth (map list_of left) ≡ 0 = ap (λ es. lists_depth (map list_of es)) none in
-    omega (arith, so, rest)
+-- the list of a key, where the first item is known
+pub depth_first : (k : Name) (xs : List (Name × Tree)) (x : Name × Tree) → slice_get xs 0 ≡ Some x → x.0 ≡ k
+    → first_depth (runs xs) ≡ list_depth (list_first k (runs xs))
+depth_first k [] x there is = let no : ⊥ = cc in absurd no
+depth_first k (y ∷ xs) x there is =
+    let at : y.0 ≡ k = ap (λ (z : Name × Tree). z.0) (same_Some y x there) ∙ is in
+    ap (λ b. list_depth (cond b (y.1 ∷ list_first y.0 (runs xs)) [])) (sym (tied_when k y.0 (sym at)))
+
+pub depth_other : (k : Name) (xs : List (Name × Tree)) (x : Name × Tree) → slice_get xs 0 ≡ Some x → x.0 ≢ k → 0 ≡ list_depth (list_first k (runs xs))
+depth_other k [] x there other = refl
+depth_other k (y ∷ xs) x there other =
+    let at : k ≢ y.0 = λ is. other (ap (λ (z : Name × Tree). z.0) (sym (same_Some y x there)) ∙ sym is) in
+    ap (λ b. list_depth (cond b (y.1 ∷ list_first y.0 (runs xs)) [])) (sym (untied k y.0 at))

@@ -1,3 +1,3 @@
 pub mod ItemTrees
-pub mod Gathered
+pub mod Runs
 pub mod Lent

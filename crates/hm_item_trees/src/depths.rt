@@ -3,35 +3,38 @@
 //! A list of n items is at least n edges deep. Many items with one key would so be a tree too deep to be taken apart again
 //! by calls that call themselves for each child; its depth is told from the items alone.
 ghost use Rattle.std.specs.Prelude.{◌≡◌, ◌+◌, T, IfOk, OnOk};
-ghost use Rattle.hm_tree.specs.Nodes.{are_edges};
+ghost use Rattle.hm_tree.specs.Nodes.{are_texts};
 ghost use Rattle.hm_item_trees.specs.ItemTrees.{list_depth, lists_depth};
-ghost use Rattle.hm_item_trees.specs.Gathered.{lists_of};
+ghost use Rattle.hm_item_trees.specs.Runs.{runs, list_first, first_depth};
 
 use hm_tree::{Memory, Name, Tree};
-use std::collections::BTreeMap;
 
-/// The depth of the tree that has these lists below their keys.
-pub fn depth_of_lists(lists: &BTreeMap<Name, Vec<Tree>>) -> Result<usize, Memory>
-    ensures depth { IfOk result (λ depth. depth ≡ lists_depth (lists_of lists.now)) }
-    ensures edges { OnOk result (T (are_edges lists.now.entries)) }
+/// The depth of the tree that has the lists of the runs of items below their keys.
+pub fn depth_of_runs(items: &[(Name, Tree)]) -> Result<usize, Memory>
+    ensures depth { IfOk result (λ depth. depth ≡ lists_depth (runs items.now)) }
+    ensures texts { OnOk result (T (are_texts items.now)) }
 {
-    let mut deepest = 0;
-    for (name, list) in lists {
-        let _text = name.text();
-        deepest = deepest.max(one_more(depth_of_list(list)?)?);
+    let mut deepest: usize = 0;
+    let mut list: usize = 0;
+    for at in (0..items.len()).rev() {
+        let item = &items[at];
+        let _text = item.0.text();
+        let others = depth_behind(&item.0, &items[at + 1..], list);
+        list = one_more(others.max(item.1.depth()))?;
+        deepest = deepest.max(one_more(list)?);
     }
     Ok(deepest)
 }
 
-// The depth of the list of these items, from its end.
-fn depth_of_list(items: &[Tree]) -> Result<usize, Memory>
-    ensures { IfOk result (λ depth. depth ≡ list_depth items.now) }
+// The depth of the list of those items behind an item that have its key, where that of the first run there is known.
+fn depth_behind(name: &Name, items: &[(Name, Tree)], depth: usize) -> usize
+    requires { depth ≡ first_depth (runs items.now) }
+    ensures { result ≡ list_depth (list_first name.now (runs items.now)) }
 {
-    let mut depth = 0;
-    for at in (0..items.len()).rev() {
-        depth = one_more(depth.max(items[at].depth()))?;
-    }
-    Ok(depth)
+    let Some(next) = items.first() else {
+        return 0;
+    };
+    if next.0.same(name) { depth } else { 0 }
 }
 
 // A depth of one edge more. One that isn't a number of a machine is of no tree that memory can hold.

@@ -1,19 +1,20 @@
 //! Gathering items below their keys.
-ghost use Rattle.std.specs.Prelude.{◌≡◌, ℕ, ◌++◌, ◌∷◌, [], IfOk, OnOk, Err, cond};
-ghost use Rattle.std.specs.Ordering.{eq_by_cmp};
+//!
+//! Items are sorted by their keys, so that those of a key stand together. Files mostly have them so or nearly so already,
+//! which takes the sort no longer than to look at each.
+ghost use Rattle.std.specs.Prelude.{◌≡◌, ℕ, T, IfOk, Err, IsSortedByKey, reverse};
 ghost use Rattle.hm_tree.specs.Names.{Name as NameValue, name_cmp};
-ghost use Rattle.hm_tree.specs.Nodes.{edges};
+ghost use Rattle.hm_tree.specs.Nodes.{edges, are_edges};
+ghost use Rattle.hm_terms.specs.Parts.{IsItem};
 ghost use Rattle.hm_items.specs.Items.{of_key};
 ghost use Rattle.hm_item_trees.specs.ItemTrees.{AreLists, IsShallow, IsTooDeep};
-ghost use Rattle.hm_item_trees.specs.Gathered.{lists_of, items_at, IsFilled};
+ghost use Rattle.hm_item_trees.specs.Runs.{runs, IsListTaken};
 ghost use Rattle.hm_item_trees.specs.declared.fault.ItemTreeFault.TheVariants.{TooDeep};
 
-use crate::depths::depth_of_lists;
+use crate::depths::depth_of_runs;
 use crate::fault::ItemTreeFault;
-use hm_parts::list_build;
 use hm_tree::{Memory, Name, Tree};
 use std::alloc::Global;
-use std::collections::BTreeMap;
 
 /// The tree of a file with these items, in file order: below each key stands the list of the items with it. It isn't
 /// built where it would be deeper than `deepest` edges.
@@ -25,49 +26,61 @@ pub fn item_tree(
     ensures tree { IfOk result (IsShallow items.items deepest) }
     ensures too_deep { (found : ℕ) → result ≡ Err (TooDeep found) → IsTooDeep items.items deepest found }
 {
-    let lists = gather(alloc, items)?;
-    let depth = depth_of_lists(&lists)?;
+    let sorted = by_key(items)?;
+    let depth = depth_of_runs(&sorted)?;
     if depth > deepest {
         return Err(ItemTreeFault::TooDeep { depth });
     }
-    Ok(tree_of(alloc, lists)?)
+    Ok(tree_of(alloc, sorted)?)
 }
 
-// The tree that has these lists below their keys.
-fn tree_of(alloc: Global, lists: BTreeMap<Name, Vec<Tree>>) -> Result<Tree, Memory>
-    ensures { IfOk result (λ tree. AreLists (edges tree) (lists_of lists)) }
+// The items in the order of their keys, and those of a key in the order that they had.
+fn by_key(items: Vec<(Name, Tree)>) -> Result<Vec<(Name, Tree)>, Memory>
+    ensures rise { IfOk result (λ sorted. IsSortedByKey (λ item. item.0) name_cmp sorted.items) }
+    ensures each { IfOk result (λ sorted. (k : NameValue) → of_key name_cmp k sorted.items ≡ of_key name_cmp k items.items) }
 {
-    let mut edges = Vec::with_capacity(alloc, lists.len())?;
-    for (name, list) in lists {
-        edges.push((name, list_build(list)?))?;
+    let mut sorted = items;
+    sorted.sort_by(|one, two| one.0.order(&two.0))?;
+    Ok(sorted)
+}
+
+// The tree that has the lists of the runs below their keys. It is built from its end, where an item goes before those of
+// its key that stand behind it.
+fn tree_of(alloc: Global, items: Vec<(Name, Tree)>) -> Result<Tree, Memory>
+    requires { T (are_edges (runs items.items)) }
+    ensures { IfOk result (λ tree. AreLists (edges tree) (runs items.items)) }
+{
+    let mut left = items;
+    let mut edges = Vec::with_capacity(alloc, left.len())?;
+    while let Some((name, item)) = left.pop() {
+        let list = take_list(alloc, &mut edges, &name)?;
+        edges.push((name, before(item, list)?))?;
     }
+    edges.reverse();
     Tree::of_edges(edges)
 }
 
-// The items of each key, in their order.
-fn gather(alloc: Global, items: Vec<(Name, Tree)>) -> Result<BTreeMap<Name, Vec<Tree>>, Memory>
-    ensures filled { IfOk result IsFilled }
-    ensures each { IfOk result (λ map. (k : NameValue) → items_at map k ≡ of_key name_cmp k items.items) }
+// The list below a key that stands last, which is taken off; the empty one where another key stands there.
+fn take_list(alloc: Global, edges: &mut Vec<(Name, Tree)>, name: &Name) -> Result<Tree, Memory>
+    ensures { IfOk result (IsListTaken name.now (reverse edges.old.items) (reverse edges.new.items)) }
 {
-    let mut map = BTreeMap::new(alloc);
-    for (name, item) in items {
-        add(alloc, &mut map, name, item)?;
+    let Some((key, list)) = edges.pop() else {
+        return Ok(Tree::empty(alloc));
+    };
+    if key.same(name) {
+        return Ok(list);
     }
-    Ok(map)
+    edges.push((key, list))?;
+    Ok(Tree::empty(alloc))
 }
 
-// Puts an item behind those of its key.
-fn add(
-    alloc: Global,
-    map: &mut BTreeMap<Name, Vec<Tree>>,
-    name: Name,
-    item: Tree,
-) -> Result<(), Memory>
-    requires { IsFilled map.old }
-    ensures filled { OnOk result (IsFilled map.new) }
-    ensures added { OnOk result ((k : NameValue) → items_at map.new k ≡ items_at map.old k ++ cond (eq_by_cmp name_cmp k name) (item ∷ []) []) }
+// The list of an item and the items of a list.
+fn before(item: Tree, list: Tree) -> Result<Tree, Memory>
+    ensures { IfOk result (IsItem item list) }
 {
-    let list = map.entry(name)?.or_insert(Vec::new(alloc));
-    list.push(item)?;
-    Ok(())
+    let alloc = list.allocator();
+    let mut edges = Vec::with_capacity(alloc, 2)?;
+    edges.push((Name::from_text(alloc, "*h")?, item))?;
+    edges.push((Name::from_text(alloc, "*t")?, list))?;
+    Tree::of_edges(edges)
 }

@@ -1,38 +1,25 @@
-use Rattle.std.proofs.Common.{◌∷◌, ◌++◌, [], refl, sym, ap, ◌∙◌, subst}
-use Rattle.std.proofs.lemmas.List.{append_assoc}
+use Rattle.std.proofs.Common.{◌≡◌, [], ◌∷◌, ◌++◌, subst, arith}
 use Rattle.std.proofs.lemmas.Result.{IfOk-weaker}
-use Rattle.std.specs.Prelude.{IsUtf8}
-use Rattle.hm_tree.proofs.Texts.{text_test}
-use Rattle.hm_item_trees.proofs.Lists.{StandsFor, StandFor, one_more, all_stand, made_edges, made_lists}
+use Rattle.hm_tree.specs.Names.{Name}
+use Rattle.hm_item_trees.specs.Runs.{runs}
+use Rattle.hm_item_trees.proofs.Lists.{edges_fit, made_lists}
+use Rattle.hm_item_trees.proofs.Made.{one_made, all_made}
 use Rattle.hm_item_trees.proofs.gathering.tree_of.Goals as goal
 
-pub loop-name-init : goal.loop-name-init
-loop-name-init c = record {
-  stand = subst (λ es. StandFor es []) (sym c.in_ok-edges.ensures.items) tt;
-  whole = refl;
-}
-
 pub loop-name-preserved : goal.loop-name-preserved
-loop-name-preserved c = record {
-  stand = subst (λ es. StandFor es (c.loop-name.yielded ++ (c.in-Some.name, c.in-Some.list) ∷ [])) (sym c.in_ok-push.ensures.items)
-      (one_more StandsFor c.loop-name.edges.items c.loop-name.yielded (c.in-Some.name, c.in_ok-list_build.field-0) (c.in-Some.name, c.in-Some.list)
-      c.loop-name.invariant.stand ((refl, c.in_ok-list_build.ensures), text_test c.in-Some.name (subst IsUtf8 c.push.view_is c.push.invariant)));
-  whole =
-      append_assoc c.loop-name.yielded ((c.in-Some.name, c.in-Some.list) ∷ []) c.next.new.self
-      ∙ ap (λ left. c.loop-name.yielded ++ left) (sym c.in-Some.ensures.steps)
-      ∙ c.loop-name.invariant.whole;
-}
+loop-name-preserved c =
+    one_made c.args.items.items c.loop-name.left.items c.pop.new.self.items (c.in-Some.name, c.in-Some.item) c.loop-name.edges.items c.take_list.new.edges.items
+    c.push.new.self.items c.in_ok-list.list c.in_ok-before.field-0 c.loop-name.invariant c.in-Some.ensures.items c.in_ok-list.ensures c.in_ok-before.ensures
+    (subst (λ (n : Name). c.push.new.self.items ≡ c.take_list.new.edges.items ++ (n, c.in_ok-before.field-0) ∷ []) c.name.view_is c.in_ok-push.ensures.items)
 
 pub of_edges-requires : goal.of_edges-requires
 of_edges-requires c =
-    let stand = all_stand c.loop-name.edges.items c.loop-name.yielded c.loop-name.name-iterator c.into_iter-name-iterator.result
-    c.args.lists.entries c.loop-name.invariant.stand c.loop-name.invariant.whole c.in-None.ensures.steps.0
-    c.into_iter-name-iterator.ensures.into_iter_gives.0 in
-    made_edges c.loop-name.edges.items c.args.lists.entries stand c.len.ensures.ordered
+    let stand = all_made c.args.items.items c.loop-name.left.items c.loop-name.edges.items c.reverse.new.self.items c.loop-name.invariant
+    (omega (arith, c.loop-name.left.ok, c.in_default.ensures.cases.0)) c.reverse.ensures.items in
+    edges_fit c.reverse.new.self.items (runs c.args.items.items) stand c.requires
 
 pub returns : goal.returns
 returns c =
-    let stand = all_stand c.loop-name.edges.items c.loop-name.yielded c.loop-name.name-iterator c.into_iter-name-iterator.result
-    c.args.lists.entries c.loop-name.invariant.stand c.loop-name.invariant.whole c.in-None.ensures.steps.0
-    c.into_iter-name-iterator.ensures.into_iter_gives.0 in
-    IfOk-weaker c.of_edges.result _ _ (λ tree is. made_lists c.args.lists c.loop-name.edges.items tree is stand c.len.ensures.ordered) c.of_edges.ensures
+    let stand = all_made c.args.items.items c.loop-name.left.items c.loop-name.edges.items c.reverse.new.self.items c.loop-name.invariant
+    (omega (arith, c.loop-name.left.ok, c.in_default.ensures.cases.0)) c.reverse.ensures.items in
+    IfOk-weaker c.of_edges.result _ _ (λ tree is. made_lists c.reverse.new.self.items (runs c.args.items.items) tree is stand c.requires) c.of_edges.ensures

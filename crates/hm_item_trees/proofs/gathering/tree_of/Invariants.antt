@@ -1,10 +1,9 @@
-use Rattle.std.proofs.Common.{◌≡◌, ◌++◌}
-use Rattle.hm_item_trees.proofs.Lists.{StandFor}
+use Rattle.std.proofs.Common.{length}
+use Rattle.hm_item_trees.proofs.Made.{AreMadeSoFar}
 use Rattle.hm_item_trees.proofs.gathering.tree_of.Given as goal
 
--- the edges stand for the entries that were taken, before those that are left
 abbrev pub invariant-loop-name : goal.invariant-loop-name
-invariant-loop-name l = record {
-  stand : StandFor l.edges.items l.yielded;
-  whole : l.yielded ++ l.name-iterator ≡ l.initial.name-iterator;
-}
+invariant-loop-name l = AreMadeSoFar l.fn.items.items l.left.items l.edges.items
+
+abbrev pub decreases-loop-name : goal.decreases-loop-name
+decreases-loop-name l = length l.left.items
