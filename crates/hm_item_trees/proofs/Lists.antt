@@ -10,7 +10,7 @@ use Rattle.hm_tree.specs.Names.{Name, name_cmp}
 use Rattle.hm_tree.specs.Nodes.{Tree, node, edges, are_edges, below_all, edges_from, edges_head, edges_below, edges_tail, edges_cons, both, first, second}
 use Rattle.hm_tree.specs.NodeLaws.{edges-node, edges_empty}
 use Rattle.hm_tree.proofs.Texts.{ascii_test}
-use Rattle.hm_terms.specs.Parts.{HasItems, IsItem, none_left, and_then, head, tail}
+use Rattle.hm_terms.specs.Parts.{HasItems, none_left, and_then, head, tail}
 use Rattle.hm_parts.specs.Lent.{lent}
 use Rattle.hm_item_trees.specs.ItemTrees.{AreLists, list_tree, list_edge, tree_of_lists}
 use Rattle.hm_item_trees.specs.Lent.{LentList, lent_list, lent_lists}
@@ -72,16 +72,3 @@ stand (l ∷ ls) = ((refl, has_items l.1), stand ls)
 
 pub standing_tree : (ls : List (Name × List Tree)) → T (are_edges ls) → AreLists (edges (tree_of_lists ls)) ls
 standing_tree ls fit = made_lists (map list_edge ls) ls (tree_of_lists ls) refl (stand ls) fit
-
--- ---- the list of an item and the items of a list
-
-module _ (n k : Name) (x r : Tree) (es fs gs : List (Name × Tree)) (one : n ≡ head) (two : k ≡ tail)
-    (none : es ≡ []) (more : fs ≡ es ++ (n, x) ∷ []) (all : gs ≡ fs ++ (k, r) ∷ []) where
-  item_made : gs ≡ (head, x) ∷ (tail, r) ∷ []
-  item_made = cc (all ∙ ap (λ l. l ++ (k, r) ∷ []) (more ∙ ap (λ l. l ++ (n, x) ∷ []) none))
-
-  pub item_fits : T (are_edges gs)
-  item_fits = subst (λ l. T (are_edges l)) (sym item_made) (list_edges x r)
-
-  pub item_is : (t : Tree) → t ≡ node gs → IsItem x r t
-  item_is t is = ap edges is ∙ edges-node gs item_fits ∙ item_made

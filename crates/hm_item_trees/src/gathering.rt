@@ -5,7 +5,6 @@
 ghost use Rattle.std.specs.Prelude.{◌≡◌, ℕ, T, IfOk, Err, IsSortedByKey, reverse};
 ghost use Rattle.hm_tree.specs.Names.{Name as NameValue, name_cmp};
 ghost use Rattle.hm_tree.specs.Nodes.{edges, are_edges};
-ghost use Rattle.hm_terms.specs.Parts.{IsItem};
 ghost use Rattle.hm_items.specs.Items.{of_key};
 ghost use Rattle.hm_item_trees.specs.ItemTrees.{AreLists, IsShallow, IsTooDeep};
 ghost use Rattle.hm_item_trees.specs.Runs.{runs, IsListTaken};
@@ -13,6 +12,7 @@ ghost use Rattle.hm_item_trees.specs.declared.fault.ItemTreeFault.TheVariants.{T
 
 use crate::depths::depth_of_runs;
 use crate::fault::ItemTreeFault;
+use hm_parts::put_first;
 use hm_tree::{Memory, Name, Tree};
 use std::alloc::Global;
 
@@ -54,7 +54,7 @@ fn tree_of(alloc: Global, items: Vec<(Name, Tree)>) -> Result<Tree, Memory>
     let mut edges = Vec::with_capacity(alloc, left.len())?;
     while let Some((name, item)) = left.pop() {
         let list = take_list(alloc, &mut edges, &name)?;
-        edges.push((name, before(item, list)?))?;
+        edges.push((name, put_first(item, list)?))?;
     }
     edges.reverse();
     Tree::of_edges(edges)
@@ -72,15 +72,4 @@ fn take_list(alloc: Global, edges: &mut Vec<(Name, Tree)>, name: &Name) -> Resul
     }
     edges.push((key, list))?;
     Ok(Tree::empty(alloc))
-}
-
-// The list of an item and the items of a list.
-fn before(item: Tree, list: Tree) -> Result<Tree, Memory>
-    ensures { IfOk result (IsItem item list) }
-{
-    let alloc = list.allocator();
-    let mut edges = Vec::with_capacity(alloc, 2)?;
-    edges.push((Name::from_text(alloc, "*h")?, item))?;
-    edges.push((Name::from_text(alloc, "*t")?, list))?;
-    Tree::of_edges(edges)
 }

@@ -11,5 +11,5 @@ mod list;
 mod twin;
 
 pub use edge::{hoist, into_child, plunge, under, value, value_of};
-pub use list::{into_items, lent_items, list_build, list_items, take_first};
+pub use list::{into_items, lent_items, list_build, list_items, put_first, take_first};
 pub use twin::{copied, copy_edge, drop_edge, merge_back, merge_into, with_copy, without_edge};

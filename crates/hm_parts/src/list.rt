@@ -53,7 +53,7 @@ pub fn list_build(items: Vec<Tree>) -> Result<Tree, Memory>
     let mut left = items;
     let mut tree = Tree::empty(*left.allocator());
     while let Some(item) = left.pop() {
-        tree = before(item, tree)?;
+        tree = put_first(item, tree)?;
     }
     Ok(tree)
 }
@@ -82,8 +82,8 @@ pub fn take_first(list: Tree) -> Option<(Tree, Tree)>
     Some((item, rest))
 }
 
-// The list of an item and the items of a list.
-fn before(item: Tree, list: Tree) -> Result<Tree, Memory>
+/// The list of an item and the items of a list.
+pub fn put_first(item: Tree, list: Tree) -> Result<Tree, Memory>
     ensures { IfOk result (IsItem item list) }
 {
     let alloc = list.allocator();

@@ -9,8 +9,8 @@ use Rattle.hm_item_trees.proofs.gathering.tree_of.Goals as goal
 pub loop-name-preserved : goal.loop-name-preserved
 loop-name-preserved c =
     one_made c.args.items.items c.loop-name.left.items c.pop.new.self.items (c.in-Some.name, c.in-Some.item) c.loop-name.edges.items c.take_list.new.edges.items
-    c.push.new.self.items c.in_ok-list.list c.in_ok-before.field-0 c.loop-name.invariant c.in-Some.ensures.items c.in_ok-list.ensures c.in_ok-before.ensures
-    (subst (λ (n : Name). c.push.new.self.items ≡ c.take_list.new.edges.items ++ (n, c.in_ok-before.field-0) ∷ []) c.name.view_is c.in_ok-push.ensures.items)
+    c.push.new.self.items c.in_ok-list.list c.in_ok-put_first.field-0 c.loop-name.invariant c.in-Some.ensures.items c.in_ok-list.ensures c.in_ok-put_first.ensures
+    (subst (λ (n : Name). c.push.new.self.items ≡ c.take_list.new.edges.items ++ (n, c.in_ok-put_first.field-0) ∷ []) c.name.view_is c.in_ok-push.ensures.items)
 
 pub of_edges-requires : goal.of_edges-requires
 of_edges-requires c =

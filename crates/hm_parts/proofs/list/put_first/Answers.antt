@@ -1,5 +1,5 @@
 use Rattle.hm_parts.proofs.Edges.{two_fit, two_edges}
-use Rattle.hm_parts.proofs.list.before.Goals as goal
+use Rattle.hm_parts.proofs.list.put_first.Goals as goal
 
 pub of_edges-requires : goal.of_edges-requires
 of_edges-requires c =
