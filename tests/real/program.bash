@@ -1,14 +1,17 @@
 # shellcheck shell=bash
 # The examples, and the launcher.
 
-# Each example has the files before, the words, the output, the status, and those files that are others afterwards.
+# Each example has the files before, the words, the output, the status, and those files that are others afterwards. One
+# that is like another one, which its file `like` names, has the words of that, and its files before but for its own.
 example() {
-    local of=$1 words
-    begin "the example ${of##*/}"
-    cp "$of"/before/* .
-    cp "$of"/before/* ../want
+    local of=$1 first=$1 words
+    begin "the example ${of#"$top/examples/"}"
+    [[ ! -e $of/like ]] || first=${of%/*}/$(<"$of/like")
+    cp "$first"/before/* .
+    [[ $first == "$of" ]] || cp "$of"/before/* .
+    cp ./* ../want
     [[ ! -d $of/after ]] || cp "$of"/after/* ../want
-    mapfile -t words <"$of/words"
+    mapfile -t words <"$first/words"
     run "${words[@]}" >../out
     ends "$(<"$of/status")" "$(<"$of/output")"
     finish
@@ -25,7 +28,8 @@ launcher() {
     finish
 }
 
-for of in "$top"/examples/*; do
+mapfile -t examples < <(find "$top/examples" -name output -printf '%h\n' | sort)
+for of in "${examples[@]}"; do
     example "$of"
 done
 if [[ -z ${HARMONY:-} ]]; then
