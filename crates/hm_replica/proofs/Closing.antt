@@ -4,7 +4,8 @@ use Rattle.std.specs.Prelude.{Vec}
 use Rattle.std.specs.declared.alloc.Global.{Global}
 use Rattle.hm_tree.specs.Nodes.{Tree}
 use Rattle.hm_text_lens.specs.Meanings.{TextMeaning}
-use Rattle.hm_terms.specs.Shown.{Shows}
+use Rattle.hm_terms.specs.Lenses.{Lens, identity}
+use Rattle.hm_terms.specs.Shown.{Shows, by_identity}
 use Rattle.hm_eval.specs.Conditions as may
 use Rattle.hm_types.specs.Checks.{Trees}
 use Rattle.hm_format.specs.declared.fault.FormatFault.{FormatFault}
@@ -29,6 +30,10 @@ module _ (m : FormatMeaning) (texts : List TextMeaning) (t : TypedValue) (laws :
       let one = typed.fits.shows c (member bytes c read) in
       subst (Trees t.view) (sym (one.only v shown)) one.inside
 
+  -- the lens that shows each tree as it is does so
+  pub shown_alike : (l : Lens) (c : Tree) → l ≡ main_in t → l ≡ identity → Shows (setting_in texts t) (main_in t) c c
+  shown_alike l c is alike = subst (λ l. Shows (setting_in texts t) l c c) (sym alike ∙ is) by_identity
+
   -- a replica that is opened
   pub opened : (bytes before : List ℕ) (c v : Tree) → before ≡ bytes → m.reads (options_in t) before (Ok c) → Shows (setting_in texts t) (main_in t) c v
       → (bytes ≡ bytes) × IsReplica m texts t (record { bytes = bytes; concrete = c; view = v }) × Trees t.view v
@@ -41,6 +46,10 @@ module _ (m : FormatMeaning) (texts : List TextMeaning) (t : TypedValue) (laws :
 
     pub may_put : may.IsPut (setting_in texts t) (main_in t) shown (Some r.concrete)
     may_put = let one = typed.fits.puts shown (Some r.concrete) there old in record { tree = one.tree; is = one.is }
+
+    -- the view is put back as the tree from before
+    pub put_again : IsPut texts t r r.view r.concrete
+    put_again = typed.fits.get_put r.concrete r.view old replica.shown
 
     new : (tree : Tree) → IsPut texts t r shown tree → Trees t.source tree
     new tree put =
@@ -60,7 +69,7 @@ module _ (m : FormatMeaning) (texts : List TextMeaning) (t : TypedValue) (laws :
     back tree put same =
         let one = typed.fits.puts shown (Some r.concrete) there old in
         let again : IsPut texts t r shown r.concrete =
-        subst (λ v. IsPut texts t r v r.concrete) (sym same) (typed.fits.get_put r.concrete r.view old replica.shown) in
+        subst (λ v. IsPut texts t r v r.concrete) (sym same) put_again in
         one.only tree put ∙ sym (one.only r.concrete again)
 
     closed : (tree : Tree) (bytes : List ℕ) → IsPut texts t r shown tree → m.over tree ≡ None → m.writes (options_in t) tree r.bytes bytes
@@ -96,6 +105,6 @@ module _ (m : FormatMeaning) (texts : List TextMeaning) (t : TypedValue) (laws :
     -- where the view is that of the replica, its own bytes are those that are written
     pub stays : shown ≡ r.view → IsClosed m texts t r shown r.bytes
     stays same =
-        closed r.concrete r.bytes (subst (λ v. IsPut texts t r v r.concrete) (sym same) (typed.fits.get_put r.concrete r.view old replica.shown))
+        closed r.concrete r.bytes (subst (λ v. IsPut texts t r v r.concrete) (sym same) put_again)
         (laws.within (options_in t) t.source r.bytes r.concrete typed.schema replica.read)
         (laws.get_put (options_in t) r.bytes r.concrete typed.sound replica.read)

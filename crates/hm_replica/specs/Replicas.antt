@@ -8,7 +8,7 @@ use Rattle.hm_text_lens.specs.Meanings.{TextMeaning}
 use Rattle.hm_terms.specs.Lenses.{Lens, Setting}
 use Rattle.hm_terms.specs.Programs.{ProgramValue, program_value, setting_of}
 use Rattle.hm_terms.specs.Shown.{Shows}
-use Rattle.hm_terms.specs.Put.{Puts}
+use Rattle.hm_terms.specs.Put.{Puts, before_or}
 use Rattle.hm_terms.specs.Kept.{Keeps}
 use Rattle.hm_terms.specs.Fitting.{Fits}
 use Rattle.hm_types.specs.declared.typed.Typed.{Typed}
@@ -25,8 +25,9 @@ pub record ReplicaValue : Type 0 where
   pub concrete : Tree
   pub view : Tree
 
+-- the tree of a replica, which is its view where it isn't there by itself
 abbrev pub replica_value : Replica → ReplicaValue
-replica_value r = record { bytes = r.bytes.items; concrete = r.concrete; view = r.view }
+replica_value r = record { bytes = r.bytes.items; concrete = before_or r.view r.concrete; view = r.view }
 
 -- a program, the schema of the trees that it shows, and that of their views
 pub record TypedValue : Type 0 where

@@ -1,12 +1,18 @@
 //! Replicas.
-ghost use Rattle.std.specs.Prelude.{◌≡◌, map};
+ghost use Rattle.std.specs.Prelude.{◌≡◌, ◌↔◌, IsTrue, IfOk, Some, map};
+ghost use Rattle.hm_terms.specs.Lenses.{identity};
+ghost use Rattle.hm_terms.specs.Programs.{lens_of};
+ghost use Rattle.hm_terms.specs.Put.{Puts, before_or};
+ghost use Rattle.hm_eval.specs.Conditions.{IsPut};
 ghost use Rattle.hm_types.specs.Checks.{Trees};
-ghost use Rattle.hm_replica.specs.Replicas.{replica_value, typed_value, IsTyped, IsReplica, Opens, Closes};
+ghost use Rattle.hm_replica.specs.Replicas.{main_in, setting_in, replica_value, typed_value, IsTyped, IsReplica, Opens, Closes};
 
 use crate::boxed::{laws, read, write};
+use hm_eval::{get, put_changes, put_owned};
 use hm_format::{Format, FormatFault};
+use hm_terms::Term;
 use hm_text_lens::TextLens;
-use hm_tree::Tree;
+use hm_tree::{Memory, Tree};
 use hm_types::Typed;
 use std::alloc::Global;
 
@@ -14,7 +20,8 @@ use std::alloc::Global;
 #[derive(Drop)]
 pub struct Replica {
     pub bytes: Vec<u8>,
-    pub concrete: Tree,
+    /// None where it is the view, so that a program which shows each tree as it is needs no copies.
+    pub concrete: Option<Tree>,
     pub view: Tree,
 }
 
@@ -32,10 +39,17 @@ impl Replica {
     {
         laws(format);
         let concrete = read(format, alloc, &typed.program.options, &bytes)?;
-        let view = hm_eval::get(&typed.program, texts, &concrete)?;
+        if is_identity(&typed.program.main) {
+            return Ok(Replica {
+                bytes,
+                concrete: None,
+                view: concrete,
+            });
+        }
+        let view = get(&typed.program, texts, &concrete)?;
         Ok(Replica {
             bytes,
-            concrete,
+            concrete: Some(concrete),
             view,
         })
     }
@@ -64,8 +78,32 @@ impl Replica {
         if shown.same(&view) {
             return Ok(bytes);
         }
-        drop(view);
-        let tree = hm_eval::put_owned(&typed.program, texts, shown, Some(concrete))?;
+        let tree = put_back(typed, texts, shown, concrete, view)?;
         write(format, alloc, &typed.program.options, &tree, &bytes)
     }
+}
+
+// The tree that is put of a view over the tree from before and what was shown of it; where the first isn't there, this is both.
+fn put_back(
+    typed: &Typed,
+    texts: &[Box<dyn TextLens>],
+    shown: Tree,
+    concrete: Option<Tree>,
+    view: Tree,
+) -> Result<Tree, Memory>
+    requires put { IsPut (setting_in (map (λ b. meaning b) texts.now) (typed_value typed.now)) (main_in (typed_value typed.now)) shown (Some (before_or view concrete)) }
+    requires back { Puts (setting_in (map (λ b. meaning b) texts.now) (typed_value typed.now)) (main_in (typed_value typed.now)) view (Some (before_or view concrete)) (before_or view concrete) }
+    ensures { IfOk result (Puts (setting_in (map (λ b. meaning b) texts.now) (typed_value typed.now)) (main_in (typed_value typed.now)) shown (Some (before_or view concrete))) }
+{
+    match concrete {
+        Some(concrete) => put_changes(&typed.program, texts, shown, concrete, view),
+        None => put_owned(&typed.program, texts, shown, Some(view)),
+    }
+}
+
+// Whether a lens is the one that shows each tree as it is.
+fn is_identity(lens: &Term) -> bool
+    ensures { IsTrue result ↔ (lens_of lens.now ≡ identity) }
+{
+    matches!(lens, Term::Id)
 }
