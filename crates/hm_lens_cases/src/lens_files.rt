@@ -236,7 +236,7 @@ fn faults_are_told(rt: HostRuntime) -> Result<(), Fail> {
     Ok(())
 }
 
-// The file of docs/LENSES.md, and below its table's lenses.
+// A file with a definition, and below it the lenses of the tables of docs/LENSES.md.
 const RENAMED: &str =
     "harmony lens 1\nformat tree root=Book\nnode Book\n  other filled Card\n  shape + 0..\nnode Card\n  edge a Empty\n  shape ? a\nlens renamed Card Card = acond(a,b,rename(a,b),id)\nmain = map(call(renamed))\n";
 
