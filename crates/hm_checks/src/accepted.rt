@@ -1,5 +1,5 @@
 //! A program for each kind of lens, what it shows and what it puts.
-use crate::setting::{expect_made, expect_put, expect_shown, typed};
+use crate::setting::{expect_changed, expect_made, expect_put, expect_shown, typed};
 use hm_text_lens::TextLens;
 use std::alloc::Global;
 use std::process::Abort;
@@ -40,6 +40,8 @@ pub fn expect_with(
         expect_shown(rt, alloc, texts, &typed, case.tree, case.view)?;
         expect_put(rt, alloc, texts, &typed, case.view, case.tree, case.tree)?;
         expect_put(rt, alloc, texts, &typed, case.changed, case.tree, case.put)?;
+        expect_changed(rt, alloc, texts, &typed, case.view, case.tree, case.tree)?;
+        expect_changed(rt, alloc, texts, &typed, case.changed, case.tree, case.put)?;
         expect_made(rt, alloc, texts, &typed, case.changed, case.made)?;
     }
     Ok(())
@@ -345,6 +347,28 @@ fn items_behind_the_last_one_are_made(rt: HostRuntime) -> Result<(), Fail> {
             changed: "{\"*h\":{\"a\":{\"2\"}},\"*t\":{\"*h\":{\"a\":{\"1\"}},\"*t\"}}",
             put: "{\"*h\":{\"a\":{\"2\"},\"c\":{\"5\"}},\"*t\":{\"*h\":{\"a\":{\"1\"}},\"*t\"}}",
             made: "{\"*h\":{\"a\":{\"2\"}},\"*t\":{\"*h\":{\"a\":{\"1\"}},\"*t\"}}",
+        }],
+    )
+}
+
+// Any names, with a list of cards under each.
+const DECKS: &str =
+    "node R\n  other any Cards\n  shape + 0..\nnode Cards\n  edge *h Card\n  edge *t Cards\n  shape\n  shape *h *t\nnode Card\n  edge a V\n  edge c V\n  shape a ? c\n";
+
+// Of three cards the second one is another, and a new one stands behind the third. What isn't shown of the three stays.
+#[test]
+fn a_card_that_changed(rt: HostRuntime) -> Result<(), Fail> {
+    expect_main(
+        &rt,
+        rt.alloc(),
+        DECKS,
+        "map(list(filter({a},{})))",
+        &[Case {
+            tree: "{\"x\":{\"*h\":{\"a\":{\"1\"},\"c\":{\"5\"}},\"*t\"},\"y\":{\"*h\":{\"a\":{\"2\"},\"c\":{\"6\"}},\"*t\"},\"z\":{\"*h\":{\"a\":{\"3\"},\"c\":{\"7\"}},\"*t\"}}",
+            view: "{\"x\":{\"*h\":{\"a\":{\"1\"}},\"*t\"},\"y\":{\"*h\":{\"a\":{\"2\"}},\"*t\"},\"z\":{\"*h\":{\"a\":{\"3\"}},\"*t\"}}",
+            changed: "{\"x\":{\"*h\":{\"a\":{\"1\"}},\"*t\"},\"y\":{\"*h\":{\"a\":{\"8\"}},\"*t\"},\"z\":{\"*h\":{\"a\":{\"3\"}},\"*t\":{\"*h\":{\"a\":{\"4\"}},\"*t\"}}}",
+            put: "{\"x\":{\"*h\":{\"a\":{\"1\"},\"c\":{\"5\"}},\"*t\"},\"y\":{\"*h\":{\"a\":{\"8\"},\"c\":{\"6\"}},\"*t\"},\"z\":{\"*h\":{\"a\":{\"3\"},\"c\":{\"7\"}},\"*t\":{\"*h\":{\"a\":{\"4\"}},\"*t\"}}}",
+            made: "{\"x\":{\"*h\":{\"a\":{\"1\"}},\"*t\"},\"y\":{\"*h\":{\"a\":{\"8\"}},\"*t\"},\"z\":{\"*h\":{\"a\":{\"3\"}},\"*t\":{\"*h\":{\"a\":{\"4\"}},\"*t\"}}}",
         }],
     )
 }

@@ -6,7 +6,7 @@ ghost use Rattle.hm_terms.specs.WellFormedPrograms.{IsWellFormed};
 ghost use Rattle.hm_types.specs.Checks.{Trees};
 ghost use Rattle.hm_checks.specs.Running.{CanRun};
 
-use hm_eval::{get, put};
+use hm_eval::{get, put, put_changes};
 use hm_focal::{LensFault, read_lens};
 use hm_schema::Schema;
 use hm_schema_text::{SchemaFault, read_schema};
@@ -214,6 +214,25 @@ pub fn expect_put(
     let view = view_tree(alloc, typed, view)?;
     let before = source_tree(alloc, typed, before)?;
     let tree = put(&typed.program, texts, &view, Some(&before))?;
+    expect_tree(rt, alloc, &tree, want)
+}
+
+/// Compares what is put of a view where it isn't the one that is shown of the tree from before.
+pub fn expect_changed(
+    rt: &impl Abort,
+    alloc: Global,
+    texts: &[Box<dyn TextLens>],
+    typed: &Typed,
+    view: &str,
+    before: &str,
+    want: &str,
+) -> Result<(), Fail>
+    requires { CanRun (map (λ b. meaning b) texts.now) typed.now }
+{
+    let view = view_tree(alloc, typed, view)?;
+    let before = source_tree(alloc, typed, before)?;
+    let old = get(&typed.program, texts, &before)?;
+    let tree = put_changes(&typed.program, texts, view, before, old)?;
     expect_tree(rt, alloc, &tree, want)
 }
 
