@@ -82,9 +82,11 @@ fn make(
         replicas,
     } = inputs;
     if archive.records(&replicas.left.view) {
+        drop(archive);
         return close_as_right(alloc, formats, texts, &sides, replicas);
     }
     if archive.records(&replicas.right.view) {
+        drop(archive);
         return close_as_left(alloc, formats, texts, &sides, replicas);
     }
     make_both(alloc, formats, texts, &schema, &sides, archive, replicas)
