@@ -15,23 +15,38 @@ fn map(alloc: Global, inner: Term) -> Result<Term, Memory> {
     Ok(Term::Map(Box::new(alloc, inner)?))
 }
 
+fn list(alloc: Global, inner: Term) -> Result<Term, Memory> {
+    Ok(Term::List(Box::new(alloc, inner)?))
+}
+
+fn hoist(alloc: Global) -> Result<Box<Term>, Memory> {
+    Ok(Box::new(alloc, Term::Hoist(Name::from_text(alloc, "m")?))?)
+}
+
 // `hoist(m)`, and then another lens.
 fn after_hoist(alloc: Global, second: Term) -> Result<Term, Memory> {
-    let hoist = Term::Hoist(Name::from_text(alloc, "m")?);
-    Ok(Term::Seq(Box::new(alloc, hoist)?, Box::new(alloc, second)?))
+    let second = Box::new(alloc, second)?;
+    Ok(Term::Seq(hoist(alloc)?, second))
+}
+
+// One definition more.
+fn define(
+    alloc: Global,
+    definitions: &mut Vec<Definition>,
+    name: &str,
+    body: Term,
+) -> Result<(), Memory> {
+    definitions.push(Definition {
+        name: Name::from_text(alloc, name)?,
+        source: NodeId { place: 0 },
+        view: NodeId { place: 0 },
+        body,
+    })?;
+    Ok(())
 }
 
 // The first definition in a bad cycle, where these are all.
-fn first(alloc: Global, bodies: Vec<(&str, Term)>) -> Result<Option<usize>, Memory> {
-    let mut definitions = Vec::new(alloc);
-    for (name, body) in bodies {
-        definitions.push(Definition {
-            name: Name::from_text(alloc, name)?,
-            source: NodeId { place: 0 },
-            view: NodeId { place: 0 },
-            body,
-        })?;
-    }
+fn first(alloc: Global, definitions: Vec<Definition>) -> Result<Option<usize>, Memory> {
     let program = Program {
         format: Name::from_text(alloc, "text")?,
         options: Options {
@@ -54,7 +69,9 @@ fn no_definitions(rt: HostRuntime) -> Result<(), Fail> {
 
 // The same of one definition alone, L.
 fn first_alone(alloc: Global, body: Term) -> Result<Option<usize>, Memory> {
-    first(alloc, vec![in alloc; ("L", body)]?)
+    let mut all = Vec::new(alloc);
+    define(alloc, &mut all, "L", body)?;
+    first(alloc, all)
 }
 
 #[test]
@@ -71,22 +88,20 @@ fn a_definition_calls_itself(rt: HostRuntime) -> Result<(), Fail> {
 #[test]
 fn one_of_two_calls_goes_down(rt: HostRuntime) -> Result<(), Fail> {
     let alloc = rt.alloc();
-    let one = map(alloc, call(alloc, "B")?)?;
-    let two = call(alloc, "A")?;
-    assert_eq!(rt;
-        first(alloc, vec![in alloc; ("A", one), ("B", two)]?)?,
-        None
-    );
+    let mut all = Vec::new(alloc);
+    define(alloc, &mut all, "A", map(alloc, call(alloc, "B")?)?)?;
+    define(alloc, &mut all, "B", call(alloc, "A")?)?;
+    assert_eq!(rt; first(alloc, all)?, None);
     Ok(())
 }
 
 #[test]
 fn three_that_call_one_another(rt: HostRuntime) -> Result<(), Fail> {
     let alloc = rt.alloc();
-    let one = map(alloc, call(alloc, "B")?)?;
-    let two = Term::List(Box::new(alloc, call(alloc, "C")?)?);
-    let three = after_hoist(alloc, call(alloc, "A")?)?;
-    let all = vec![in alloc; ("A", one), ("B", two), ("C", three)]?;
+    let mut all = Vec::new(alloc);
+    define(alloc, &mut all, "A", map(alloc, call(alloc, "B")?)?)?;
+    define(alloc, &mut all, "B", list(alloc, call(alloc, "C")?)?)?;
+    define(alloc, &mut all, "C", after_hoist(alloc, call(alloc, "A")?)?)?;
     assert_eq!(rt; first(alloc, all)?, Some(0));
     Ok(())
 }
@@ -94,24 +109,22 @@ fn three_that_call_one_another(rt: HostRuntime) -> Result<(), Fail> {
 #[test]
 fn the_first_one_only_leads_there(rt: HostRuntime) -> Result<(), Fail> {
     let alloc = rt.alloc();
-    let one = call(alloc, "B")?;
-    let two = call(alloc, "B")?;
-    assert_eq!(rt;
-        first(alloc, vec![in alloc; ("A", one), ("B", two)]?)?,
-        Some(1)
-    );
+    let mut all = Vec::new(alloc);
+    define(alloc, &mut all, "A", call(alloc, "B")?)?;
+    define(alloc, &mut all, "B", call(alloc, "B")?)?;
+    assert_eq!(rt; first(alloc, all)?, Some(1));
     Ok(())
 }
 
 #[test]
 fn the_first_lens_of_a_name_counts(rt: HostRuntime) -> Result<(), Fail> {
     let alloc = rt.alloc();
+    let mut row = Vec::new(alloc);
+    row.push((Name::from_text(alloc, "x")?, Term::Id))?;
     let shadowed = after_hoist(alloc, call(alloc, "A")?)?;
-    let row = vec![in alloc;
-        (Name::from_text(alloc, "x")?, Term::Id),
-        (Name::from_text(alloc, "x")?, shadowed),
-    ]?;
-    let body = Term::Each(row);
-    assert_eq!(rt; first(alloc, vec![in alloc; ("A", body)]?)?, None);
+    row.push((Name::from_text(alloc, "x")?, shadowed))?;
+    let mut all = Vec::new(alloc);
+    define(alloc, &mut all, "A", Term::Each(row))?;
+    assert_eq!(rt; first(alloc, all)?, None);
     Ok(())
 }

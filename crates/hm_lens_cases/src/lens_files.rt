@@ -1,4 +1,5 @@
 use hm_focal::{LensFault, read_lens, write_lens};
+use hm_terms::Program;
 use std::alloc::Global;
 use std::process::Abort;
 use std::test::Fail;
@@ -29,37 +30,45 @@ fn expect_behind(rt: &impl Abort, alloc: Global, lines: &str, line: usize) -> Re
     Ok(())
 }
 
-#[test]
-fn reads_the_examples(rt: HostRuntime) -> Result<(), Fail> {
-    let program = match read_lens(rt.alloc(), BOOK.as_bytes()) {
-        Ok(program) => program,
-        Err(_) => return Err("the first example isn't read".into()),
-    };
-    assert_eq!(rt; program.format.text(), "csv");
+// Whether the first example was read.
+fn is_book(program: &Program) -> bool {
     let [_, _, many] = program.options.pairs.as_slice() else {
-        return Err("there aren't three options".into());
+        return false;
     };
     let [_, email] = many.1.as_slice() else {
-        return Err("there aren't two names".into());
+        return false;
     };
-    assert_eq!(rt; email.text(), "Email");
-    let program = match read_lens(rt.alloc(), CALLS.as_bytes()) {
-        Ok(program) => program,
-        Err(_) => return Err("the second example isn't read".into()),
-    };
+    program.format.text() == "csv" && email.text() == "Email"
+}
+
+#[test]
+fn reads_options(rt: HostRuntime) {
+    match read_lens(rt.alloc(), BOOK.as_bytes()) {
+        Ok(program) => assert!(&rt; is_book(&program)),
+        Err(_) => assert!(&rt; false),
+    }
+}
+
+// Whether the nodes and the definitions of the second example were read.
+fn is_calls(program: &Program) -> bool {
     let [_, _, last] = program.options.type_names.as_slice() else {
-        return Err("there aren't three nodes".into());
+        return false;
     };
-    assert_eq!(rt; last.text(), "Empty");
-    assert_eq!(rt; program.options.types.len(), 3);
     let [one, two] = program.definitions.as_slice() else {
-        return Err("there aren't two definitions".into());
+        return false;
     };
-    assert_eq!(rt; two.name.text(), "two");
-    assert_eq!(rt; two.source.place, 1);
-    assert_eq!(rt; two.view.place, 0);
-    assert_eq!(rt; one.view.place, 2);
-    Ok(())
+    last.text() == "Empty"
+        && program.options.types.len() == 3
+        && two.name.text() == "two"
+        && [two.source.place, two.view.place, one.view.place] == [1, 0, 2]
+}
+
+#[test]
+fn reads_definitions(rt: HostRuntime) {
+    match read_lens(rt.alloc(), CALLS.as_bytes()) {
+        Ok(program) => assert!(&rt; is_calls(&program)),
+        Err(_) => assert!(&rt; false),
+    }
 }
 
 #[test]
@@ -240,6 +249,15 @@ fn faults_are_told(rt: HostRuntime) -> Result<(), Fail> {
 const RENAMED: &str =
     "harmony lens 1\nformat tree root=Book\nnode Book\n  other filled Card\n  shape + 0..\nnode Card\n  edge a Empty\n  shape ? a\nlens renamed Card Card = acond(a,b,rename(a,b),id)\nmain = map(call(renamed))\n";
 
+// A lens, as that of a definition and as the main one, is read, and written so that it is read again.
+fn expect_lens(rt: &impl Abort, alloc: Global, lens: &str) -> Result<(), Fail> {
+    let file = format!(in alloc;
+        "harmony lens 1\nformat tree\nlens L Empty Empty = {lens}\nmain = {lens}\n"
+    )?;
+    expect_line(rt, alloc, file.as_str(), 0);
+    expect_rewritten(rt, alloc, file.as_bytes())
+}
+
 #[test]
 fn the_lenses_of_the_docs_are_read(rt: HostRuntime) -> Result<(), Fail> {
     let alloc = rt.alloc();
@@ -268,13 +286,7 @@ fn the_lenses_of_the_docs_are_read(rt: HostRuntime) -> Result<(), Fail> {
         "add(b,{\"2\"})",
         "rename(a,b)",
     ] {
-        let lines = format!(in alloc; "lens L Empty Empty = {lens}\nmain = {lens}\n")?;
-        expect_behind(&rt, alloc, lines.as_str(), 0)?;
-        let file = format!(in alloc;
-            "harmony lens 1\nformat tree\n{lines}",
-            lines = lines.as_str()
-        )?;
-        expect_rewritten(&rt, alloc, file.as_bytes())?;
+        expect_lens(&rt, alloc, lens)?;
     }
     Ok(())
 }

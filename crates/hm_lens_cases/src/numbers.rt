@@ -2,11 +2,12 @@
 ghost use Rattle.std.specs.Prelude.{◌≡◌, All, []};
 
 use hm_numbering::{is_plain, numbered};
-use hm_schema::Schema;
+use hm_schema::{Node, Schema};
 use hm_schema_text::{SchemaFault, read_schema};
 use hm_table::Table;
 use hm_tree::Memory;
 use std::alloc::Global;
+use std::process::Abort;
 use std::test::Fail;
 
 // A cell and its rest in turn are the same; a leaf is listed twice, a shape is repeated, a name stands in no shape, and a
@@ -31,25 +32,44 @@ fn rewritten(alloc: Global, schema: &Schema) -> Result<Option<Schema>, Memory> {
     Ok(Some(numbered(alloc, &table, schema.root())?))
 }
 
-#[test]
-fn a_schema_is_written_by_numbers(rt: HostRuntime) -> Result<(), Fail> {
-    let alloc = rt.alloc();
-    let schema = schema_of(alloc, TANGLED)?;
-    let Some(found) = rewritten(alloc, &schema)? else {
-        return Err("a schema has twins".into());
-    };
-    let nodes = found.nodes();
-    assert_eq!(rt; nodes.len(), 3);
-    assert_eq!(rt; found.root().place, 0);
-    let mut shapes = Vec::new(alloc);
+// How many shapes each node has.
+fn shape_counts(alloc: Global, nodes: &[Node]) -> Result<Vec<usize>, Memory> {
+    let mut counts = Vec::new(alloc);
+    for node in nodes {
+        counts.push(node.shapes.len())?;
+    }
+    Ok(counts)
+}
+
+// Where the listed names of each node lead, behind one another.
+fn ends(alloc: Global, nodes: &[Node]) -> Result<Vec<usize>, Memory> {
     let mut ends = Vec::new(alloc);
     for node in nodes {
-        shapes.push(node.shapes.len())?;
         for child in &node.children {
             ends.push(child.1.place)?;
         }
     }
-    assert_eq!(rt; shapes, vec![in alloc; 2, 1, 1]?);
-    assert_eq!(rt; ends, vec![in alloc; 1, 0, 2, 2]?);
+    Ok(ends)
+}
+
+fn expect_numbered(rt: &impl Abort, alloc: Global, found: &Schema) -> Result<(), Fail> {
+    assert_eq!(rt; found.root().place, 0);
+    assert_eq!(rt;
+        shape_counts(alloc, found.nodes())?.as_slice(),
+        [2, 1, 1].as_slice()
+    );
+    assert_eq!(rt;
+        ends(alloc, found.nodes())?.as_slice(),
+        [1, 0, 2, 2].as_slice()
+    );
     Ok(())
+}
+
+#[test]
+fn a_schema_is_written_by_numbers(rt: HostRuntime) -> Result<(), Fail> {
+    let alloc = rt.alloc();
+    match rewritten(alloc, &schema_of(alloc, TANGLED)?)? {
+        Some(found) => expect_numbered(&rt, alloc, &found),
+        None => Err("a schema has twins".into()),
+    }
 }

@@ -211,6 +211,29 @@ fn bytes_of(alloc: Global, text: &str) -> Result<Vec<u8>, Memory> {
     Ok(bytes)
 }
 
+fn text_of(bytes: Vec<u8>) -> Result<String, Fail> {
+    match String::from_utf8(bytes) {
+        Ok(text) => Ok(text),
+        Err(_) => Err("no text".into()),
+    }
+}
+
+// The same in words, where the file isn't closed.
+fn closed_words(
+    alloc: Global,
+    formats: &[Box<dyn Format>],
+    texts: &[Box<dyn TextLens>],
+    side: &Side,
+    files: (&str, &str),
+) -> Result<String, Fail>
+    requires { IsSide (λ b. means b) formats.now (map (λ b. meaning b) texts.now) (side_value side.now) }
+{
+    match closed(alloc, formats, texts, side, files) {
+        Ok(bytes) => text_of(bytes),
+        Err(stop) => words(alloc, Slot::A, &stop),
+    }
+}
+
 // Each case has the bytes of a file, those of one with the new view, and what comes of them.
 fn expect_closed(
     rt: &impl Abort,
@@ -228,10 +251,7 @@ fn expect_closed(
         ("{\"a\"}\n", "{\"b\"}\n", "Outside 0"),
         ("{\"a\"\n", "{\"a\"}\n", "BadItem 4"),
     ] {
-        let found = match closed(alloc, formats, texts, &side, (case.0, case.1)) {
-            Ok(bytes) => String::from_utf8(bytes).map_err(|_| Fail::from("no text"))?,
-            Err(stop) => words(alloc, Slot::A, &stop)?,
-        };
+        let found = closed_words(alloc, formats, texts, &side, (case.0, case.1))?;
         assert_eq!(rt; found.as_str(), case.2);
     }
     Ok(())

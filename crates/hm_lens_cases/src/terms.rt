@@ -1,18 +1,23 @@
 //! Terms are read and written.
 use hm_term_text::{TermRead, append_term, is_long, read_term};
 use hm_terms::Term;
+use hm_tree::Memory;
 use std::alloc::Global;
 use std::process::Abort;
 use std::test::Fail;
 
+fn text_of(alloc: Global, term: &Term) -> Result<Vec<u8>, Memory> {
+    let mut text = Vec::new(alloc);
+    append_term(&mut text, term)?;
+    Ok(text)
+}
+
 // The text that a term is written as, if the text is one of a term.
-fn written(alloc: Global, text: &[u8]) -> Result<Option<Vec<u8>>, Fail> {
-    let TermRead::Term(term) = read_term(alloc, text)? else {
-        return Ok(None);
-    };
-    let mut written = Vec::new(alloc);
-    append_term(&mut written, &term)?;
-    Ok(Some(written))
+fn written(alloc: Global, text: &[u8]) -> Result<Option<Vec<u8>>, Memory> {
+    match read_term(alloc, text)? {
+        TermRead::Term(term) => Ok(Some(text_of(alloc, &term)?)),
+        _ => Ok(None),
+    }
 }
 
 // A text is read, written so, and what is written is read and written so again.
@@ -99,25 +104,44 @@ fn terms_are_written(rt: HostRuntime) -> Result<(), Fail> {
     Ok(())
 }
 
-#[test]
-fn a_new_name_is_hoisted_and_plunged(rt: HostRuntime) -> Result<(), Fail> {
-    let TermRead::Term(
+// Whether a term is one of a new name.
+fn is_new_name(term: &Term) -> bool {
+    match term {
         Term::Fork {
             concrete,
             shown,
             inside,
             outside,
-        },
-    ) = read_term(rt.alloc(), b"rename(a,b)")?
-    else {
-        assert!(rt; false, "no fork");
-        return Ok(());
-    };
-    assert_eq!(rt; concrete.names().len(), 1);
-    assert_eq!(rt; shown.names().len(), 1);
-    assert!(rt; matches!(&*inside, Term::Seq(_, _)));
-    assert!(rt; matches!(&*outside, Term::Id));
+        } => {
+            concrete.names().len() == 1
+                && shown.names().len() == 1
+                && matches!(&**inside, Term::Seq(_, _))
+                && matches!(&**outside, Term::Id)
+        }
+        _ => false,
+    }
+}
+
+// What a text was read as, in a word.
+fn word(read: &TermRead) -> &'static str {
+    match read {
+        TermRead::Term(term) if is_long(term) => "a long term",
+        TermRead::Term(term) if is_new_name(term) => "a new name",
+        TermRead::Term(_) => "a term",
+        TermRead::Oversized => "oversized",
+        TermRead::Nothing => "nothing",
+    }
+}
+
+fn expect_word(rt: &impl Abort, alloc: Global, text: &[u8], want: &str) -> Result<(), Fail> {
+    let read = read_term(alloc, text)?;
+    assert_eq!(rt; word(&read), want);
     Ok(())
+}
+
+#[test]
+fn a_new_name_is_hoisted_and_plunged(rt: HostRuntime) -> Result<(), Fail> {
+    expect_word(&rt, rt.alloc(), b"rename(a,b)", "a new name")
 }
 
 #[test]
@@ -145,44 +169,41 @@ fn other_texts_are_no_terms(rt: HostRuntime) -> Result<(), Fail> {
         b"map(id;)",
     ];
     for text in table {
-        assert!(rt; matches!(read_term(rt.alloc(), text)?, TermRead::Nothing));
+        expect_word(&rt, rt.alloc(), text, "nothing")?;
     }
     Ok(())
 }
 
-// Some bytes, so many times.
-fn repeated(alloc: Global, bytes: &[u8], count: usize) -> Result<Vec<u8>, Fail> {
-    let mut text = Vec::new(alloc);
+// Some bytes more, so many times.
+fn append_repeated(text: &mut Vec<u8>, bytes: &[u8], count: usize) -> Result<(), Memory> {
     for _ in 0..count {
         text.extend_from_slice(bytes)?;
     }
+    Ok(())
+}
+
+// `id` in so many parentheses.
+fn nested(alloc: Global, depth: usize) -> Result<Vec<u8>, Memory> {
+    let mut text = Vec::new(alloc);
+    append_repeated(&mut text, b"(", depth)?;
+    text.extend_from_slice(b"id")?;
+    append_repeated(&mut text, b")", depth)?;
     Ok(text)
 }
 
 #[test]
 fn limits_are_kept(rt: HostRuntime) -> Result<(), Fail> {
-    for (depth, fits) in [(200, true), (201, false)] {
-        let mut nested = repeated(rt.alloc(), b"(", depth)?;
-        nested.extend_from_slice(b"id")?;
-        nested.extend_from_slice(&repeated(rt.alloc(), b")", depth)?)?;
-        match read_term(rt.alloc(), &nested)? {
-            TermRead::Term(_) => assert!(rt; fits),
-            TermRead::Oversized => assert!(rt; !fits),
-            TermRead::Nothing => assert!(rt; false),
-        }
+    let alloc = rt.alloc();
+    for (depth, want) in [(200, "a term"), (201, "oversized")] {
+        expect_word(&rt, alloc, &nested(alloc, depth)?, want)?;
     }
-    let mut long = repeated(rt.alloc(), b"id;", 2000)?;
+    let mut long = Vec::new(alloc);
+    append_repeated(&mut long, b"id;", 2000)?;
     long.extend_from_slice(b"id")?;
-    assert!(rt; matches!(read_term(rt.alloc(), &long)?, TermRead::Oversized));
-    Ok(())
+    expect_word(&rt, alloc, &long, "oversized")
 }
 
 #[test]
 fn terms_are_counted(rt: HostRuntime) -> Result<(), Fail> {
-    let TermRead::Term(term) = read_term(rt.alloc(), b"id;map(id)")? else {
-        assert!(rt; false, "no term");
-        return Ok(());
-    };
-    assert!(rt; !is_long(&term));
-    Ok(())
+    expect_word(&rt, rt.alloc(), b"id;map(id)", "a term")
 }

@@ -6,49 +6,53 @@ use std::alloc::Global;
 use std::process::Abort;
 use std::test::Fail;
 
+// Each case has a text, and what is shown of it.
 fn expect_shown<L: TextLens>(
     rt: &impl Abort,
     alloc: Global,
     lens: &L,
-    text: &str,
-    want: &str,
+    cases: &[(&str, &str)],
 ) -> Result<(), Fail> {
-    let text = Name::from_text(alloc, text)?;
-    assert!(rt; text.in_class(lens.from_class()));
-    let shown = lens.get(alloc, &text)?;
-    assert_eq!(rt; shown.text(), want);
+    for (text, want) in cases {
+        let text = Name::from_text(alloc, text)?;
+        assert!(rt; text.in_class(lens.from_class()));
+        let shown = lens.get(alloc, &text)?;
+        assert_eq!(rt; shown.text(), *want);
+    }
     Ok(())
 }
 
-// What is put with no text from before.
+// Each case has a text, and what is put of it with no text from before.
 fn expect_new<L: TextLens>(
     rt: &impl Abort,
     alloc: Global,
     lens: &L,
-    text: &str,
-    want: &str,
+    cases: &[(&str, &str)],
 ) -> Result<(), Fail> {
-    let text = Name::from_text(alloc, text)?;
-    assert!(rt; text.in_class(lens.into_class()));
-    let made = lens.put(alloc, &text, None)?;
-    assert_eq!(rt; made.text(), want);
+    for (text, want) in cases {
+        let text = Name::from_text(alloc, text)?;
+        assert!(rt; text.in_class(lens.into_class()));
+        let made = lens.put(alloc, &text, None)?;
+        assert_eq!(rt; made.text(), *want);
+    }
     Ok(())
 }
 
+// Each case has a text, the text from before, and what is put.
 fn expect_put<L: TextLens>(
     rt: &impl Abort,
     alloc: Global,
     lens: &L,
-    text: &str,
-    before: &str,
-    want: &str,
+    cases: &[(&str, &str, &str)],
 ) -> Result<(), Fail> {
-    let text = Name::from_text(alloc, text)?;
-    let before = Name::from_text(alloc, before)?;
-    assert!(rt; text.in_class(lens.into_class()));
-    assert!(rt; before.in_class(lens.from_class()));
-    let made = lens.put(alloc, &text, Some(&before))?;
-    assert_eq!(rt; made.text(), want);
+    for (text, before, want) in cases {
+        let text = Name::from_text(alloc, text)?;
+        let before = Name::from_text(alloc, before)?;
+        assert!(rt; text.in_class(lens.into_class()));
+        assert!(rt; before.in_class(lens.from_class()));
+        let made = lens.put(alloc, &text, Some(&before))?;
+        assert_eq!(rt; made.text(), *want);
+    }
     Ok(())
 }
 
@@ -56,12 +60,15 @@ fn expect_put<L: TextLens>(
 fn ends_are_trimmed(rt: HostRuntime) -> Result<(), Fail> {
     let alloc = rt.alloc();
     let trim = trim(alloc)?;
-    expect_shown(&rt, alloc, &trim, "  Ann Lee ", "Ann Lee")?;
-    expect_shown(&rt, alloc, &trim, "Ann", "Ann")?;
-    expect_shown(&rt, alloc, &trim, "\tAnn\u{A0}", "\tAnn\u{A0}")?;
-    expect_put(&rt, alloc, &trim, "Ann", "  Ann ", "  Ann ")?;
-    expect_put(&rt, alloc, &trim, "Bob", "  Ann ", "Bob")?;
-    expect_new(&rt, alloc, &trim, "Bob", "Bob")?;
+    let shown = [
+        ("  Ann Lee ", "Ann Lee"),
+        ("Ann", "Ann"),
+        ("\tAnn\u{A0}", "\tAnn\u{A0}"),
+    ];
+    expect_shown(&rt, alloc, &trim, &shown)?;
+    let put = [("Ann", "  Ann ", "  Ann "), ("Bob", "  Ann ", "Bob")];
+    expect_put(&rt, alloc, &trim, &put)?;
+    expect_new(&rt, alloc, &trim, &[("Bob", "Bob")])?;
     assert_eq!(rt; trim.name().text(), "trim");
     Ok(())
 }
@@ -70,13 +77,32 @@ fn ends_are_trimmed(rt: HostRuntime) -> Result<(), Fail> {
 fn case_is_folded(rt: HostRuntime) -> Result<(), Fail> {
     let alloc = rt.alloc();
     let fold = FoldCase::new(Name::from_text(alloc, "fold")?);
-    expect_shown(&rt, alloc, &fold, "Stra\u{DF}e", "strasse")?;
-    expect_shown(&rt, alloc, &fold, "\u{391}\u{3A3}", "\u{3B1}\u{3C3}")?;
-    expect_put(&rt, alloc, &fold, "strasse", "Stra\u{DF}e", "Stra\u{DF}e")?;
-    expect_put(&rt, alloc, &fold, "weg", "Stra\u{DF}e", "weg")?;
-    expect_new(&rt, alloc, &fold, "weg", "weg")?;
+    let shown = [
+        ("Stra\u{DF}e", "strasse"),
+        ("\u{391}\u{3A3}", "\u{3B1}\u{3C3}"),
+    ];
+    expect_shown(&rt, alloc, &fold, &shown)?;
+    let put = [
+        ("strasse", "Stra\u{DF}e", "Stra\u{DF}e"),
+        ("weg", "Stra\u{DF}e", "weg"),
+    ];
+    expect_put(&rt, alloc, &fold, &put)?;
+    expect_new(&rt, alloc, &fold, &[("weg", "weg")])?;
     assert_eq!(rt; fold.name().text(), "fold");
     Ok(())
+}
+
+// Each of two dates is shown as the other, and put of it.
+fn expect_exchanged<L: TextLens>(
+    rt: &impl Abort,
+    alloc: Global,
+    lens: &L,
+    one: &str,
+    other: &str,
+) -> Result<(), Fail> {
+    expect_shown(rt, alloc, lens, &[(one, other), (other, one)])?;
+    expect_new(rt, alloc, lens, &[(other, one)])?;
+    expect_put(rt, alloc, lens, &[(one, "before", other)])
 }
 
 #[test]
@@ -105,10 +131,7 @@ fn dates_are_exchanged(rt: HostRuntime) -> Result<(), Fail> {
         ("99991231", "9999-12-31"),
     ];
     for (one, other) in dates {
-        expect_shown(&rt, alloc, &date, one, other)?;
-        expect_shown(&rt, alloc, &date, other, one)?;
-        expect_new(&rt, alloc, &date, other, one)?;
-        expect_put(&rt, alloc, &date, one, "before", other)?;
+        expect_exchanged(&rt, alloc, &date, one, other)?;
     }
     assert_eq!(rt; date.name().text(), "date");
     Ok(())
@@ -148,8 +171,8 @@ fn other_texts_stay_where_dates_are_exchanged(rt: HostRuntime) -> Result<(), Fai
         "a date",
     ];
     for text in others {
-        expect_shown(&rt, alloc, &date, text, text)?;
-        expect_new(&rt, alloc, &date, text, text)?;
+        expect_shown(&rt, alloc, &date, &[(text, text)])?;
+        expect_new(&rt, alloc, &date, &[(text, text)])?;
     }
     Ok(())
 }
@@ -158,15 +181,17 @@ fn other_texts_stay_where_dates_are_exchanged(rt: HostRuntime) -> Result<(), Fai
 fn words_are_exchanged(rt: HostRuntime) -> Result<(), Fail> {
     let alloc = rt.alloc();
     let words = yes_no(alloc)?;
-    expect_shown(&rt, alloc, &words, "Y", "yes")?;
-    expect_shown(&rt, alloc, &words, "yes", "Y")?;
-    expect_shown(&rt, alloc, &words, "N", "no")?;
-    expect_shown(&rt, alloc, &words, "maybe", "maybe")?;
-    expect_shown(&rt, alloc, &words, "y", "y")?;
-    expect_new(&rt, alloc, &words, "yes", "Y")?;
-    expect_new(&rt, alloc, &words, "Y", "yes")?;
-    expect_put(&rt, alloc, &words, "no", "Y", "N")?;
-    expect_put(&rt, alloc, &words, "maybe", "Y", "maybe")?;
+    let shown = [
+        ("Y", "yes"),
+        ("yes", "Y"),
+        ("N", "no"),
+        ("maybe", "maybe"),
+        ("y", "y"),
+    ];
+    expect_shown(&rt, alloc, &words, &shown)?;
+    expect_new(&rt, alloc, &words, &[("yes", "Y"), ("Y", "yes")])?;
+    let put = [("no", "Y", "N"), ("maybe", "Y", "maybe")];
+    expect_put(&rt, alloc, &words, &put)?;
     assert_eq!(rt; words.name().text(), "yesno");
     Ok(())
 }
@@ -177,11 +202,24 @@ fn a_chain_trims_and_folds(rt: HostRuntime) -> Result<(), Fail> {
     let email = email(alloc)?;
     let before = " Ann@Example.org ";
     let bob = "bob@x.example";
-    expect_shown(&rt, alloc, &email, before, "ann@example.org")?;
-    expect_put(&rt, alloc, &email, "ann@example.org", before, before)?;
-    expect_put(&rt, alloc, &email, bob, before, bob)?;
-    expect_new(&rt, alloc, &email, bob, bob)?;
+    expect_shown(&rt, alloc, &email, &[(before, "ann@example.org")])?;
+    let put = [("ann@example.org", before, before), (bob, before, bob)];
+    expect_put(&rt, alloc, &email, &put)?;
+    expect_new(&rt, alloc, &email, &[(bob, bob)])?;
     assert_eq!(rt; email.name().text(), "email");
+    Ok(())
+}
+
+// Of two lenses of one name the first is found, which trims and folds.
+fn expect_first(rt: &impl Abort, alloc: Global, texts: &[Box<dyn TextLens>]) -> Result<(), Fail> {
+    assert!(rt; first_named(texts, &Name::from_text(alloc, "phone")?).is_none());
+    let Some(lens) = first_named(texts, &Name::from_text(alloc, "email")?) else {
+        return Err("no lens".into());
+    };
+    let text = Name::from_text(alloc, " Ann@Example.org ")?;
+    assert!(rt; text.in_class(lens.from_class()));
+    let shown = lens.get(alloc, &text)?;
+    assert_eq!(rt; shown.text(), "ann@example.org");
     Ok(())
 }
 
@@ -192,13 +230,5 @@ fn the_first_lens_of_a_name_is_found(rt: HostRuntime) -> Result<(), Fail> {
     texts.push(Box::new(alloc, date(alloc)?)?)?;
     texts.push(Box::new(alloc, email(alloc)?)?)?;
     texts.push(Box::new(alloc, TrimEnds::new(Name::from_text(alloc, "email")?))?)?;
-    assert!(rt; first_named(&texts, &Name::from_text(alloc, "phone")?).is_none());
-    let Some(lens) = first_named(&texts, &Name::from_text(alloc, "email")?) else {
-        return Err("no lens".into());
-    };
-    let text = Name::from_text(alloc, " Ann@Example.org ")?;
-    assert!(rt; text.in_class(lens.from_class()));
-    let shown = lens.get(alloc, &text)?;
-    assert_eq!(rt; shown.text(), "ann@example.org");
-    Ok(())
+    expect_first(&rt, alloc, &texts)
 }
