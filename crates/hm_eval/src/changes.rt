@@ -15,8 +15,8 @@ use hm_terms::{Program, Term};
 use hm_text_lens::TextLens;
 use hm_tree::{Memory, Tree, take_under};
 
-/// What the lens of a program puts of a view over the tree from before, given the view that was shown of that: where the
-/// view stays, so does the tree, and nothing is put there.
+/// What the lens of a program puts of a view over the tree from before. The view that was shown of that is put back as it,
+/// so where both views are alike the tree from before is handed on.
 pub fn put_changes(
     program: &Program,
     texts: &[Box<dyn TextLens>],

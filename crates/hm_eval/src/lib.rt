@@ -1,7 +1,8 @@
 //! What lenses show and put.
 //!
 //! `get` gives what the lens of a program shows of a tree, and `put` what it puts of a view, with the tree from before or
-//! with none. `put_changes` puts only where a view isn't the one that was shown before. They are the relations of `hm_terms`, and a lens that fits its trees and views never fails on them.
+//! with none. `put_changes` puts only where a view isn't the one that was shown before. They are the relations of
+//! `hm_terms`, and a lens that fits its trees and views never fails on them.
 #![tactic(auto)]
 
 mod before;

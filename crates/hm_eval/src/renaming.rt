@@ -1,5 +1,6 @@
 //! Lenses that put a name in place of another, as most columns of a table have. A tree isn't taken apart for them.
-ghost use Rattle.std.specs.Prelude.{◌≡◌, IfSome, IfOk, IsSome, None};
+ghost use Rattle.std.specs.Prelude.{◌≡◌, MatchOption, IfOk, IsSome, None};
+ghost use Rattle.hm_tree.specs.Names.{Name as NameValue};
 ghost use Rattle.hm_tree.specs.Nodes.{below, without_edge};
 ghost use Rattle.hm_terms.specs.Programs.{lens_of};
 ghost use Rattle.hm_eval.specs.Renaming.{IsRenaming, IsRenamed};
@@ -7,9 +8,9 @@ ghost use Rattle.hm_eval.specs.Renaming.{IsRenaming, IsRenamed};
 use hm_terms::Term;
 use hm_tree::{Memory, Name, Tree};
 
-/// The name that a lens takes away and the one that it shows instead, if it is the lens that does so.
+/// The name that a lens takes away and the one that it shows instead; none where this isn't all that it does.
 pub fn renaming(lens: &Term) -> Option<(&Name, &Name)>
-    ensures { IfSome result (λ names. IsRenaming (lens_of lens.now) names.0.now names.1.now) }
+    ensures { MatchOption result ((m n : NameValue) → ¬ (IsRenaming (lens_of lens.now) m n)) (λ names. IsRenaming (lens_of lens.now) names.0.now names.1.now) }
 {
     let Term::Fork {
         inside,
