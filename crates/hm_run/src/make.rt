@@ -65,7 +65,8 @@ fn make_both(
     close(alloc, formats, texts, sides, replicas, outcome, bound)
 }
 
-// The new texts of what was read. In most runs only one side has changed since the last, or none has.
+// The new texts of what was read. In most runs only one side has changed since the last, or none has; then the archive is
+// let go before the other side is closed, since both together are most of what is in memory.
 fn make(
     alloc: Global,
     formats: &[Box<dyn Format>],
