@@ -2,13 +2,14 @@
 ghost use Rattle.std.specs.Prelude.{◌≡◌, ◌++◌, ◌∷◌, [], codes, IfOk, OnOk};
 ghost use Rattle.std.specs.Fmt.{decimal};
 ghost use Rattle.hm_files.specs.declared.stop.FileFault.TheVariants.{Mistyped, TwinLeft, BadReplica};
-ghost use Rattle.hm_tree.specs.Spelling.{spelled};
+ghost use Rattle.hm_spelling.specs.Spelling.{spelled};
 ghost use Rattle.hm_command.specs.Lines.{slot_name, archive_fault_text, replica_fault_text, slot_and_name, slot_and_number, fault_text, refusal_text, call_name, stop_text, line_of, refusal_status, work_status, status_of};
 
 use crate::ending::{Ending, Output};
 use hm_files::{ArchiveFault, FileFault, Refusal, ReplicaFault, Slot, Stop};
 use hm_outside::{Kind, Put};
-use hm_tree::{Memory, Name, append_path, append_spelled};
+use hm_spelling::{append_path, append_spelled};
+use hm_tree::{Memory, Name};
 use std::alloc::Global;
 
 fn slot_name(slot: Slot) -> &'static [u8]

@@ -6,8 +6,8 @@ use Rattle.std.specs.Char.{digit_char}
 use Rattle.std.proofs.lemmas.Bool.{or_cases, or_parts, and_parts, not-true, eqb-true, ltb-false}
 use Rattle.std.proofs.lemmas.Bool.Decides.{nat_tests}
 use Rattle.hm_tree.specs.Names.{Name}
-use Rattle.hm_tree.specs.Spelling.{is_quote_or_backslash, is_control, is_plain, spelled_byte, escaped, spelled}
-use Rattle.hm_tree.specs.SpellingLaws.{Kind, plain, backslashed, control, kind}
+use Rattle.hm_spelling.specs.Spelling.{is_quote_or_backslash, is_control, is_plain, spelled_byte, escaped, spelled}
+use Rattle.hm_spelling.specs.SpellingLaws.{Kind, plain, backslashed, control, kind}
 use Rattle.hm_tree.specs.Nodes.{Shape, bare, mark, edge}
 use Rattle.hm_tree_text.specs.Text.{Position, whole, below, further, text}
 use Rattle.hm_node_lines.specs.declared.token.Token.{Token}

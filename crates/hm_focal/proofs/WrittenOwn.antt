@@ -3,7 +3,7 @@ use Rattle.std.proofs.Common.{◌≡◌, ◌≢◌, ℕ, ◌-◌, false, List, [
 use Rattle.std.specs.Prelude.{codes, flat_map, IsUtf8}
 use Rattle.std.proofs.lemmas.List.{length_push}
 use Rattle.hm_tree.specs.Names.{Name}
-use Rattle.hm_tree.specs.Spelling.{spelled}
+use Rattle.hm_spelling.specs.Spelling.{spelled}
 use Rattle.hm_terms.specs.Lenses.{Lens, DefinitionValue, identity, sequence, constant, hoist, plunge, fork, each, among, items, copy, merge, on_concrete, on_view, text as text_lens, call}
 use Rattle.hm_term_text.specs.TermText.{IsTermText}
 use Rattle.hm_term_text.specs.Limits.{IsOversized}

@@ -1,6 +1,6 @@
 //! Lens files, written.
 ghost use Rattle.std.specs.Prelude.{◌≡◌, ◌++◌, ◌∷◌, ◌<◌, All, List, ℕ, IfOk, OnOk, codes, flat_map, length, map};
-ghost use Rattle.hm_tree.specs.Spelling.{spelled};
+ghost use Rattle.hm_spelling.specs.Spelling.{spelled};
 ghost use Rattle.hm_schema.specs.Values.{pair_value};
 ghost use Rattle.hm_terms.specs.Programs.{definition_value, program_value};
 ghost use Rattle.hm_term_text.specs.Written.{term_text};
@@ -10,9 +10,10 @@ ghost use Rattle.hm_focal.specs.Writing.{edges_text, option_text, format_text, d
 
 use hm_node_lines::append_nodes;
 use hm_schema::NodeId;
+use hm_spelling::append_spelled;
 use hm_term_text::append_term;
 use hm_terms::{Definition, Program};
-use hm_tree::{Memory, Name, append_spelled};
+use hm_tree::{Memory, Name};
 
 // Names of edges, each behind a comma.
 fn put_more_edges(text: &mut Vec<u8>, names: &[Name]) -> Result<(), Memory>

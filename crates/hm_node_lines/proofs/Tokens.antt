@@ -9,8 +9,8 @@ use Rattle.std.proofs.lemmas.Bool.{and_parts}
 use Rattle.std.proofs.lemmas.Bool.Decides.{nat_tests}
 use Rattle.std.proofs.lemmas.List.Sums.{prefix_len-le-length}
 use Rattle.hm_tree.specs.Names.{Name}
-use Rattle.hm_tree.specs.Spelling.{spelled, escaped}
-use Rattle.hm_tree.specs.SpellingLaws.{spelled-append, spelled_one}
+use Rattle.hm_spelling.specs.Spelling.{spelled, escaped}
+use Rattle.hm_spelling.specs.SpellingLaws.{spelled-append, spelled_one}
 use Rattle.hm_node_lines.specs.declared.token.Token.{Token}
 use Rattle.hm_node_lines.specs.declared.token.Token.TheVariants.{Word, Quoted, Question, Plus}
 use Rattle.hm_node_lines.specs.Tokens.{is_word_byte, is_word, begins_word, token_text, IsToken, EndsToken, Stops, IsFirstToken, AreSpaces, Spaced, alone, before}

@@ -1,7 +1,7 @@
 -- What the readers of a part of a line say.
 use Rattle.std.specs.Prelude.{◌≡◌, ◌≢◌, false, ℕ, ◌≤◌, List, [], ◌∷◌, ◌++◌, length, take, drop, Option, Some, None, IsUtf8}
 use Rattle.hm_tree.specs.Names.{Name}
-use Rattle.hm_tree.specs.Spelling.{spelled}
+use Rattle.hm_spelling.specs.Spelling.{spelled}
 use Rattle.hm_node_lines.specs.declared.token.Token.{Token}
 use Rattle.hm_node_lines.specs.declared.token.Token.TheVariants.{Word, Quoted, Question, Plus}
 use Rattle.hm_node_lines.specs.Tokens.{token_text, IsToken, Stops, begins_word}

@@ -8,7 +8,7 @@
 //! shape    = "  shape" *( gap edgename ) [ gap "?" *( gap edgename ) ] [ gap "+" gap number ".." [ number ] ]
 //! gap      = 1*" "
 //! word     = 1*( "A" to "Z" / "a" to "z" / "0" to "9" / "_" / "-" / "." / "*" )
-//! edgename = word / name                         name: as `hm_tree::append_spelled` spells it
+//! edgename = word / name                         name: as `hm_spelling::append_spelled` spells it
 //! class    = "any" / "clean" / "filled" / "trimmed" / "folded"
 //! number   = decimal, without leading zeros, below 2 to the power of 64
 //! ```

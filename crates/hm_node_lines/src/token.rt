@@ -5,7 +5,8 @@ ghost use Rattle.hm_node_lines.specs.declared.token.Token.TheVariants.{Word};
 ghost use Rattle.hm_node_lines.specs.Tokens.{is_word_byte, IsFirstToken, AreTokens};
 ghost use Rattle.hm_node_lines.specs.Reading.{IsFirstWord, IsFirstQuoted};
 
-use hm_tree::{Memory, Name, unspell_name};
+use hm_spelling::unspell_name;
+use hm_tree::{Memory, Name};
 use std::alloc::Global;
 use std::collections::VecDeque;
 

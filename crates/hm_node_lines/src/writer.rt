@@ -10,7 +10,8 @@ ghost use Rattle.hm_node_lines.specs.WrittenNodes.{name_at, edge_line, other_lin
 use crate::count::Count;
 use crate::node_line::is_word;
 use hm_schema::{Node, NodeId, Shape};
-use hm_tree::{Class, Memory, Name, append_spelled};
+use hm_spelling::append_spelled;
+use hm_tree::{Class, Memory, Name};
 
 fn put(text: &mut Vec<u8>, bytes: &[u8]) -> Result<(), Memory>
     ensures { OnOk result (text.new.items ≡ text.old.items ++ bytes.now) }

@@ -8,7 +8,7 @@ use Rattle.hm_tree.specs.Names.{Name}
 use Rattle.hm_schema.specs.Values.{Names}
 use Rattle.hm_node_lines.specs.declared.token.Token.{Token}
 use Rattle.hm_node_lines.specs.declared.token.Token.TheVariants.{Word, Quoted, Question, Plus}
-use Rattle.hm_tree.specs.Spelling.{spelled}
+use Rattle.hm_spelling.specs.Spelling.{spelled}
 use Rattle.hm_node_lines.specs.Tokens.{token_text, IsToken}
 use Rattle.hm_term_text.specs.Fronts.{unspaced, IsSign, IsEdge, AreNames, no_names, a_name, IsSet}
 use Rattle.hm_term_text.specs.FrontLaws.{sign_once, edge_once, edge_no_sign, brace_not_quote}

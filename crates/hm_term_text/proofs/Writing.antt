@@ -8,7 +8,7 @@ use Rattle.std.proofs.lemmas.List.{append-nil}
 use Rattle.std.specs.Prelude.{codes, flat_map}
 use Rattle.std.specs.declared.alloc.Global.{Global}
 use Rattle.hm_tree.specs.Names.{Name}
-use Rattle.hm_tree.specs.Spelling.{spelled}
+use Rattle.hm_spelling.specs.Spelling.{spelled}
 use Rattle.hm_terms.specs.Lenses.{Lenses, none, also}
 use Rattle.hm_terms.specs.declared.term.Term.{Term, Each}
 use Rattle.hm_terms.specs.Programs.{lens_of, lenses_of}

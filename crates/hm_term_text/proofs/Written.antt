@@ -4,7 +4,7 @@ use Rattle.std.specs.Prelude.{codes, IsUtf8}
 use Rattle.std.proofs.lemmas.List.{append-nil}
 use Rattle.hm_tree.specs.Names.{Name}
 use Rattle.hm_schema.specs.Values.{Names}
-use Rattle.hm_tree.specs.Spelling.{spelled}
+use Rattle.hm_spelling.specs.Spelling.{spelled}
 use Rattle.hm_node_lines.specs.declared.token.Token.TheVariants.{Word}
 use Rattle.hm_node_lines.specs.Tokens.{begins_word, IsToken}
 use Rattle.hm_terms.specs.Lenses.{Lens, Lenses, identity, sequence, constant, hoist, plunge, fork, each, among, items, copy, merge, on_concrete, on_view, text, call, none, also}

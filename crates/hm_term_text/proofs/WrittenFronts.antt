@@ -6,8 +6,8 @@ use Rattle.std.proofs.lemmas.Bool.{eqb-true}
 use Rattle.std.proofs.lemmas.List.Elements.{All-head, All-tail}
 use Rattle.hm_tree.specs.Names.{Name}
 use Rattle.hm_tree.specs.Nodes.{Shape, bare, mark, edge, Tree, depth, is_node}
-use Rattle.hm_tree.specs.Spelling.{spelled}
-use Rattle.hm_tree.specs.SpellingLaws.{spelled-append}
+use Rattle.hm_spelling.specs.Spelling.{spelled}
+use Rattle.hm_spelling.specs.SpellingLaws.{spelled-append}
 use Rattle.hm_tree.specs.Sets.{ascending}
 use Rattle.hm_tree.proofs.Ascending.{set_of-ascending}
 use Rattle.hm_schema.specs.Values.{Names}

@@ -4,8 +4,8 @@ use Rattle.std.specs.FinSet.{from_list}
 use Rattle.std.proofs.Common.{sym, ap, ◌∙◌, arith}
 use Rattle.hm_tree.specs.Names.{Name, name_cmp}
 use Rattle.hm_tree.specs.Nodes.{Tree}
-use Rattle.hm_tree.specs.Spelling.{escaped}
-use Rattle.hm_tree.specs.SpellingLaws.{spelled-append}
+use Rattle.hm_spelling.specs.Spelling.{escaped}
+use Rattle.hm_spelling.specs.SpellingLaws.{spelled-append}
 use Rattle.hm_schema.specs.Values.{Names}
 use Rattle.hm_node_lines.specs.declared.token.Token.{Token}
 use Rattle.hm_node_lines.specs.declared.token.Token.TheVariants.{Word, Quoted, Question, Plus}

@@ -2,7 +2,7 @@
 -- parentheses around a sequence that stands left of a semicolon.
 use Rattle.std.specs.Prelude.{ℕ, Bool, true, false, cond, List, [], ◌++◌, codes, flat_map}
 use Rattle.hm_tree.specs.Nodes.{Tree}
-use Rattle.hm_tree.specs.Spelling.{spelled}
+use Rattle.hm_spelling.specs.Spelling.{spelled}
 use Rattle.hm_tree.specs.Sets.{ascending}
 use Rattle.hm_schema.specs.Values.{Names}
 use Rattle.hm_tree_text.specs.Text.{whole, text as tree_text}

@@ -9,7 +9,7 @@
 //!          / "text(" word ")" / "call(" word ")" / "filter(" set "," tree ")" / "prune(" edge "," tree ")"
 //!          / "focus(" edge "," tree ")" / "add(" edge "," tree ")" / "rename(" edge "," edge ")" / "(" term ")"
 //! set      = "{" *edge "}"
-//! edge     = word / name                         name: as `hm_tree::append_spelled` spells it
+//! edge     = word / name                         name: as `hm_spelling::append_spelled` spells it
 //! word     = 1*( "A" to "Z" / "a" to "z" / "0" to "9" / "_" / "-" / "." / "*" )
 //! tree     = as `hm_tree_text` spells it; at most 1,000 edges lie one below another
 //! ```

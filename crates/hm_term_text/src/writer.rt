@@ -1,11 +1,12 @@
 //! Writing: each form of the grammar at the end of one text, without spaces.
 ghost use Rattle.std.specs.Prelude.{◌≡◌, ◌++◌, codes, flat_map, OnOk, OnErr};
-ghost use Rattle.hm_tree.specs.Spelling.{spelled};
+ghost use Rattle.hm_spelling.specs.Spelling.{spelled};
 ghost use Rattle.hm_terms.specs.Programs.{lens_of};
 ghost use Rattle.hm_term_text.specs.Written.{set_text, spelled_tree, is_sequence, opening, closing, front_text, term_text};
 
+use hm_spelling::append_spelled;
 use hm_terms::Term;
-use hm_tree::{Memory, Name, NameSet, Tree, append_spelled};
+use hm_tree::{Memory, Name, NameSet, Tree};
 use hm_tree_text::spell_tree;
 
 /// Appends the text of a term. Where there is no memory for it, nothing is appended.

@@ -15,13 +15,11 @@ pub mod DepthLaws
 pub mod Extent
 pub mod Kept
 pub mod Presence
-mod Spelled
 mod LineEnds
 pub mod Classed
 mod Compared
 mod Folded
 pub mod CleanText
-pub mod SpelledText
 pub mod NameSets
 mod SetEdits
 pub mod Ascending

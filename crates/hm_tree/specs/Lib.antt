@@ -10,8 +10,6 @@ pub mod Archives
 pub mod States
 pub mod PathOrder
 pub mod Edges
-pub mod Spelling
-pub mod SpellingLaws
 pub mod Cleaned
 pub mod LineEnds
 pub mod Classes

@@ -1,8 +1,6 @@
 //! Names, their classes and spellings, sets and paths, with expected values by hand.
-use hm_tree::{
-    Archive, Class, Memory, Name, NameSet, Path, State, Tree, append_path, spell_name, take_under,
-    unspell_name,
-};
+use hm_spelling::{append_path, spell_name, unspell_name};
+use hm_tree::{Archive, Class, Memory, Name, NameSet, Path, State, Tree, take_under};
 use std::alloc::Global;
 use std::collections::{BTreeMap, VecDeque};
 use std::mem::size_of;

@@ -9,7 +9,7 @@
 //! ```
 //!
 //! In an archive `place` is a tree or `!`, and what stands behind `:` is a full tree, whose edges are of this kind
-//! again, or `!`. A name is UTF-8 text between quotes, spelled as `hm_tree::append_spelled` does. The names under one
+//! again, or `!`. A name is UTF-8 text between quotes, spelled as `hm_spelling::append_spelled` does. The names under one
 //! node stand in ascending order of their bytes, each once. So each value has one text; one is read where at most
 //! 1,000 edges lie one below another.
 #![tactic(auto)]

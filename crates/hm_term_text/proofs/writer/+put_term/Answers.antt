@@ -1,5 +1,5 @@
 use Rattle.std.proofs.Common.{◌++◌, codes, refl, ap, ◌∙◌}
-use Rattle.hm_tree.specs.Spelling.{spelled}
+use Rattle.hm_spelling.specs.Spelling.{spelled}
 use Rattle.hm_terms.specs.Programs.{lens_of}
 use Rattle.hm_term_text.specs.Written.{front_text, term_text}
 use Rattle.hm_term_text.proofs.Writing.{pair_put, pairs_put, on_ok}

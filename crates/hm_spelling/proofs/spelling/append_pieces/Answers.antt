@@ -1,7 +1,7 @@
 use Rattle.std.proofs.Common.{◌∙◌, refl}
-use Rattle.hm_tree.specs.Spelling.{spelled}
-use Rattle.hm_tree.proofs.Spelled.{first_piece, next_piece, last_piece}
-use Rattle.hm_tree.proofs.spelling.append_pieces.Goals as goal
+use Rattle.hm_spelling.specs.Spelling.{spelled}
+use Rattle.hm_spelling.proofs.Spelled.{first_piece, next_piece, last_piece}
+use Rattle.hm_spelling.proofs.spelling.append_pieces.Goals as goal
 
 pub loop-byte-init : goal.loop-byte-init
 loop-byte-init c = c.in_ok-extend_from_slice.ensures.items ∙ rw c.in_ok-push.ensures.items (first_piece _ _ c.plain_len-plain.ensures.plain)

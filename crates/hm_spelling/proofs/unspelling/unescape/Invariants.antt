@@ -1,6 +1,6 @@
 use Rattle.std.proofs.Common.{◌≡◌, ◌≤◌, ◌-◌, length, take}
-use Rattle.hm_tree.specs.Spelling.{escaped}
-use Rattle.hm_tree.proofs.spelling.unescape.Given as goal
+use Rattle.hm_spelling.specs.Spelling.{escaped}
+use Rattle.hm_spelling.proofs.unspelling.unescape.Given as goal
 
 abbrev pub invariant-loop-at : goal.invariant-loop-at
 invariant-loop-at l = record { within : l.at ≤ length l.bytes; read : take l.at l.bytes ≡ escaped l.text.items }

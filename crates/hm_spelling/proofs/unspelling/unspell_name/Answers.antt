@@ -1,6 +1,6 @@
 use Rattle.std.proofs.Common.{◌≡◌, Option, ℕ, Some, None, ◌∙◌}
-use Rattle.hm_tree.proofs.Spelled.{front_is_quote}
-use Rattle.hm_tree.proofs.spelling.unspell_name.Goals as goal
+use Rattle.hm_spelling.proofs.Spelled.{front_is_quote}
+use Rattle.hm_spelling.proofs.unspelling.unspell_name.Goals as goal
 
 pub returns-in_default : goal.returns-in_default
 returns-in_default c = λ name rest text e.

@@ -1,6 +1,6 @@
 use Rattle.std.proofs.Common.{sym, ◌∙◌, arith}
-use Rattle.hm_tree.proofs.Spelled.{plain_more}
-use Rattle.hm_tree.proofs.spelling.plain_len.Goals as goal
+use Rattle.hm_spelling.proofs.Spelled.{plain_more}
+use Rattle.hm_spelling.proofs.plain.plain_len.Goals as goal
 
 pub loop-at-preserved : goal.loop-at-preserved
 loop-at-preserved c = record {

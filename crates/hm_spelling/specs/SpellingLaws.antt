@@ -6,7 +6,7 @@ use Rattle.std.proofs.Common.{sym, ap, ◌∙◌, inl, inr, arith, append_assoc}
 use Rattle.std.proofs.lemmas.Bool.{true≢false, or_cases, or_parts, cond-true, cond-false, not-true, eqb-true, ltb-true}
 use Rattle.std.proofs.lemmas.Str.{digit_value-digit_char}
 use Rattle.hm_tree.specs.Names.{Name}
-use Rattle.hm_tree.specs.Spelling.{is_quote_or_backslash, is_control, is_plain, spelled_byte, escaped, spelled}
+use Rattle.hm_spelling.specs.Spelling.{is_quote_or_backslash, is_control, is_plain, spelled_byte, escaped, spelled}
 
 -- what a byte is
 pub data Kind (b : ℕ) : Type 0 where

@@ -4,8 +4,8 @@ use Rattle.std.proofs.lemmas.List.{take_more, drop_more, take_all, take_rest, ta
 use Rattle.std.proofs.lemmas.List.Concat.{flat_map-append}
 use Rattle.std.proofs.Math.Seq.{take-add}
 use Rattle.hm_tree.specs.Names.{Name}
-use Rattle.hm_tree.specs.Spelling.{is_plain, spelled_byte, escaped, spelled}
-use Rattle.hm_tree.specs.SpellingLaws.{spelled_plain, spelled_some, escaped_rest, escaped_one, spelled-append}
+use Rattle.hm_spelling.specs.Spelling.{is_plain, spelled_byte, escaped, spelled}
+use Rattle.hm_spelling.specs.SpellingLaws.{spelled_plain, spelled_some, escaped_rest, escaped_one, spelled-append}
 
 escaped_push : (text : List ℕ) (b : ℕ) → escaped (text ++ b ∷ []) ≡ escaped text ++ spelled_byte b
 escaped_push text b = flat_map-append spelled_byte text (b ∷ []) ∙ ap (λ l. escaped text ++ l) (append-nil (spelled_byte b))

@@ -11,8 +11,8 @@ use Rattle.std.proofs.lemmas.List.Elements.{All-nil, All-cons}
 use Rattle.std.proofs.lemmas.Str.{IsUtf8-nil, IsUtf8-append, IsUtf8-from_ascii, encode_ascii}
 use Rattle.std.proofs.lemmas.Str.Ascii.{IsAscii-from_all}
 use Rattle.hm_tree.specs.Names.{Name}
-use Rattle.hm_tree.specs.Spelling.{is_plain, spelled_byte, escaped, spelled}
-use Rattle.hm_tree.specs.SpellingLaws.{Kind, plain, backslashed, control, kind, spelled_plain}
+use Rattle.hm_spelling.specs.Spelling.{is_plain, spelled_byte, escaped, spelled}
+use Rattle.hm_spelling.specs.SpellingLaws.{Kind, plain, backslashed, control, kind, spelled_plain}
 use Rattle.hm_tree.proofs.CleanText.{high_bytes}
 
 abbrev IsLow : ℕ → Type 0

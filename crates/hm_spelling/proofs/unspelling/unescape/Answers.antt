@@ -1,8 +1,8 @@
 use Rattle.std.proofs.Common.{sym, ap, ◌∙◌, ◌≡◌, [], drop}
 use Rattle.std.proofs.lemmas.List.{drop_all, take_rest}
-use Rattle.hm_tree.specs.Spelling.{escaped}
-use Rattle.hm_tree.proofs.Spelled.{read_more, read_none, no_quote_at, no_quote_past, no_byte_past}
-use Rattle.hm_tree.proofs.spelling.unescape.Goals as goal
+use Rattle.hm_spelling.specs.Spelling.{escaped}
+use Rattle.hm_spelling.proofs.Spelled.{read_more, read_none, no_quote_at, no_quote_past, no_byte_past}
+use Rattle.hm_spelling.proofs.unspelling.unescape.Goals as goal
 
 pub loop-at-preserved : goal.loop-at-preserved
 loop-at-preserved c =

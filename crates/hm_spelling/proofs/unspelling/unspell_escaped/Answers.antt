@@ -1,8 +1,8 @@
 use Rattle.std.proofs.Common.{sym, ap, ◌∙◌, subst, arith, IsUtf8}
 use Rattle.std.proofs.lemmas.Str.{IsUtf8-string_bytes}
-use Rattle.hm_tree.specs.Spelling.{spelled}
-use Rattle.hm_tree.proofs.Spelled.{behind_quote, with_quotes, same_text}
-use Rattle.hm_tree.proofs.spelling.unspell_escaped.Goals as goal
+use Rattle.hm_spelling.specs.Spelling.{spelled}
+use Rattle.hm_spelling.proofs.Spelled.{behind_quote, with_quotes, same_text}
+use Rattle.hm_spelling.proofs.unspelling.unspell_escaped.Goals as goal
 
 pub returns-in_default : goal.returns-in_default
 returns-in_default c = λ name rest text. behind_quote c.args.rest.now (rw c.in_default.is at c.in_ok-text.ensures) name rest

@@ -1,7 +1,7 @@
 use Rattle.std.proofs.Common.{◌≡◌, ◌+◌, ◌∷◌, take, sym, ap, ◌∙◌, subst, arith, IsUtf8}
-use Rattle.hm_tree.specs.Spelling.{spelled}
-use Rattle.hm_tree.proofs.Spelled.{with_quotes, same_text}
-use Rattle.hm_tree.proofs.spelling.unspell_plain.Goals as goal
+use Rattle.hm_spelling.specs.Spelling.{spelled}
+use Rattle.hm_spelling.proofs.Spelled.{with_quotes, same_text}
+use Rattle.hm_spelling.proofs.unspelling.unspell_plain.Goals as goal
 
 pub returns-in_ok-from_text-in-Ok : goal.returns-in_ok-from_text-in-Ok
 returns-in_ok-from_text-in-Ok c =
