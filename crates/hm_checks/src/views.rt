@@ -1,6 +1,6 @@
 //! The nodes of views, as they are numbered.
 use crate::setting::typed;
-use hm_node_lines::append_nodes;
+use hm_node_writer::append_nodes;
 use hm_text_lens::TextLens;
 use hm_tree::Name;
 use std::alloc::Global;

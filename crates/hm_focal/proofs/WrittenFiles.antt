@@ -19,9 +19,10 @@ use Rattle.hm_node_lines.specs.Entries.{EntryValue, unknown, says, texts_of}
 use Rattle.hm_node_lines.specs.BadLines.{Says, IsNode, begins_node, IsBadNodeLine, declares_empty}
 use Rattle.hm_node_lines.specs.FirstBad.{HasNoBad}
 use Rattle.hm_node_lines.specs.Nodes.{IsPlaceOf, declared, empty, NamesEmpty}
-use Rattle.hm_node_lines.specs.Writing.{line_text}
-use Rattle.hm_node_lines.specs.WrittenNodes.{name_at, nodes_lines, IsWritable, AreOfNodes}
-use Rattle.hm_node_lines.proofs.Laws.{at_place, from_place, names_empty_or, type_place, readable_nodes, rewritten_nodes, written_reads as written_nodes_read, written_sound, written_places, written_nodes, written_type_names}
+use Rattle.hm_node_writer.specs.Writing.{line_text}
+use Rattle.hm_node_writer.specs.WrittenNodes.{name_at, nodes_lines, IsWritable, AreOfNodes}
+use Rattle.hm_node_lines.proofs.Laws.{at_place, from_place, names_empty_or, type_place}
+use Rattle.hm_node_writer.proofs.Laws.{readable_nodes, rewritten_nodes, written_reads as written_nodes_read, written_sound, written_places, written_nodes, written_type_names}
 use Rattle.hm_focal.specs.OwnLines.{BodyValue, term, oversized, LensValue, OwnValue, nothing, header, format, lens, main, body_in, lens_in, lens_names, named_nodes, IsHeaded, equals, word, IsBody, IsLensLine}
 use Rattle.hm_focal.specs.Lines.{IsOwnBehind, AreLines}
 use Rattle.hm_focal.specs.BadLines.{HasBody, IsBadLine, unreadable, of_node, declared_twice, names_no_source, names_no_view, calls_no_lens, too_many_lenses, too_large, too_long}

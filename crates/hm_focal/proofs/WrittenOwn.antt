@@ -12,7 +12,7 @@ use Rattle.hm_node_lines.specs.declared.token.Token.{Token}
 use Rattle.hm_node_lines.specs.declared.token.Token.TheVariants.{Word, Quoted, Question, Plus}
 use Rattle.hm_node_lines.specs.Tokens.{is_word, begins_word, IsToken, one, alone, before}
 use Rattle.hm_node_lines.specs.NodeLines.{edge_name}
-use Rattle.hm_node_lines.specs.WrittenNodes.{name_at}
+use Rattle.hm_node_writer.specs.WrittenNodes.{name_at}
 use Rattle.hm_node_lines.proofs.Laws.{is_true, not_word, word_utf8}
 use Rattle.hm_focal.specs.Front.{IsFrontEdge, IsGap, IsWordBefore}
 use Rattle.hm_focal.specs.OwnLines.{term, AreEdges, last, more, AreOptions, no_option, an_option, IsFormat, IsHeader, IsHeaded, equals, word, IsTrimmed, IsLensLine, IsMainLine}

@@ -7,8 +7,8 @@ use Rattle.hm_terms.specs.Programs.{ProgramValue}
 use Rattle.hm_terms.specs.WellFormedPrograms.{IsLensOf}
 use Rattle.hm_term_text.specs.Limits.{IsOversized}
 use Rattle.hm_term_text.specs.Written.{term_text}
-use Rattle.hm_node_lines.specs.Writing.{line_text}
-use Rattle.hm_node_lines.specs.WrittenNodes.{name_at, nodes_lines}
+use Rattle.hm_node_writer.specs.Writing.{line_text}
+use Rattle.hm_node_writer.specs.WrittenNodes.{name_at, nodes_lines}
 
 -- ---- lines
 

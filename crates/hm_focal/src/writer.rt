@@ -4,11 +4,11 @@ ghost use Rattle.hm_spelling.specs.Spelling.{spelled};
 ghost use Rattle.hm_schema.specs.Values.{pair_value};
 ghost use Rattle.hm_terms.specs.Programs.{definition_value, program_value};
 ghost use Rattle.hm_term_text.specs.Written.{term_text};
-ghost use Rattle.hm_node_lines.specs.WrittenNodes.{name_at};
+ghost use Rattle.hm_node_writer.specs.WrittenNodes.{name_at};
 ghost use Rattle.hm_focal.specs.LensFiles.{IsLensFile};
 ghost use Rattle.hm_focal.specs.Writing.{edges_text, option_text, format_text, definition_text, ended, lens_text, HasSmallTexts};
 
-use hm_node_lines::append_nodes;
+use hm_node_writer::append_nodes;
 use hm_schema::NodeId;
 use hm_spelling::append_spelled;
 use hm_term_text::append_term;

@@ -18,17 +18,4 @@ mod Doubles
 mod Named
 mod Building
 mod NodesOf
-mod Written
-mod WrittenText
-mod WrittenCuts
-mod DeclaredNames
-mod Lists
-mod SortedEntries
-mod WrittenShapes
-mod WrittenLines
-mod WrittenSound
-mod Described
 mod TypeNames
-mod Readable
-mod WrittenReads
-mod Rewritten

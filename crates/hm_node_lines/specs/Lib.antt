@@ -11,5 +11,3 @@ pub mod Counting
 pub mod Nodes
 pub mod Building
 pub mod Judging
-pub mod Writing
-pub mod WrittenNodes

@@ -17,8 +17,7 @@
 //! as an entry; one that is neither skipped nor of this grammar is unknown here, and the file has to know it. A file
 //! walks through its entries with the counts of what stands before (`Before`) and of what the node holds (`Section`),
 //! by which a line is judged in constant time for each of its tokens. Where none is bad, the entries describe nodes, in
-//! the order of their lines, and the node `Empty` behind them where a line of the file names it. `append_nodes` writes
-//! nodes as such lines, which describe the same nodes.
+//! the order of their lines, and the node `Empty` behind them where a line of the file names it.
 #![tactic(auto)]
 
 mod before;
@@ -30,7 +29,6 @@ mod judge;
 mod node_line;
 mod section;
 mod token;
-mod writer;
 
 pub use before::{Before, is_counted};
 pub use build::{build_nodes, is_empty_named, node_of};
@@ -41,4 +39,3 @@ pub use judge::{Line, declared_nodes, has_double, is_bad_line, is_node};
 pub use node_line::{NodeLine, ShapeLine, is_word, read_node_line};
 pub use section::{Section, read_section, section_at};
 pub use token::{Token, behind, first_quoted, first_word, gap_length, lone_word, read_tokens};
-pub use writer::append_nodes;

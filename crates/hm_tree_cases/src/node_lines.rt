@@ -1,8 +1,8 @@
 //! Lines, and what each is read as.
 use hm_node_lines::{
-    Count, Entry, NodeLine, append_nodes, declared_nodes, read_entries, read_node_line,
-    read_section, read_tokens,
+    Count, Entry, NodeLine, declared_nodes, read_entries, read_node_line, read_section, read_tokens,
 };
+use hm_node_writer::append_nodes;
 use hm_schema::{Node, NodeId, Shape};
 use hm_tree::{Class, Memory, Name, NameSet};
 use std::alloc::Global;

@@ -1,0 +1,14 @@
+pub mod Laws
+mod Lists
+mod Written
+mod WrittenText
+mod WrittenCuts
+mod DeclaredNames
+mod SortedEntries
+mod WrittenShapes
+mod WrittenLines
+mod WrittenSound
+mod Described
+mod Readable
+mod WrittenReads
+mod Rewritten
