@@ -1,4 +1,4 @@
-mod Places
+pub mod Places
 mod Left
 mod Outlines
 mod TidiedSteps
@@ -10,25 +10,12 @@ mod Added
 mod SameNodes
 pub mod Keys
 pub mod Grown
-mod Sets
-mod Beside
-mod Overlaid
+pub mod Sets
+pub mod BesideNames
 mod Rows
 mod ListedPlaces
 mod Replaced
 pub mod Forms
-mod OneName
-mod TwoAdded
-mod PartedNodes
-mod CopiedNode
-mod JoinedNode
-mod HiddenNode
-mod ListRead
-mod ListAdded
-mod MergedShapes
-mod MergedNode
-mod TreeNode
 mod MemberNode
 pub mod Shifted
-mod ValueNode
 mod EqualNodes

@@ -10,7 +10,7 @@ use Rattle.hm_table.specs.declared.kind.Kind.{Kind}
 use Rattle.hm_table.specs.declared.vertex.Vertex.{Vertex}
 use Rattle.hm_table.specs.Tables.{seat}
 use Rattle.hm_table.proofs.Places.{there}
-use Rattle.hm_table.proofs.Beside.{zip_at, listed_beside}
+use Rattle.hm_table.proofs.BesideNames.{zip_at, listed_beside}
 
 module _ (k : Kind) (v : Vertex) (count : length v.next.items ≡ length k.names.items) (n : NodeValue) (is : seat k v ≡ n) (name : Name) where
   pub place_listed : (o : Option ℕ) → MatchOption o (list_any (eq_by_cmp name_cmp name) k.names.items ≡ false) (λ i. slice_get k.names.items i ≡ Some name)

@@ -6,8 +6,7 @@ ghost use Rattle.hm_schema.specs.declared.node.NodeId.{NodeId as IdValue};
 ghost use Rattle.hm_schema.specs.Values.{NodeValue, is_listed};
 ghost use Rattle.hm_schema.specs.Tidied.{stands, lets_some_in as lets_in_some};
 
-use crate::names::place;
-use crate::overlays::beside;
+use crate::names::{beside, place};
 use crate::table::Table;
 use hm_schema::NodeId;
 use hm_tree::{Class, Memory, Name};

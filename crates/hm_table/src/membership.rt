@@ -8,7 +8,7 @@ ghost use Rattle.hm_table.specs.Tables.{seat};
 
 use crate::kind::Kind;
 use crate::looks::{child, other};
-use crate::overlays::beside;
+use crate::names::beside;
 use crate::table::Table;
 use crate::vertex::Vertex;
 use hm_schema::{Listing, NodeId, Shape, have_twins, permits};

@@ -1,11 +1,13 @@
-//! Names that rise.
-ghost use Rattle.std.specs.Prelude.{◌≡◌, ◌↔◌, IsTrue, IfOk, MatchOption, Some, false, slice_get};
-ghost use Rattle.std.specs.List.{list_any};
+//! Names that rise, and the nodes beside them.
+ghost use Rattle.std.specs.Prelude.{◌≡◌, ◌↔◌, IsTrue, IfOk, MatchOption, Some, false, length, slice_get};
+ghost use Rattle.std.specs.List.{list_any, zip};
 ghost use Rattle.std.specs.List.Sorted.{IsStrictlySortedBy};
 ghost use Rattle.std.specs.Ordering.{eq_by_cmp};
+ghost use Rattle.std.specs.FinMap.{find};
 ghost use Rattle.std.specs.FinSet.{contains};
 ghost use Rattle.hm_tree.specs.Names.{Name as NameValue, name_cmp};
 
+use hm_schema::NodeId;
 use hm_tree::{Memory, Name, NameSet};
 use std::alloc::Global;
 
@@ -28,6 +30,18 @@ pub fn is_in(names: &[Name], name: &Name) -> bool
     match place(names, name) {
         Some(_) => true,
         None => false,
+    }
+}
+
+/// The node beside a name, among names that rise with a node beside each.
+pub fn beside(names: &[Name], next: &[NodeId], name: &Name) -> Option<NodeId>
+    requires rises { IsStrictlySortedBy name_cmp names.now }
+    requires count { length next.now ≡ length names.now }
+    ensures { result ≡ find name_cmp name.now (zip names.now next.now) }
+{
+    match place(names, name) {
+        Some(place) => Some(next[place]),
+        None => None,
     }
 }
 

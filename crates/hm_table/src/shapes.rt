@@ -6,7 +6,7 @@ ghost use Rattle.hm_tree.specs.Names.{Name as NameValue};
 ghost use Rattle.hm_schema.specs.Tidied.{has_name, lets_in as lets_name_in};
 ghost use Rattle.hm_node_laws.specs.Shapes.{IsShut};
 ghost use Rattle.hm_node_laws.specs.Plain.{exact_shape};
-ghost use Rattle.hm_table.specs.Conditions.{HasAll};
+ghost use Rattle.hm_table.specs.Shapes.{HasAll};
 
 use crate::names::all_in;
 use hm_schema::Shape;

@@ -8,7 +8,7 @@ use Rattle.hm_typing.specs.Typing.{Types, Goes, goes_list, goes_items, list_form
 use Rattle.hm_typing.specs.Faults.{At, at, Faults, fault_items, fault_list_item, fault_some_item}
 use Rattle.hm_typing.proofs.ListForms.{list_first_sound, items_first_sound}
 use Rattle.hm_table.specs.Tables.{Nodes}
-use Rattle.hm_table.specs.Lists.{IsListOf, IsNoList}
+use Rattle.hm_view_nodes.specs.Lists.{IsListOf, IsNoList}
 use Rattle.hm_types.specs.declared.course.Course.{Course}
 use Rattle.hm_types.specs.declared.memo.Memo.{Memo}
 use Rattle.hm_types.specs.Numbers.{parts_of}

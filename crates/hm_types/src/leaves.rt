@@ -10,8 +10,9 @@ use crate::fault::TypeFault;
 use crate::texts::classes_named;
 use crate::unmet::unmet;
 use hm_schema::NodeId;
-use hm_table::{Table, copied, exactly, hidden, hoisted, member, plunged, same, valued};
+use hm_table::{Table, member, same};
 use hm_tree::{Memory, Name, Tree, place_of};
+use hm_view_nodes::{copied, exactly, hidden, hoisted, plunged, valued};
 
 /// The nodes that have exactly a tree, where the default is a member of the source.
 pub fn constant(

@@ -20,11 +20,11 @@ use crate::over::over;
 use crate::unmet::unmet;
 use hm_schema::NodeId;
 use hm_table::{
-    Table, branched, count, equal, is_plain, items_of, joined, lets_some_in, list_of, listed,
-    lists, merged, other, parted, place_of, same, targets,
+    Table, count, equal, is_plain, lets_some_in, listed, lists, other, place_of, same, targets,
 };
 use hm_terms::Term;
 use hm_tree::{Class, Name, NameSet};
+use hm_view_nodes::{branched, items_of, joined, list_of, merged, parted};
 
 /// The two lenses inside one.
 #[derive(Drop)]

@@ -5,7 +5,7 @@ use Rattle.hm_graph.specs.declared.sameness.Vertex.{Vertex}
 use Rattle.hm_schema.specs.declared.node.NodeId.{NodeId}
 use Rattle.hm_table.specs.Tables.{seat}
 use Rattle.hm_table.specs.Classes.{AreVertices, ends_left}
-use Rattle.hm_table.proofs.Beside.{zip_size}
+use Rattle.hm_table.proofs.BesideNames.{zip_size}
 use Rattle.hm_table.proofs.NodeGraphs.{vertices_more}
 use Rattle.hm_table.proofs.graph.graph_of.Goals as goal
 

@@ -2,7 +2,7 @@ use Rattle.std.proofs.Common.{rules, ◌≡◌, length, sym, ap, ◌∙◌}
 use Rattle.std.proofs.lemmas.Option.{same_Some}
 use Rattle.hm_schema.specs.Values.{NodeValue}
 use Rattle.hm_table.specs.Tables.{seat}
-use Rattle.hm_table.proofs.Beside.{zip_size}
+use Rattle.hm_table.proofs.BesideNames.{zip_size}
 use Rattle.hm_table.proofs.looks.count.Goals as goal
 
 pub returns : goal.returns

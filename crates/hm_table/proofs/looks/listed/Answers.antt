@@ -7,7 +7,7 @@ use Rattle.hm_schema.specs.declared.node.NodeId.{NodeId}
 use Rattle.hm_schema.specs.Values.{NodeValue}
 use Rattle.hm_schema.specs.Tidied.{stands}
 use Rattle.hm_table.specs.Tables.{seat}
-use Rattle.hm_table.proofs.Beside.{zip_size, zip_at}
+use Rattle.hm_table.proofs.BesideNames.{zip_size, zip_at}
 use Rattle.hm_table.proofs.Places.{there}
 use Rattle.hm_table.proofs.looks.listed.Goals as goal
 

@@ -1,6 +1,6 @@
 use Rattle.std.proofs.Common.{rules, refl}
 use Rattle.hm_schema.proofs.Lists.{all_next, all_done}
-use Rattle.hm_table.specs.Conditions.{HasAll}
+use Rattle.hm_table.specs.Shapes.{HasAll}
 use Rattle.hm_table.proofs.shapes.all_have.Goals as goal
 
 pub loop-shape-preserved : goal.loop-shape-preserved

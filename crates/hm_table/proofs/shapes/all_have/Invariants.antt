@@ -1,5 +1,5 @@
 use Rattle.std.proofs.Common.{All, take}
-use Rattle.hm_table.specs.Conditions.{HasAll}
+use Rattle.hm_table.specs.Shapes.{HasAll}
 use Rattle.hm_table.proofs.shapes.all_have.Given as goal
 
 abbrev pub invariant-loop-shape : goal.invariant-loop-shape

@@ -1,0 +1,13 @@
+mod Overlaid
+mod OneName
+mod TwoAdded
+mod PartedNodes
+mod CopiedNode
+mod JoinedNode
+mod HiddenNode
+mod ListRead
+mod ListAdded
+mod MergedShapes
+mod MergedNode
+mod TreeNode
+mod ValueNode
