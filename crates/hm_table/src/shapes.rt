@@ -1,8 +1,7 @@
 //! What is told of shapes.
-ghost use Rattle.std.specs.Prelude.{◌≡◌, ◌↔◌, ◌||◌, ◌&&◌, not, IsTrue, All, [], ◌∷◌, Some};
-ghost use Rattle.std.specs.List.{list_any, list_all};
-ghost use Rattle.std.specs.FinSet.{contains, from_list};
-ghost use Rattle.hm_tree.specs.Names.{Name as NameValue};
+ghost use Rattle.std.specs.Prelude.{◌≡◌, ◌↔◌, ◌∷◌, [], IsTrue, All};
+ghost use Rattle.std.specs.List.{list_any};
+ghost use Rattle.std.specs.FinSet.{from_list};
 ghost use Rattle.hm_schema.specs.Tidied.{has_name, lets_in as lets_name_in};
 ghost use Rattle.hm_node_laws.specs.Shapes.{IsShut};
 ghost use Rattle.hm_node_laws.specs.Plain.{exact_shape};

@@ -1,6 +1,5 @@
 //! What a table keeps beside its nodes.
 ghost use Rattle.std.specs.Prelude.{◌≡◌, ◌<◌, ◌++◌, ◌∷◌, [], true, Some, None, length, slice_get, vec_len, vec_capacity, IfOk, IfSome, OnOk, All};
-ghost use Rattle.hm_reduced.specs.Reduced.{IsReduced};
 ghost use Rattle.hm_schema.specs.Numbering.{IsNumbering};
 ghost use Rattle.hm_schema.specs.Labels.{label_cmp};
 ghost use Rattle.hm_table.specs.Tables.{AreFormed};

@@ -1,5 +1,5 @@
 //! The view of a lens that hoists the child of a name.
-ghost use Rattle.std.specs.Prelude.{◌≡◌, ◌<◌, ℕ, MatchOption, IfSome, length};
+ghost use Rattle.std.specs.Prelude.{◌<◌, ℕ, MatchOption, IfSome, length};
 ghost use Rattle.hm_terms.specs.Lenses.{hoist};
 ghost use Rattle.hm_typing.specs.Forms.{form};
 ghost use Rattle.hm_typing.specs.Typing.{Types, Goes};

@@ -1,7 +1,6 @@
 //! The view of a fork.
 ghost use Rattle.std.specs.Prelude.{◌≡◌, ◌↔◌, ◌<◌, ◌≤◌, ◌*◌, ◌++◌, IsTrue, IfOk, OnOk, IfSome, MatchOption, All, Some, length, map};
 ghost use Rattle.std.specs.List.Sorted.{IsStrictlySortedBy};
-ghost use Rattle.std.specs.FinSet.{contains};
 ghost use Rattle.hm_tree.specs.Names.{name_cmp};
 ghost use Rattle.hm_schema.specs.Values.{NodeOver};
 ghost use Rattle.hm_node_laws.specs.Shapes.{RequiresTwins};
