@@ -46,7 +46,8 @@ pub fn put_changes(
 
 // What a lens puts, by so many levels of recursion at most, given what it showed of the tree from before. It goes into
 // items and children, each with what stood there before and what was shown of that. Both loops stand here, since functions
-// that call one another may not be lent text lenses of unknown types.
+// that call one another may not be lent text lenses of unknown types. Most lists have one item, which is compared as the
+// list, without taking either apart.
 fn put_changed(
     levels: u64,
     run: &Run,
@@ -68,7 +69,7 @@ fn put_changed(
             let inner = body(run.definitions, run.bodies, name);
             put_changed(levels - 1, run, inner, shown, before, old)
         }
-        Term::List(inner) => {
+        Term::List(inner) if is_taken_apart(term, &shown) => {
             let mut made = Vec::new(shown.allocator());
             let mut rest = before;
             let mut views = old;
@@ -123,6 +124,30 @@ fn put_whole(
         unreachable!();
     };
     Ok(tree)
+}
+
+// Whether a lens on items is followed into those of a view. Any answer would do: what is put is the same.
+fn is_taken_apart(lens: &Term, view: &Tree) -> bool {
+    match lens {
+        Term::List(inner) => has_parts(inner) || !is_single(view),
+        _ => true,
+    }
+}
+
+// Whether a lens is followed into parts of a view. Here, too, any answer would do.
+fn has_parts(lens: &Term) -> bool {
+    matches!(
+        lens,
+        Term::Call(_) | Term::List(_) | Term::Map(_) | Term::Each(_)
+    )
+}
+
+// Whether a list has one item at the most. Here, too, any answer would do.
+fn is_single(list: &Tree) -> bool {
+    match list.edges() {
+        [_, (_, rest)] => rest.count() == 0,
+        _ => true,
+    }
 }
 
 // Whether a view is the one from before.
