@@ -1,11 +1,12 @@
 -- A replica that is opened and closed, by the laws of its format and of its lens.
-use Rattle.std.proofs.Common.{◌≡◌, ℕ, List, Some, None, Result, Ok, Err, refl, sym, subst, ◌∙◌}
-use Rattle.std.specs.Prelude.{Vec}
+use Rattle.std.proofs.Common.{◌≡◌, ℕ, List, Option, Some, None, Result, Ok, Err, refl, sym, subst, ◌∙◌}
+use Rattle.std.specs.Prelude.{Vec, IfSome, MatchOption}
 use Rattle.std.specs.declared.alloc.Global.{Global}
 use Rattle.hm_tree.specs.Nodes.{Tree}
 use Rattle.hm_text_lens.specs.Meanings.{TextMeaning}
 use Rattle.hm_terms.specs.Lenses.{Lens, identity}
 use Rattle.hm_terms.specs.Shown.{Shows, by_identity}
+use Rattle.hm_terms.specs.Put.{Puts, put_identity}
 use Rattle.hm_eval.specs.Conditions as may
 use Rattle.hm_types.specs.Checks.{Trees}
 use Rattle.hm_format.specs.declared.fault.FormatFault.{FormatFault}
@@ -108,3 +109,35 @@ module _ (m : FormatMeaning) (texts : List TextMeaning) (t : TypedValue) (laws :
         closed r.concrete r.bytes (subst (λ v. IsPut texts t r v r.concrete) (sym same) put_again)
         (laws.within (options_in t) t.source r.bytes r.concrete typed.schema replica.read)
         (laws.get_put (options_in t) r.bytes r.concrete typed.sound replica.read)
+
+    pub stays_behind : (bytes : List ℕ) → bytes ≡ r.bytes → shown ≡ r.view → IsClosed m texts t r shown bytes
+    stays_behind bytes is same = subst (λ b. IsClosed m texts t r shown b) (sym is) (stays same)
+
+    -- ---- over a base
+
+    abbrev pub IsKeptOf : Tree × Tree → Type 0
+    IsKeptOf k = (k.0 ≡ r.concrete) × (k.1 ≡ r.view)
+
+    pub may_put_over : (kept : Option (Tree × Tree)) → MatchOption kept (main_in t ≡ identity) IsKeptOf
+        → IfSome kept (λ k. may.IsPut (setting_in texts t) (main_in t) shown (Some k.0))
+    may_put_over None base = tt
+    may_put_over (Some k) base = subst (λ (c : Tree). may.IsPut (setting_in texts t) (main_in t) shown (Some c)) (sym base.0) may_put
+
+    pub put_again_over : (kept : Option (Tree × Tree)) → MatchOption kept (main_in t ≡ identity) IsKeptOf
+        → IfSome kept (λ k. Puts (setting_in texts t) (main_in t) k.1 (Some k.0) k.0)
+    put_again_over None base = tt
+    put_again_over (Some k) base =
+        subst (λ (c : Tree). Puts (setting_in texts t) (main_in t) k.1 (Some c) c) (sym base.0)
+        (subst (λ (v : Tree). Puts (setting_in texts t) (main_in t) v (Some r.concrete) r.concrete) (sym base.1) put_again)
+
+    pub put_over : (kept : Option (Tree × Tree)) (tree : Tree) → MatchOption kept (main_in t ≡ identity) IsKeptOf
+        → MatchOption kept (tree ≡ shown) (λ k. Puts (setting_in texts t) (main_in t) shown (Some k.0) tree) → IsPut texts t r shown tree
+    put_over None tree alike is =
+        subst (λ (l : Lens). Puts (setting_in texts t) l shown (Some r.concrete) tree) (sym alike)
+        (subst (λ (x : Tree). Puts (setting_in texts t) identity shown (Some r.concrete) x) (sym is) put_identity)
+    put_over (Some k) tree base put = subst (λ (c : Tree). Puts (setting_in texts t) (main_in t) shown (Some c) tree) base.0 put
+
+    pub kept_alike : (kept : Option (Tree × Tree)) → MatchOption kept (main_in t ≡ identity) IsKeptOf
+        → MatchOption kept ⊥ (λ k. shown ≡ k.1) → shown ≡ r.view
+    kept_alike None base never = absurd never
+    kept_alike (Some k) base same = same ∙ base.1

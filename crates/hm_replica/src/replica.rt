@@ -1,14 +1,14 @@
 //! Replicas.
-ghost use Rattle.std.specs.Prelude.{◌≡◌, ◌↔◌, IsTrue, IfOk, Some, map};
+ghost use Rattle.std.specs.Prelude.{◌≡◌, ◌↔◌, IsTrue, IfOk, map};
 ghost use Rattle.hm_terms.specs.Lenses.{identity};
 ghost use Rattle.hm_terms.specs.Programs.{lens_of};
-ghost use Rattle.hm_terms.specs.Put.{Puts, before_or};
-ghost use Rattle.hm_eval.specs.Conditions.{IsPut};
+ghost use Rattle.hm_terms.specs.Put.{before_or};
 ghost use Rattle.hm_types.specs.Checks.{Trees};
-ghost use Rattle.hm_replica.specs.Replicas.{main_in, setting_in, replica_value, typed_value, IsTyped, IsReplica, Opens, Closes};
+ghost use Rattle.hm_replica.specs.Replicas.{main_in, replica_value, typed_value, IsTyped, IsReplica, Opens, Closes};
 
-use crate::boxed::{laws, read, write};
-use hm_eval::{get, put_changes, put_owned};
+use crate::base::Base;
+use crate::boxed::{laws, read};
+use hm_eval::get;
 use hm_format::{Format, FormatFault};
 use hm_terms::Term;
 use hm_text_lens::TextLens;
@@ -26,6 +26,8 @@ pub struct Replica {
 }
 
 impl Replica {
+    ghost use Rattle.hm_replica.specs.Bases.{IsBase};
+
     /// The replica of a file. It is refused where the format refuses to read it.
     pub fn from_bytes(
         alloc: Global,
@@ -54,6 +56,49 @@ impl Replica {
         })
     }
 
+    /// What a new view is put over. The view of the replica is let go where that needs none.
+    pub fn into_base(self, typed: &Typed) -> Result<Base, Memory>
+        ensures { IfOk result (IsBase (main_in (typed_value typed.now)) (replica_value self)) }
+    {
+        let Replica {
+            bytes,
+            concrete,
+            view,
+        } = self;
+        if is_identity(&typed.program.main) {
+            return Ok(Base { bytes, kept: None });
+        }
+        let concrete = tree_or_copy(concrete, &view)?;
+        Ok(Base {
+            bytes,
+            kept: Some((concrete, view)),
+        })
+    }
+
+    /// The view, and what a new one is put over. The view is copied where that needs it.
+    pub fn parted(self, typed: &Typed) -> Result<(Tree, Base), Memory>
+        ensures view { IfOk result (λ parts. parts.0 ≡ self.view) }
+        ensures base { IfOk result (λ parts. IsBase (main_in (typed_value typed.now)) (replica_value self) parts.1) }
+    {
+        let Replica {
+            bytes,
+            concrete,
+            view,
+        } = self;
+        if is_identity(&typed.program.main) {
+            return Ok((view, Base { bytes, kept: None }));
+        }
+        let concrete = tree_or_copy(concrete, &view)?;
+        let copy = view.copy()?;
+        Ok((
+            view,
+            Base {
+                bytes,
+                kept: Some((concrete, copy)),
+            },
+        ))
+    }
+
     /// The bytes of a view, behind those of the replica, which are handed on where the view is that of the replica.
     /// `TooDeep` where the tree that the program puts is over the limit of the format.
     pub fn close(
@@ -70,34 +115,22 @@ impl Replica {
         ensures { Closes (means format.now) (map (λ b. meaning b) texts.now) (typed_value typed.now) (replica_value self) shown result }
     {
         laws(format);
-        let Replica {
-            bytes,
-            concrete,
-            view,
-        } = self;
-        if shown.same(&view) {
-            return Ok(bytes);
+        // A base that keeps a view is compared with when it is closed.
+        if is_identity(&typed.program.main) && shown.same(&self.view) {
+            return Ok(self.bytes);
         }
-        let tree = put_back(typed, texts, shown, concrete, view)?;
-        write(format, alloc, &typed.program.options, &tree, &bytes)
+        self.into_base(typed)?
+            .close(alloc, format, typed, texts, shown)
     }
 }
 
-// The tree that is put of a view over the tree from before and what was shown of it; where the first isn't there, this is both.
-fn put_back(
-    typed: &Typed,
-    texts: &[Box<dyn TextLens>],
-    shown: Tree,
-    concrete: Option<Tree>,
-    view: Tree,
-) -> Result<Tree, Memory>
-    requires put { IsPut (setting_in (map (λ b. meaning b) texts.now) (typed_value typed.now)) (main_in (typed_value typed.now)) shown (Some (before_or view concrete)) }
-    requires back { Puts (setting_in (map (λ b. meaning b) texts.now) (typed_value typed.now)) (main_in (typed_value typed.now)) view (Some (before_or view concrete)) (before_or view concrete) }
-    ensures { IfOk result (Puts (setting_in (map (λ b. meaning b) texts.now) (typed_value typed.now)) (main_in (typed_value typed.now)) shown (Some (before_or view concrete))) }
+// The tree of a replica, which is its view where it isn't there by itself.
+fn tree_or_copy(concrete: Option<Tree>, view: &Tree) -> Result<Tree, Memory>
+    ensures { IfOk result (λ tree. tree ≡ before_or view.now concrete) }
 {
     match concrete {
-        Some(concrete) => put_changes(&typed.program, texts, shown, concrete, view),
-        None => put_owned(&typed.program, texts, shown, Some(view)),
+        Some(tree) => Ok(tree),
+        None => view.copy(),
     }
 }
 
