@@ -90,6 +90,10 @@ module _ {B : Type 0} (means_of : B → FormatMeaning) (formats : List B) (texts
   there : slice_get formats side.place ≡ Some x
   there = slice_get_read formats (length formats) side.place x refl within is
 
+  -- what holds of the format of a side holds of that at its place
+  pub of_side : {P : FormatMeaning → Type 0} → HasFormat means_of formats side.place P → P (means_of x)
+  of_side {P} h = subst (λ b. P (means_of b)) (same_Some h.box x (sym h.is ∙ there)) h.holds
+
   pub opens_on : (at : Slot) (bytes : List ℕ) (r : Result ReplicaValue Stop) → Computes (OpensReplica (means_of x) texts side.typed at bytes) r
       → Computes (OpensOn means_of formats texts side at bytes) r
   opens_on at bytes r h =

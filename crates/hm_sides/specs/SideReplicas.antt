@@ -4,7 +4,9 @@ use Rattle.hm_tree.specs.Nodes.{Tree}
 use Rattle.hm_text_lens.specs.Meanings.{TextMeaning}
 use Rattle.hm_format.specs.declared.fault.FormatFault.{FormatFault}
 use Rattle.hm_format.specs.Formats.{FormatMeaning}
-use Rattle.hm_replica.specs.Replicas.{ReplicaValue, TypedValue, options_in, IsReplica, IsClosed, IsTooDeep}
+use Rattle.hm_replica.specs.declared.base.Base.{Base}
+use Rattle.hm_replica.specs.Bases.{IsBase}
+use Rattle.hm_replica.specs.Replicas.{ReplicaValue, TypedValue, options_in, main_in, IsReplica, IsClosed, IsTooDeep}
 use Rattle.hm_files.specs.declared.slot.Slot.{Slot}
 use Rattle.hm_files.specs.declared.stop.FileFault.TheVariants.{Unwritable}
 use Rattle.hm_files.specs.declared.stop.Refusal.{Refusal}
@@ -37,3 +39,8 @@ ClosesOn means_of formats texts side r shown at found =
 -- a replica on a side
 abbrev pub IsReplicaOn : {B : Type 0} → (B → FormatMeaning) → List B → List TextMeaning → SideValue → ReplicaValue → Type 0
 IsReplicaOn means_of formats texts side r = HasFormat means_of formats side.place (λ m. IsReplica m texts side.typed r)
+
+-- a replica on a side, and what a new view of it is put over
+pub record IsBaseOn {B : Type 0} (means_of : B → FormatMeaning) (formats : List B) (texts : List TextMeaning) (side : SideValue) (r : ReplicaValue) (b : Base) : Type 0 where
+  pub base : IsBase (main_in side.typed) r b
+  pub on_side : IsReplicaOn means_of formats texts side r

@@ -16,6 +16,6 @@ mod stops;
 mod views;
 
 pub use opening::open_side;
-pub use replicas::{close_replica, open_replica};
+pub use replicas::{close_base, close_replica, open_replica};
 pub use side::Side;
 pub use views::check_view;

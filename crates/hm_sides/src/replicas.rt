@@ -1,17 +1,18 @@
 //! The replicas of sides.
 ghost use Rattle.std.specs.Prelude.{IfOk, map};
 ghost use Rattle.hm_types.specs.Checks.{Trees};
-ghost use Rattle.hm_replica.specs.Replicas.{typed_value, replica_value, IsTyped, IsReplica};
+ghost use Rattle.hm_replica.specs.Bases.{IsBase};
+ghost use Rattle.hm_replica.specs.Replicas.{ReplicaValue, main_in, typed_value, replica_value, IsTyped, IsReplica};
 ghost use Rattle.hm_files.specs.Steps.{Computes};
 ghost use Rattle.hm_files.specs.Files.{bytes_of};
 ghost use Rattle.hm_sides.specs.Sides.{seen, side_value, IsSide};
-ghost use Rattle.hm_sides.specs.SideReplicas.{OpensReplica, OpensOn, ClosesReplica, ClosesOn, IsReplicaOn};
+ghost use Rattle.hm_sides.specs.SideReplicas.{OpensReplica, OpensOn, ClosesReplica, ClosesOn, IsReplicaOn, IsBaseOn};
 
 use crate::side::Side;
 use crate::stops::{format_stop, write_stop};
 use hm_files::{Slot, Stop};
 use hm_format::Format;
-use hm_replica::Replica;
+use hm_replica::{Base, Replica};
 use hm_text_lens::TextLens;
 use hm_tree::Tree;
 use hm_types::Typed;
@@ -96,6 +97,53 @@ fn close_by(
     ensures { Computes (ClosesReplica (means format.now) (map (λ b. meaning b) texts.now) (typed_value typed.now) (replica_value replica) view slot) (seen bytes_of result) }
 {
     match replica.close(alloc, format, typed, texts, view) {
+        Ok(bytes) => Ok(bytes),
+        Err(fault) => Err(write_stop(slot, fault)),
+    }
+}
+
+/// The same of a replica whose view was taken, by what a new one is put over.
+pub fn close_base(
+    alloc: Global,
+    slot: Slot,
+    formats: &[Box<dyn Format>],
+    texts: &[Box<dyn TextLens>],
+    side: &Side,
+    base: Base,
+    view: Tree,
+) -> Result<Vec<u8>, Stop>
+    requires side { IsSide (λ b. means b) formats.now (map (λ b. meaning b) texts.now) (side_value side.now) }
+    requires replica { (r : ReplicaValue) × IsBaseOn (λ b. means b) formats.now (map (λ b. meaning b) texts.now) (side_value side.now) r base }
+    requires member { Trees side.now.typed.view view }
+    ensures { (r : ReplicaValue) → IsBaseOn (λ b. means b) formats.now (map (λ b. meaning b) texts.now) (side_value side.now) r base → Computes (ClosesOn (λ b. means b) formats.now (map (λ b. meaning b) texts.now) (side_value side.now) r view slot) (seen bytes_of result) }
+{
+    close_base_by(
+        alloc,
+        slot,
+        &formats[side.place],
+        texts,
+        &side.typed,
+        base,
+        view,
+    )
+}
+
+// The same by a format.
+fn close_base_by(
+    alloc: Global,
+    slot: Slot,
+    format: &Box<dyn Format>,
+    texts: &[Box<dyn TextLens>],
+    typed: &Typed,
+    base: Base,
+    view: Tree,
+) -> Result<Vec<u8>, Stop>
+    requires typed { IsTyped (means format.now) (map (λ b. meaning b) texts.now) (typed_value typed.now) }
+    requires replica { (r : ReplicaValue) × IsBase (main_in (typed_value typed.now)) r base × IsReplica (means format.now) (map (λ b. meaning b) texts.now) (typed_value typed.now) r }
+    requires member { Trees typed.now.view view }
+    ensures { (r : ReplicaValue) → IsBase (main_in (typed_value typed.now)) r base → IsReplica (means format.now) (map (λ b. meaning b) texts.now) (typed_value typed.now) r → Computes (ClosesReplica (means format.now) (map (λ b. meaning b) texts.now) (typed_value typed.now) r view slot) (seen bytes_of result) }
+{
+    match base.close(alloc, format, typed, texts, view) {
         Ok(bytes) => Ok(bytes),
         Err(fault) => Err(write_stop(slot, fault)),
     }
