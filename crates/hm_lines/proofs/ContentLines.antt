@@ -238,10 +238,7 @@ module _ (line : List ℕ) (from to n : ℕ) (found : AreFound line from to n) w
 
 -- ---- no way to part a line, or one alone
 
-module _ (line : List ℕ) (from w : ℕ) (group : from ≡ group_len line) (name : w ≡ prefix_len is_of_word (take (length line - from) (drop from line))) where
-  name_is : w ≡ prefix_len is_of_word (drop from line)
-  name_is = name ∙ ap (prefix_len is_of_word) (take_rest line from)
-
+module _ (line : List ℕ) (from w : ℕ) (group : from ≡ group_len line) (name_is : w ≡ prefix_len is_of_word (drop from line)) where
   pub name_fits : from + w ≤ length line
   name_fits =
       let fits = (subst (HasGroup line) (sym group) (has_group line (prefix_len is_of_word line) refl _ refl)).fits in
@@ -258,7 +255,7 @@ module _ (line : List ℕ) (from w : ℕ) (group : from ≡ group_len line) (nam
     same_to =
         (λ i. same_from i + (name_is ∙ ap (λ k. prefix_len is_of_word (drop k line)) same_from) i) ∙ (are_found line parts is).name
 
-    pub no_name : from + w ≡ from → ⊥
+    pub no_name : w ≡ 0 → ⊥
     no_name e = let same = same_to in let at = same_from in let some = (are_found line parts is).some in omega arith
 
     pub no_parameters : ((count : ℕ) → ¬ (BeginsWithParameters (take (length line - (from + w)) (drop (from + w) line)) count)) → ⊥
@@ -267,7 +264,7 @@ module _ (line : List ℕ) (from w : ℕ) (group : from ≡ group_len line) (nam
         (subst (λ l. BeginsWithParameters l (length is.parameters)) (sym (take_rest line (from + w) ∙ ap (λ k. drop k line) same_to))
         (are_found line parts is).has)
 
-  pub found_line : (n : ℕ) → (from + w ≡ from → ⊥) → BeginsWithParameters (take (length line - (from + w)) (drop (from + w) line)) n
+  pub found_line : (n : ℕ) → (w ≡ 0 → ⊥) → BeginsWithParameters (take (length line - (from + w)) (drop (from + w) line)) n
       → IsContentLine line (record { name_from = from; name_to = from + w; value_from = from + w + n + 1 })
   found_line n some has =
       content_line line from (from + w) n

@@ -1,5 +1,5 @@
 //! The parts of a content line (RFC 5545, section 3.1; RFC 6350, section 3.3).
-ghost use Rattle.std.specs.Prelude.{◌≡◌, ◌==◌, ◌&&◌, ℕ, not, cond, IfSome, MatchOption};
+ghost use Rattle.std.specs.Prelude.{◌≡◌, ◌==◌, ◌&&◌, ℕ, drop, not, cond, IfSome, MatchOption};
 ghost use Rattle.std.specs.List.{prefix_len};
 ghost use Rattle.hm_lines.specs.declared.content.LineParts.{LineParts as Places};
 ghost use Rattle.hm_lines.specs.Content.{colon, is_of_word, group_len, IsContentLine, IsCutBetweenCharacters, IsFirstColon, BeginsWithParameters};
@@ -27,9 +27,9 @@ pub fn parts(line: &str) -> Option<LineParts>
 fn parts_of(line: &[u8]) -> Option<LineParts>
     ensures { MatchOption result ((parts : Places) → ¬ (IsContentLine line.now parts)) (IsContentLine line.now) }
 {
-    let name_from = group_len(line);
-    let name_to = name_from + word_len(&line[name_from..]);
-    if name_to == name_from {
+    let (name_from, name_len) = name_at(line);
+    let name_to = name_from + name_len;
+    if name_len == 0 {
         return None;
     }
     let Some(parameters) = parameters_len(&line[name_to..]) else {
@@ -42,14 +42,15 @@ fn parts_of(line: &[u8]) -> Option<LineParts>
     })
 }
 
-// How long the group is that a line begins with, with its dot.
-fn group_len(line: &[u8]) -> usize
-    ensures { result ≡ group_len line.now }
+// Where the name stands that a line begins with, behind the group and its dot if there is one, and how long it is.
+fn name_at(line: &[u8]) -> (usize, usize)
+    ensures from { result.0 ≡ group_len line.now }
+    ensures len { result.1 ≡ prefix_len is_of_word (drop result.0 line.now) }
 {
     let word = word_len(line);
     match line.get(word) {
-        Some(b'.') if word > 0 => word + 1,
-        _ => 0,
+        Some(b'.') if word > 0 => (word + 1, word_len(&line[word + 1..])),
+        _ => (0, word),
     }
 }
 
