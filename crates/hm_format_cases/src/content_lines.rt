@@ -105,6 +105,7 @@ fn lines_stand_in_the_bytes(rt: HostRuntime) -> Result<(), Fail> {
     assert_eq!(&rt; unfolded.count(), 2);
     assert_eq!(&rt; unfolded.line(0), b"a:12".as_slice());
     assert_eq!(&rt; unfolded.line(1), b"b:3".as_slice());
+    assert_eq!(&rt; unfolded.line_in("a:12\r\nb:3", 0), "a:12");
     Ok(())
 }
 

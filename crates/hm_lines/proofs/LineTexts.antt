@@ -90,6 +90,8 @@ pub record IsRange (places bytes : List ℕ) (i : ℕ) : Type 0 where
   pub within : end places (length bytes) i ≤ length bytes
   pub piece : slice_get (cut bytes) i ≡ Some (take (end places (length bytes) i - start places (length bytes) i) (drop (start places (length bytes) i) bytes))
   pub utf8 : IsUtf8 bytes → IsUtf8 (take (end places (length bytes) i - start places (length bytes) i) (drop (start places (length bytes) i) bytes))
+  pub from : IsUtf8 bytes → IsCharBoundary bytes (start places (length bytes) i)
+  pub to : IsUtf8 bytes → IsCharBoundary bytes (end places (length bytes) i)
 
 pub is_range : (places bytes : List ℕ) (i : ℕ) → places ≡ feeds bytes → i < length (cut bytes) → IsRange places bytes i
 is_range places bytes i same lt =
@@ -102,6 +104,8 @@ is_range places bytes i same lt =
       within = at.within;
       piece = slice_get-get_or (cut bytes) i [] lt ∙ ap Some is;
       utf8 = λ u. subst IsUtf8 is (piece_utf8 bytes u i [] lt);
+      from = λ u. start_boundary bytes u i (let within = at.within in omega arith);
+      to = λ u. end_boundary bytes u i;
     })
 
 -- ---- how many lines there are

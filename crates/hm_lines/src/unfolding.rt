@@ -69,6 +69,15 @@ impl Unfolded {
     {
         without_return(piece(&self.bytes, &self.feeds, place))
     }
+
+    /// A line of the bytes where they are this text.
+    pub fn line_in<'t>(&self, text: &'t str, place: usize) -> &'t str
+        requires same { text.now ≡ self.now }
+        requires within { place < length (lines self.now) }
+        ensures { slice_get (lines self.now) place ≡ Some result.now }
+    {
+        without_return_of(piece_of(text, &self.feeds, place))
+    }
 }
 
 /// The lines of folded bytes, without their ends.
@@ -125,6 +134,17 @@ fn piece<'a>(bytes: &'a [u8], feeds: &[usize], place: usize) -> &'a [u8]
     &bytes[start..end]
 }
 
+// The same of a text.
+fn piece_of<'t>(text: &'t str, feeds: &[usize], place: usize) -> &'t str
+    requires feeds { feeds.now ≡ feeds_of text.now }
+    requires within { place < length (cut text.now) }
+    ensures { slice_get (cut text.now) place ≡ Some result.now }
+{
+    let start = start(feeds, text.len(), place);
+    let end = end(feeds, text.len(), place);
+    &text[start..end]
+}
+
 // Where a piece begins, in so many bytes with line feeds at some places: behind the line feed before it.
 fn start(feeds: &[usize], len: usize, place: usize) -> usize
     requires { start feeds.now len place < 2 ^ 64 }
@@ -163,5 +183,15 @@ fn without_return(bytes: &[u8]) -> &[u8]
     match bytes.split_last() {
         Some((last, front)) if *last == b'\r' => front,
         _ => bytes,
+    }
+}
+
+// The same of a text.
+fn without_return_of(text: &str) -> &str
+    ensures { result.now ≡ without_return text.now }
+{
+    match text.as_bytes().split_last() {
+        Some((last, front)) if *last == b'\r' => &text[..front.len()],
+        _ => text,
     }
 }
