@@ -5,7 +5,7 @@ ghost use Rattle.std.specs.List.{list_any};
 ghost use Rattle.hm_properties.specs.Lines as spec;
 ghost use Rattle.hm_properties.specs.Lent.{AreLines, lent, line_of};
 
-use crate::line::{Line, text_shown};
+use crate::line::{Line, is_of, text_shown};
 use hm_tree::{Memory, Name};
 use std::alloc::Global;
 
@@ -68,10 +68,10 @@ fn shows_both(alloc: Global, name: &Name, before: &[Line], line: &Line) -> Resul
     requires line { spec.IsLine (line_of line.now) }
     ensures { IfOk result (λ both. both ≡ (spec.shows name.now (line_of line.now) && list_any (spec.shows name.now) (lent before.now))) }
 {
-    if text_shown(alloc, name, line)?.is_none() {
+    if !is_of(line, name) || !shows_any(alloc, name, before)? {
         return Ok(false);
     }
-    shows_any(alloc, name, before)
+    Ok(text_shown(alloc, name, line)?.is_some())
 }
 
 // Whether one of some lines shows a text below a name.
