@@ -71,3 +71,10 @@ texts_more name ls i d lt old new before o shown e =
     e ∙ (λ j. before j ++ cons_option (shown j) [])
     ∙ sym (ap (texts_of name) (lent_taken ls i (get_or ls i d) lt (get_or_default ls i d (get_or ls i d) lt))
     ∙ filter_map-append (text_shown name) (lent (take i ls)) (line_of (get_or ls i d) ∷ []))
+
+-- the texts of the lines that are left, of which one is looked at
+pub texts_left : (name : Name) (ls : List Line) (i : ℕ) (d : Line) → i < length ls → (o : Option Name) → o ≡ text_shown name (line_of (get_or ls i d))
+    → texts_of name (lent (drop i ls)) ≡ cons_option o (texts_of name (lent (drop (i + 1) ls)))
+texts_left name ls i d lt o shown =
+    ap (texts_of name) (lent_dropped ls i (get_or ls i d) lt (get_or_default ls i d (get_or ls i d) lt))
+    ∙ sym (ap (λ t. cons_option t (texts_of name (lent (drop (i + 1) ls)))) shown)

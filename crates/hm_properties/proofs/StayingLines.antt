@@ -1,5 +1,5 @@
 -- Lines that are to show their own card stay.
-use Rattle.std.proofs.Common.{◌≡◌, ℕ, zero, suc, ◌+◌, ◌<◌, Bool, true, false, not, cond, List, [], ◌∷◌, ◌++◌, length, get_or, map, filter, slice_get, Option, Some, None, refl, sym, ap, ◌∙◌, arith}
+use Rattle.std.proofs.Common.{◌≡◌, ℕ, zero, suc, ◌+◌, ◌<◌, Bool, true, false, not, cond, List, [], ◌∷◌, ◌++◌, length, get_or, map, filter, slice_get, Option, Some, None, refl, sym, ap, ◌∙◌, subst, arith}
 use Rattle.std.specs.Prelude.{All, IsUtf8}
 use Rattle.std.specs.Option.{is_none}
 use Rattle.std.specs.Ordering.{eq_by_cmp}
@@ -9,18 +9,18 @@ use Rattle.std.specs.List.Sorted.{IsStrictlySortedBy}
 use Rattle.std.specs.FinSet.{FinSet, contains, from_list, contains-from_list}
 use Rattle.std.proofs.lemmas.Bool.{eqb-true, or_left, or_right}
 use Rattle.std.proofs.lemmas.Cmp.{tied_itself}
-use Rattle.std.proofs.lemmas.Option.{slice_get-get_or}
+use Rattle.std.proofs.lemmas.Option.{slice_get-get_or, slice_get_within, get_or_from_slice_get}
 use Rattle.std.proofs.lemmas.List.{get_or_at, append-nil}
 use Rattle.std.proofs.lemmas.List.Elements.{filter_map-append}
 use Rattle.hm_tree.specs.Names.{Name, name_cmp}
 use Rattle.hm_tree.specs.Nodes.{Tree}
 use Rattle.hm_tree.specs.Sets.{ascending}
 use Rattle.hm_tree.proofs.Sorted.{name_total}
-use Rattle.hm_tree.proofs.Ascending.{ascending_is, contains-ascending}
+use Rattle.hm_tree.proofs.Ascending.{ascending_is, contains-ascending, set_of-ascending}
 use Rattle.hm_pieces.specs.Texts.{new_names}
 use Rattle.hm_cards.specs.Cards.{Shown, texts_at}
 use Rattle.hm_properties.specs.Lines.{Line, AreProperties, IsLine, is_of, text_shown, texts_of, set_of, card_of, AreFew}
-use Rattle.hm_properties.specs.Rewriting.{Property, stays, if_stays, with_value, one_line, first_in, target, line_for, is_at, property_of, line_in, line_at, rewritten_from, new_line, new_texts, lines_for, rewritten}
+use Rattle.hm_properties.specs.Rewriting.{Property, stays, if_stays, with_value, one_line, first_in, target, line_for, is_at, property_of, line_in, line_at, rewritten_from, new_line, new_texts, lines_for, rewritten, IsShown, AreShown}
 use Rattle.hm_properties.proofs.Texts.{none_ascending}
 use Rattle.hm_properties.proofs.PropertyNames.{found_there}
 use Rattle.hm_properties.proofs.Targets.{IsTarget, has_target, no_target, target_is, no_lines}
@@ -76,15 +76,8 @@ none_left set = go (ascending set) (λ i k lt. contains-ascending set i (get_or 
         ap (λ b. cond (not b) (k ∷ filter (λ k. not (contains set k)) names) (filter (λ k. not (contains set k)) names)) (all 0 k (omega arith))
         ∙ go names (λ i d lt. all (suc i) d (omega (arith, lt)))
 
-module _ (lines : List Line) (is : All IsLine lines) (utf8 : All (λ (l : Line). IsUtf8 l.0) lines) (properties : Shown) (are : AreProperties properties)
+module _ (lines : List Line) (properties : Shown) (card : Tree) (own : (i : ℕ) (q : Property) → slice_get properties i ≡ Some q → texts_at q.0 card ≡ set_of q.0 lines)
     (few : AreFew properties lines) where
-  card : Tree
-  card = card_of properties lines
-
-  own : (i : ℕ) (q : Property) → slice_get properties i ≡ Some q → texts_at q.0 card ≡ set_of q.0 lines
-  unfolding card
-  own i q at = own_texts lines is utf8 properties are few i q at
-
   module _ (i : ℕ) (q : Property) (at : slice_get properties i ≡ Some q) where
     many_stays : (k : ℕ) (d : Line) → k < length lines → stays (texts_at q.0 card) (text_shown q.0 (get_or lines k d)) ≡ true
     many_stays k d lt = go (text_shown q.0 (get_or lines k d)) refl
@@ -160,12 +153,28 @@ module _ (lines : List Line) (is : All IsLine lines) (utf8 : All (λ (l : Line).
   nothing_added [] none = refl
   nothing_added (p ∷ ps) none = λ j. map (new_line p.0) (none 0 p refl j) ++ nothing_added ps (λ i. none (suc i)) j
 
-  -- lines that are to show their own card stay
-  pub rewritten_stays : rewritten properties (card_of properties lines) lines ≡ lines
-  unfolding card
-  rewritten_stays =
+  all_stay : rewritten properties card lines ≡ lines
+  all_stay =
       (λ j.
       stays_from properties card lines 0 lines
       (λ k lt d. let e : 0 + k ≡ k = omega arith in ap (λ n. line_at properties card lines n (get_or lines k d)) e ∙ line_stays k d lt) j
       ++ nothing_added properties nothing_new j)
       ∙ append-nil lines
+
+-- lines that are to show their own card stay
+pub rewritten_stays : (lines : List Line) → All IsLine lines → All (λ (l : Line). IsUtf8 l.0) lines → (properties : Shown) → AreProperties properties
+    → AreFew properties lines → rewritten properties (card_of properties lines) lines ≡ lines
+rewritten_stays lines is utf8 properties are few =
+    all_stay lines properties (card_of properties lines) (own_texts lines is utf8 properties are few) few
+
+-- and so do those that show a card as it is
+pub shown_stay : (lines : List Line) (properties : Shown) (card : Tree) → AreShown properties card lines → rewritten properties card lines ≡ lines
+shown_stay lines properties card shown = all_stay lines properties card own few
+  where
+    own : (i : ℕ) (q : Property) → slice_get properties i ≡ Some q → texts_at q.0 card ≡ set_of q.0 lines
+    own i q at =
+        let here : IsShown card lines q = subst (IsShown card lines) (get_or_from_slice_get properties i q q at) (shown i q (slice_get_within properties i q at)) in
+        sym (ap (λ ts. from_list {R = name_cmp} ts) here.0 ∙ set_of-ascending (texts_at q.0 card))
+
+    few : AreFew properties lines
+    few i q lt = (shown i q lt).1

@@ -1,5 +1,5 @@
 -- The lines of an item that is to show another card.
-use Rattle.std.specs.Prelude.{ℕ, ◌+◌, Bool, true, false, cond, List, [], ◌∷◌, ◌++◌, map, take, length, slice_get, Option, Some, None}
+use Rattle.std.specs.Prelude.{◌≡◌, ◌≤◌, ℕ, ◌+◌, Bool, true, false, cond, All, List, [], ◌∷◌, ◌++◌, map, take, length, slice_get, Option, Some, None}
 use Rattle.std.specs.Bool.{◌==◌}
 use Rattle.std.specs.Option.{is_none, option_or}
 use Rattle.std.specs.Ordering.{eq_by_cmp}
@@ -13,7 +13,7 @@ use Rattle.hm_lines.specs.Content.{colon}
 use Rattle.hm_lines.specs.Values.{escaped}
 use Rattle.hm_pieces.specs.Texts.{new_names}
 use Rattle.hm_cards.specs.Cards.{Shown, texts_at}
-use Rattle.hm_properties.specs.Lines.{Line, is_of, text_shown, shows, set_of}
+use Rattle.hm_properties.specs.Lines.{Line, is_of, text_shown, shows, texts_of, set_of}
 
 abbrev pub Property : Type 0
 Property = Name × Bool
@@ -104,3 +104,12 @@ lines_for card lines p = map (new_line p.0) (new_texts card lines p)
 -- the properties and then by the texts
 abbrev pub rewritten : Shown → Tree → List Line → List Line
 rewritten properties card lines = rewritten_from properties card lines 0 lines ++ flat_map (lines_for card lines) properties
+
+-- ---- lines that show a card as it is
+
+-- they show the texts of a card below a property in their order, and no more than there may be
+abbrev pub IsShown : Tree → List Line → Property → Type 0
+IsShown card lines p = (texts_of p.0 lines ≡ ascending (texts_at p.0 card)) × (p.1 ≡ false → length (texts_of p.0 lines) ≤ 1)
+
+abbrev pub AreShown : Shown → Tree → List Line → Type 0
+AreShown properties card lines = All (IsShown card lines) properties

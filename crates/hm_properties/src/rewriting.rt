@@ -1,5 +1,5 @@
 //! Lines that are to show another card.
-ghost use Rattle.std.specs.Prelude.{◌≡◌, ◌<◌, ◌++◌, ◌∷◌, [], All, IfOk, IfSome, OnOk, Some, None, cond, not, map, filter, length, get_or, slice_get, option_and_then};
+ghost use Rattle.std.specs.Prelude.{◌≡◌, ◌<◌, ◌++◌, ◌∷◌, [], All, IfOk, IfSome, IsTrue, OnOk, Some, None, cond, not, map, filter, length, get_or, slice_get, option_and_then};
 ghost use Rattle.std.specs.Option.{option_map};
 ghost use Rattle.std.specs.List.{flat_map};
 ghost use Rattle.std.specs.FinSet.{contains};
@@ -26,10 +26,91 @@ pub fn rewrite<'a>(
     requires { AreLines lines.now }
     ensures { IfOk result (λ new. all_bytes new.items ≡ plain (spec.rewritten properties.now card.now (lent lines.now))) }
 {
+    if are_shown(alloc, properties, lines, card)? {
+        return kept(alloc, lines);
+    }
     let targets = targets_of(alloc, properties, lines)?;
     let mut new = Vec::with_capacity(alloc, lines.len())?;
     append_old(alloc, &mut new, properties, &targets, lines, card)?;
     append_new(alloc, &mut new, properties, &targets, lines, card)?;
+    Ok(new)
+}
+
+// Whether lines show the texts of a card in their order, which is less to find out than what becomes of each line.
+fn are_shown(
+    alloc: Global,
+    properties: &[(Name, bool)],
+    lines: &[Line],
+    card: &Tree,
+) -> Result<bool, Memory>
+    requires { AreLines lines.now }
+    ensures { IfOk result (λ shown. IsTrue shown → spec.AreShown properties.now card.now (lent lines.now)) }
+{
+    for property in properties {
+        if !is_shown(alloc, property, lines, card)? {
+            return Ok(false);
+        }
+    }
+    Ok(true)
+}
+
+// The same of one property, which has no more texts than it may.
+fn is_shown(
+    alloc: Global,
+    property: &(Name, bool),
+    lines: &[Line],
+    card: &Tree,
+) -> Result<bool, Memory>
+    requires { AreLines lines.now }
+    ensures { IfOk result (λ shown. IsTrue shown → spec.IsShown card.now (lent lines.now) property.now) }
+{
+    let texts = edges_at(card, &property.0);
+    if !property.1 && texts.len() > 1 {
+        return Ok(false);
+    }
+    show_just(alloc, &property.0, lines, texts)
+}
+
+// Whether what lines show below a name are just these texts.
+fn show_just(
+    alloc: Global,
+    name: &Name,
+    lines: &[Line],
+    texts: &[(Name, Tree)],
+) -> Result<bool, Memory>
+    requires { AreLines lines.now }
+    ensures { IfOk result (λ just. IsTrue just → lines_spec.texts_of name.now (lent lines.now) ≡ map (λ e. e.0) texts.now) }
+{
+    let mut left = texts;
+    for line in lines {
+        if let Some(text) = text_shown(alloc, name, line)? {
+            match behind(left, &text) {
+                Some(others) => left = others,
+                None => return Ok(false),
+            }
+        }
+    }
+    Ok(left.is_empty())
+}
+
+// The texts behind the first, if this is a certain one.
+fn behind<'a>(texts: &'a [(Name, Tree)], text: &Name) -> Option<&'a [(Name, Tree)]>
+    ensures { IfSome result (λ others. map (λ e. e.0) texts.now ≡ text.now ∷ map (λ e. e.0) others.now) }
+{
+    match texts.split_first() {
+        Some((first, others)) if first.0.same(text) => Some(others),
+        _ => None,
+    }
+}
+
+// Lines that stay.
+fn kept<'a>(alloc: Global, lines: &[Line<'a>]) -> Result<Vec<NewLine<'a>>, Memory>
+    ensures { IfOk result (λ new. all_bytes new.items ≡ plain (lent lines.now)) }
+{
+    let mut new = Vec::with_capacity(alloc, lines.len())?;
+    for line in lines {
+        new.push(NewLine::Kept(line.text))?;
+    }
     Ok(new)
 }
 
