@@ -21,6 +21,8 @@ pub struct Trees<'l, 'a> {
     // How many trees there are with each key, and how many items from before have it.
     wanted: Vec<(&'a Name, usize)>,
     counts: Vec<usize>,
+    // Where the key of the item before stands; most files have their items in the order of the keys.
+    near: usize,
 }
 
 impl<'l, 'a> Trees<'l, 'a> {
@@ -37,6 +39,7 @@ impl<'l, 'a> Trees<'l, 'a> {
             lists,
             wanted,
             counts,
+            near: 0,
         })
     }
 
@@ -46,8 +49,11 @@ impl<'l, 'a> Trees<'l, 'a> {
         ensures taken { OnOk result ((lists : Lists) (keys : List NameValue) → HasTaken self.old lists keys → HasTaken self.new lists (keys ++ key.now ∷ [])) }
         ensures tree { IfOk result (λ tree. (lists : Lists) (keys : List NameValue) → HasTaken self.old lists keys → option_map (λ t. t.now) tree ≡ slice_get (below_key name_cmp key.now lists) (length (of_key name_cmp key.now (numbered 0 keys)))) }
     {
-        match next_place(&self.wanted, key, &mut self.counts)? {
-            Some((edge, place)) => Ok(Some(self.lists[edge].1[place])),
+        match next_place(&self.wanted, key, self.near, &mut self.counts)? {
+            Some((edge, place)) => {
+                self.near = edge;
+                Ok(Some(self.lists[edge].1[place]))
+            }
             None => Ok(None),
         }
     }

@@ -61,7 +61,7 @@ fn places_of_survivors(rt: HostRuntime) -> Result<(), Fail> {
     let b = Name::from_text(alloc, "b")?;
     let wanted = [(&a, 2), (&b, 1)];
     let mut counts = no_counts(alloc, &wanted)?;
-    assert_eq!(&rt; next_place(&wanted, &b, &mut counts)?, Some((1, 0)));
-    assert_eq!(&rt; next_place(&wanted, &b, &mut counts)?, None);
+    assert_eq!(&rt; next_place(&wanted, &b, 0, &mut counts)?, Some((1, 0)));
+    assert_eq!(&rt; next_place(&wanted, &b, 0, &mut counts)?, None);
     Ok(())
 }

@@ -7,7 +7,7 @@ ghost use Rattle.hm_items.specs.Items.{IsRewritten, kept};
 ghost use Rattle.hm_items.specs.Lent.{lent_counts};
 ghost use Rattle.hm_items.specs.Plans.{numbered, places, slots_of, AreCounts, AreWithin, past, past_at, next_survivor, place_for, IsPlaceUnder};
 
-use crate::wanted::{count_at, place_of};
+use crate::wanted::{count_at, place_near};
 use hm_tree::{Memory, Name};
 use std::alloc::Global;
 
@@ -23,7 +23,8 @@ pub struct Slot {
 }
 
 /// The items of the new file, in its order: of the keys of the old items, in file order, and of the keys of the new tree in
-/// ascending order, each with how many items it is to have. One search for each old item, and no more steps than there are items.
+/// ascending order, each with how many items it is to have. One search for each old item at the most, and no more steps than there
+/// are items.
 pub fn plan(alloc: Global, keys: &[Name], wanted: &[(&Name, usize)]) -> Result<Vec<Slot>, Memory>
     requires { T (is_sorted name_cmp (lent_counts wanted.now)) }
     ensures within { IfOk result (λ slots. AreWithin (lent_counts wanted.now) (length keys.now) slots.items) }
@@ -77,7 +78,7 @@ fn visit(
     ensures slots { OnOk result ((keys : List NameValue) → AreCounts (lent_counts wanted.now) keys counts.old.items → slots_of (lent_counts wanted.now) slots.new.items ≡ slots_of (lent_counts wanted.now) slots.old.items ++ next_survivor (lent_counts wanted.now) keys key.now item) }
     ensures within { OnOk result ((count : ℕ) → item < count → AreWithin (lent_counts wanted.now) count slots.old.items → AreWithin (lent_counts wanted.now) count slots.new.items) }
 {
-    if let Some((edge, place)) = next_place(wanted, key, counts)? {
+    if let Some((edge, place)) = next_place(wanted, key, last_edge(slots), counts)? {
         slots.push(Slot {
             edge,
             from: Some(item),
@@ -87,11 +88,21 @@ fn visit(
     Ok(())
 }
 
+// Where the key of the last survivor stands.
+fn last_edge(slots: &[Slot]) -> usize {
+    match slots.last() {
+        Some(slot) => slot.edge,
+        None => 0,
+    }
+}
+
 /// Where the next old item survives, by its key, behind others that were counted: where its key stands among those of the new
-/// tree, and its place in the list there. None where the list is too short, or where there is none. The item is counted.
+/// tree, and its place in the list there. None where the list is too short, or where there is none. The item is counted. Its key
+/// is found without a search where it stands near that of the item before, or just behind.
 pub fn next_place(
     wanted: &[(&Name, usize)],
     key: &Name,
+    near: usize,
     counts: &mut Vec<usize>,
 ) -> Result<Option<(usize, usize)>, Memory>
     requires sorted { T (is_sorted name_cmp (lent_counts wanted.now)) }
@@ -100,7 +111,7 @@ pub fn next_place(
     ensures place { IfOk result (λ found. (keys : List NameValue) → AreCounts (lent_counts wanted.now) keys counts.old.items → option_map (λ p. p.1) found ≡ place_for (lent_counts wanted.now) keys key.now) }
     ensures edge { IfOk result (λ found. IfSome found (λ p. IsPlaceUnder (lent_counts wanted.now) key.now p.0 p.1)) }
 {
-    if let Ok(edge) = place_of(wanted, key) {
+    if let Ok(edge) = place_near(wanted, key, near) {
         let place = counts[edge];
         let Some(after) = place.checked_add(1) else {
             return Err(Memory);

@@ -1,5 +1,5 @@
 //! What a new tree is to have: its keys, each with a number of items.
-ghost use Rattle.std.specs.Prelude.{◌≡◌, ◌<◌, T, IfOk, IfErr, [], length, get_or};
+ghost use Rattle.std.specs.Prelude.{◌≡◌, ◌<◌, T, IsTrue, IfOk, IfErr, [], length, get_or};
 ghost use Rattle.std.specs.FinMap.{is_sorted};
 ghost use Rattle.hm_tree.specs.Names.{name_cmp};
 ghost use Rattle.hm_tree.specs.Edges.{IsPlaceOf, IsGapFor};
@@ -7,8 +7,33 @@ ghost use Rattle.hm_items.specs.Lent.{lent_counts};
 
 use hm_tree::Name;
 
-/// Where a key is, or where it would go.
-pub fn place_of(wanted: &[(&Name, usize)], key: &Name) -> Result<usize, usize>
+/// Where a key is, or where it would go. A place near it, or the one behind that, is looked at first, since most files have
+/// their items in the order of the keys.
+pub fn place_near(wanted: &[(&Name, usize)], key: &Name, near: usize) -> Result<usize, usize>
+    requires { T (is_sorted name_cmp (lent_counts wanted.now)) }
+    ensures found { IfOk result (IsPlaceOf key.now (lent_counts wanted.now)) }
+    ensures absent { IfErr result (IsGapFor key.now (lent_counts wanted.now)) }
+{
+    if is_at(wanted, key, near) {
+        return Ok(near);
+    }
+    let behind = near.wrapping_add(1);
+    if is_at(wanted, key, behind) {
+        return Ok(behind);
+    }
+    place_of(wanted, key)
+}
+
+// Whether a key is at a place.
+fn is_at(wanted: &[(&Name, usize)], key: &Name, place: usize) -> bool
+    requires { T (is_sorted name_cmp (lent_counts wanted.now)) }
+    ensures { IsTrue result → IsPlaceOf key.now (lent_counts wanted.now) place }
+{
+    place < wanted.len() && wanted[place].0.same(key)
+}
+
+// Where a key is, or where it would go.
+fn place_of(wanted: &[(&Name, usize)], key: &Name) -> Result<usize, usize>
     requires { T (is_sorted name_cmp (lent_counts wanted.now)) }
     ensures found { IfOk result (IsPlaceOf key.now (lent_counts wanted.now)) }
     ensures absent { IfErr result (IsGapFor key.now (lent_counts wanted.now)) }
