@@ -31,9 +31,9 @@ module _ (f : Form) (o : OptionsValue) (bytes : List ℕ) where
   R r = files.Reads f o bytes r
 
   -- bytes without folds that aren't UTF-8
-  pub text_read : (fault : FormatFault) → IsTextFault bytes fault → Reads R (Err fault)
-  text_read (NotUtf8 at) why = why
-  text_read Memory why = tt
+  pub text_read : (fault : FormatFault) → IsTextFault (unfolded bytes) fault → Reads R (Err fault)
+  text_read (NotUtf8 at) why = record { broken = why.0; place = why.1 }
+  text_read Memory why = absurd why
   text_read (BadOption name) why = absurd why
   text_read (BadItem number) why = absurd why
   text_read (NoKey number) why = absurd why

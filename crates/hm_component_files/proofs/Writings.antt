@@ -5,6 +5,7 @@ use Rattle.std.specs.declared.alloc.Global.{Global}
 use Rattle.hm_tree.specs.Nodes.{Tree}
 use Rattle.hm_schema.specs.Values.{OptionsValue}
 use Rattle.hm_item_trees.specs.ItemTrees.{HasLists}
+use Rattle.hm_lines.specs.Unfolding.{unfolded}
 use Rattle.hm_format.specs.declared.fault.FormatFault.{FormatFault}
 use Rattle.hm_format.specs.declared.fault.FormatFault.TheVariants.{BadOption, NotUtf8, BadItem, NoKey, TooDeep, Outside, Memory}
 use Rattle.hm_format.specs.Formats.{MayWrite, depth_over}
@@ -35,9 +36,9 @@ module _ (f : Form) (law : IsForm f) (o : OptionsValue) (t : Tree) (before : Lis
 
   -- ---- bytes that are read have no fault but want of memory
 
-  pub text_written : (over : Option ℕ) (fault : FormatFault) → IsTextFault before fault → Writes over W (Err fault)
-  text_written over (NotUtf8 at) why = absurd (why.broken may.read.0.file.text)
-  text_written over Memory why = tt
+  pub text_written : (over : Option ℕ) (fault : FormatFault) → IsTextFault (unfolded before) fault → Writes over W (Err fault)
+  text_written over (NotUtf8 at) why = absurd (why.0 may.read.0.file.text)
+  text_written over Memory why = absurd why
   text_written over (BadOption name) why = absurd why
   text_written over (BadItem number) why = absurd why
   text_written over (NoKey number) why = absurd why

@@ -1,5 +1,6 @@
 -- Which fault of a file is told.
-use Rattle.std.specs.Prelude.{ℕ, List}
+use Rattle.std.specs.Prelude.{◌≡◌, ℕ, List, IsUtf8}
+use Rattle.std.specs.Str.Lossy.{utf8_valid_len}
 use Rattle.hm_components.specs.Components.{Bytes, Component}
 use Rattle.hm_components.specs.Reading.{IsFirstKeyless, AreTooDeep}
 use Rattle.hm_cards.specs.Cards.{Shown}
@@ -7,19 +8,19 @@ use Rattle.hm_tree.specs.Names.{Name}
 use Rattle.hm_format.specs.declared.fault.FormatFault.{FormatFault}
 use Rattle.hm_format.specs.declared.fault.FormatFault.TheVariants.{BadOption, NotUtf8, BadItem, NoKey, TooDeep, Outside, Memory}
 use Rattle.hm_format.specs.Formats.{deepest}
-use Rattle.hm_components.specs.Files.{StopsAt}
 use Rattle.hm_components.specs.Stops.{IsNumberOf}
 use Rattle.hm_components.specs.declared.stop.Stop.{Stop}
 use Rattle.hm_components.specs.declared.stop.Stop.TheVariants as stop
 
+-- of bytes without folds: how many of them are UTF-8, which not all are
 abbrev pub IsTextFault : Bytes → FormatFault → Type 0
-IsTextFault bytes (NotUtf8 at) = StopsAt bytes at
-IsTextFault bytes Memory = Unit {0}
-IsTextFault bytes (BadOption name) = ⊥
-IsTextFault bytes (BadItem number) = ⊥
-IsTextFault bytes (NoKey number) = ⊥
-IsTextFault bytes (TooDeep depth) = ⊥
-IsTextFault bytes (Outside path) = ⊥
+IsTextFault unfolded (NotUtf8 at) = (¬ (IsUtf8 unfolded)) × (at ≡ utf8_valid_len unfolded)
+IsTextFault unfolded Memory = ⊥
+IsTextFault unfolded (BadOption name) = ⊥
+IsTextFault unfolded (BadItem number) = ⊥
+IsTextFault unfolded (NoKey number) = ⊥
+IsTextFault unfolded (TooDeep depth) = ⊥
+IsTextFault unfolded (Outside path) = ⊥
 
 -- of a place among the lines that aren't empty the number of the line is told
 abbrev pub IsBadItem : List Bytes → ℕ → FormatFault → Type 0

@@ -1,6 +1,6 @@
 //! Opening a file: its text without folds, its lines, and their numbers.
-ghost use Rattle.std.specs.Prelude.{◌≡◌, IsUtf8, IfOk, IfErr};
-ghost use Rattle.hm_lines.specs.Unfolding.{unfolded, lines as lines_of_bytes};
+ghost use Rattle.std.specs.Prelude.{◌≡◌, IsUtf8, IfOk, IfErr, OnOk};
+ghost use Rattle.hm_lines.specs.Unfolding.{lines as lines_of_bytes};
 ghost use Rattle.hm_components.specs.Lent.{texts};
 ghost use Rattle.hm_components.specs.Files.{full};
 ghost use Rattle.hm_components.specs.Stops.{IsNumberOf};
@@ -13,44 +13,38 @@ use hm_tree::Memory;
 use std::alloc::Global;
 use std::str;
 
-/// A file's bytes without their folds, which have to be UTF-8.
-pub fn unfolded_text(alloc: Global, bytes: &[u8]) -> Result<Unfolded, FormatFault>
-    ensures made { IfOk result (λ made. made ≡ unfolded bytes.now) }
-    ensures text { IfOk result (λ made. IsUtf8 made) }
-    ensures fault { IfErr result (IsTextFault bytes.now) }
+/// The text of a file without its folds, whose bytes have to be UTF-8.
+pub fn text_of(unfolded: &Unfolded) -> Result<&str, FormatFault>
+    ensures text { IfOk result (λ text. text.now ≡ unfolded.now) }
+    ensures utf8 { OnOk result (IsUtf8 unfolded.now) }
+    ensures fault { IfErr result (IsTextFault unfolded.now) }
 {
-    let unfolded = Unfolded::new(alloc, bytes)?;
-    if let Err(error) = str::from_utf8(unfolded.bytes()) {
-        return Err(FormatFault::NotUtf8 {
+    match str::from_utf8(unfolded.bytes()) {
+        Ok(text) => Ok(text),
+        Err(error) => Err(FormatFault::NotUtf8 {
             at: error.valid_up_to(),
-        });
+        }),
     }
-    Ok(unfolded)
 }
 
-/// The lines that aren't empty.
-pub fn full_lines(alloc: Global, unfolded: &Unfolded) -> Result<Vec<&str>, Memory>
-    requires { IsUtf8 unfolded.now }
+/// The lines of a text that aren't empty.
+pub fn full_lines<'a>(
+    alloc: Global,
+    unfolded: &Unfolded,
+    text: &'a str,
+) -> Result<Vec<&'a str>, Memory>
+    requires { text.now ≡ unfolded.now }
     ensures { IfOk result (λ found. texts found.items ≡ full (lines_of_bytes unfolded.now)) }
 {
-    let mut found = Vec::new(alloc);
-    for place in 0..unfolded.count() {
-        let line = text_of(unfolded.line(place));
+    let count = unfolded.count();
+    let mut found = Vec::with_capacity(alloc, count)?;
+    for place in 0..count {
+        let line = unfolded.line_in(text, place);
         if !line.is_empty() {
             found.push(line)?;
         }
     }
     Ok(found)
-}
-
-fn text_of(line: &[u8]) -> &str
-    requires { IsUtf8 line.now }
-    ensures { result.now ≡ line.now }
-{
-    match str::from_utf8(line) {
-        Ok(text) => text,
-        Err(_) => unreachable!(),
-    }
 }
 
 /// The fault of a file whose lines that aren't empty stop to be those of one: the number of the line.

@@ -6,10 +6,11 @@ ghost use Rattle.hm_components.specs.Writing.{meaning_of};
 ghost use Rattle.hm_components.specs.Files as files;
 
 use crate::book::book_of;
-use crate::opening::{fault_of, full_lines, unfolded_text};
+use crate::opening::{fault_of, full_lines, text_of};
 use crate::options::shown_by;
 use hm_components::Grammar;
 use hm_format::FormatFault;
+use hm_lines::Unfolded;
 use hm_schema::Options;
 use hm_tree::Tree;
 use std::alloc::Global;
@@ -27,8 +28,9 @@ pub fn read_book<G: Grammar>(
     let _tag = grammar.tag();
     let kind = grammar.kind(alloc)?;
     let shown = shown_by(alloc, &grammar.properties(alloc)?, options)?;
-    let unfolded = unfolded_text(alloc, bytes)?;
-    let lines = full_lines(alloc, &unfolded)?;
+    let unfolded = Unfolded::new(alloc, bytes)?;
+    let text = text_of(&unfolded)?;
+    let lines = full_lines(alloc, &unfolded, text)?;
     match grammar.layout(alloc, &shown, &lines) {
         Ok(layout) => book_of(alloc, &kind.key, &shown, &layout),
         Err(stop) => Err(fault_of(&unfolded, stop)),

@@ -6,10 +6,11 @@ ghost use Rattle.hm_components.specs.Writing as files;
 ghost use Rattle.hm_components.specs.Writing.{meaning_of};
 
 use crate::book::{DEEPEST, write_layout};
-use crate::opening::{fault_of, full_lines, unfolded_text};
+use crate::opening::{fault_of, full_lines, text_of};
 use crate::options::shown_by;
 use hm_components::Grammar;
 use hm_format::FormatFault;
+use hm_lines::Unfolded;
 use hm_schema::Options;
 use hm_tree::Tree;
 use std::alloc::Global;
@@ -33,8 +34,9 @@ pub fn write_book<G: Grammar>(
     }
     let kind = grammar.kind(alloc)?;
     let shown = shown_by(alloc, &grammar.properties(alloc)?, options)?;
-    let unfolded = unfolded_text(alloc, before)?;
-    let lines = full_lines(alloc, &unfolded)?;
+    let unfolded = Unfolded::new(alloc, before)?;
+    let text = text_of(&unfolded)?;
+    let lines = full_lines(alloc, &unfolded, text)?;
     match grammar.layout(alloc, &shown, &lines) {
         Ok(layout) => Ok(write_layout(alloc, &kind, &shown, &layout, &lines, tree, before)?),
         Err(stop) => Err(fault_of(&unfolded, stop)),

@@ -1,4 +1,4 @@
-use Rattle.std.proofs.Common.{List, not, sym, ap, ◌∙◌, ◌++◌, ◌∷◌, [], Some}
+use Rattle.std.proofs.Common.{List, not, sym, ap, ◌∙◌, ◌++◌, ◌∷◌, []}
 use Rattle.std.specs.Prelude.{Vec}
 use Rattle.std.specs.Borrow.{Bor}
 use Rattle.std.specs.declared.alloc.Global.{Global}
@@ -12,8 +12,8 @@ use Rattle.hm_component_files.proofs.opening.full_lines.Goals.{then-not-is_empty
 pub loop-place-preserved : goal.loop-place-preserved
 loop-place-preserved c =
     let all = lines c.args.unfolded.now in
-    let line = c.text_of-line.result in
-    let there = c.line.ensures.line ∙ ap Some (sym c.text_of-line.ensures) in
+    let line = c.line_in-line.result in
+    let there = c.line_in-line.ensures in
     elim c.if-not-is_empty.branch [
       | then-not-is_empty+in_ok-push w ↦
           text_pushed c.loop-place.found.items c.if-not-is_empty.found.items line
