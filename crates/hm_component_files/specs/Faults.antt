@@ -51,3 +51,13 @@ IsBookFault key shown cs (BadOption name) = ⊥
 IsBookFault key shown cs (NotUtf8 at) = ⊥
 IsBookFault key shown cs (BadItem number) = ⊥
 IsBookFault key shown cs (Outside path) = ⊥
+
+-- of components: the first that has no key
+abbrev pub IsKeyFault : Name → List Component → FormatFault → Type 0
+IsKeyFault key cs (NoKey number) = IsFirstKeyless key cs number
+IsKeyFault key cs Memory = Unit {0}
+IsKeyFault key cs (BadOption name) = ⊥
+IsKeyFault key cs (NotUtf8 at) = ⊥
+IsKeyFault key cs (BadItem number) = ⊥
+IsKeyFault key cs (TooDeep depth) = ⊥
+IsKeyFault key cs (Outside path) = ⊥

@@ -1,20 +1,20 @@
 //! Address books of files that are opened.
-ghost use Rattle.std.specs.Prelude.{◌≡◌, All, IfOk, IfErr, T};
+ghost use Rattle.std.specs.Prelude.{◌≡◌, All, IfOk, IfErr, OnOk, T};
 ghost use Rattle.hm_tree.specs.Nodes.{are_edges};
 ghost use Rattle.hm_item_trees.specs.ItemTrees.{HasLists};
 ghost use Rattle.hm_lines.specs.Content.{IsWord};
 ghost use Rattle.hm_format.specs.Formats.{deepest};
 ghost use Rattle.hm_properties.specs.Lent.{AreLines};
-ghost use Rattle.hm_components.specs.Components.{components, HasKey, all_lines};
+ghost use Rattle.hm_components.specs.Components.{components, HasKey, all_lines, items_of};
 ghost use Rattle.hm_components.specs.Reading.{IsTreeOf};
 ghost use Rattle.hm_components.specs.Lent.{texts, layout_of, kind_of, HaveLines};
-ghost use Rattle.hm_component_files.specs.Faults.{IsBookFault};
+ghost use Rattle.hm_component_files.specs.Faults.{IsBookFault, IsKeyFault};
 ghost use Rattle.hm_component_files.specs.Written.{IsWritten, ListsRise};
 
 use hm_component_writer::rewrite;
-use hm_components::{ItemFault, Kind, Layout, tree_of};
+use hm_components::{ItemFault, Kind, Layout, items_of};
 use hm_format::FormatFault;
-use hm_item_trees::item_lists;
+use hm_item_trees::{ItemTreeFault, item_lists, item_tree};
 use hm_tree::{Memory, Name, Tree};
 use std::alloc::Global;
 
@@ -26,17 +26,37 @@ pub fn book_of(
     alloc: Global,
     key: &Name,
     shown: &[(Name, bool)],
-    layout: &Layout,
+    layout: Layout,
 ) -> Result<Tree, FormatFault>
     requires names { T (are_edges shown.now) }
-    requires lines { HaveLines layout.now.pieces.items }
-    ensures tree { IfOk result (IsTreeOf key.now shown.now (components (layout_of layout.now)) deepest) }
-    ensures fault { IfErr result (IsBookFault key.now shown.now (components (layout_of layout.now))) }
+    requires lines { HaveLines layout.pieces.items }
+    ensures tree { IfOk result (IsTreeOf key.now shown.now (components (layout_of layout.entry)) deepest) }
+    ensures fault { IfErr result (IsBookFault key.now shown.now (components (layout_of layout.entry))) }
 {
-    match tree_of(alloc, key, shown, layout, DEEPEST) {
+    let items = items(alloc, key, shown, layout)?;
+    match item_tree(alloc, items, DEEPEST) {
         Ok(tree) => Ok(tree),
+        Err(ItemTreeFault::TooDeep { depth }) => Err(FormatFault::TooDeep { depth }),
+        Err(ItemTreeFault::Memory) => Err(FormatFault::Memory),
+    }
+}
+
+// The components of a file as items. The layout is let go, so that the tree can have the room of its lines.
+fn items(
+    alloc: Global,
+    key: &Name,
+    shown: &[(Name, bool)],
+    layout: Layout,
+) -> Result<Vec<(Name, Tree)>, FormatFault>
+    requires names { T (are_edges shown.now) }
+    requires lines { HaveLines layout.pieces.items }
+    ensures items { IfOk result (λ made. made.items ≡ items_of key.now shown.now (components (layout_of layout.entry))) }
+    ensures keyed { OnOk result (All (HasKey key.now) (components (layout_of layout.entry))) }
+    ensures fault { IfErr result (IsKeyFault key.now (components (layout_of layout.entry))) }
+{
+    match items_of(alloc, key, shown, &layout) {
+        Ok(items) => Ok(items),
         Err(ItemFault::NoKey { number }) => Err(FormatFault::NoKey { number }),
-        Err(ItemFault::TooDeep { depth }) => Err(FormatFault::TooDeep { depth }),
         Err(ItemFault::Memory) => Err(FormatFault::Memory),
     }
 }

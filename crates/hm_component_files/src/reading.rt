@@ -32,7 +32,7 @@ pub fn read_book<G: Grammar>(
     let text = text_of(&unfolded)?;
     let lines = full_lines(alloc, &unfolded, text)?;
     match grammar.layout(alloc, &shown, &lines) {
-        Ok(layout) => book_of(alloc, &kind.key, &shown, &layout),
+        Ok(layout) => book_of(alloc, &kind.key, &shown, layout),
         Err(stop) => Err(fault_of(&unfolded, stop)),
     }
 }

@@ -1,4 +1,4 @@
--- The tree of a file's components, or why there is none.
+-- The items and the tree of a file's components, or why there are none.
 use Rattle.std.specs.Prelude.{◌≡◌, ℕ, ◌+◌, List, ◌∷◌, ◌++◌, length, All, Option, Some, None}
 use Rattle.hm_tree.specs.Names.{Name}
 use Rattle.hm_tree.specs.Nodes.{Tree}
@@ -6,7 +6,7 @@ use Rattle.hm_item_trees.specs.ItemTrees.{IsShallow, IsTooDeep}
 use Rattle.hm_cards.specs.Cards.{Shown}
 use Rattle.hm_components.specs.Components.{Component, HasKey, item_of, items_of}
 use Rattle.hm_components.specs.declared.fault.ItemFault.{ItemFault}
-use Rattle.hm_components.specs.declared.fault.ItemFault.TheVariants.{NoKey, TooDeep, Memory}
+use Rattle.hm_components.specs.declared.fault.ItemFault.TheVariants.{NoKey, Memory}
 
 -- the component of this number, from 1, has no key, and each before it has
 pub record IsFirstKeyless (key : Name) (cs : List Component) (number : ℕ) : Type 0 where
@@ -32,13 +32,7 @@ pub record AreTooDeep (key : Name) (shown : Shown) (cs : List Component) (deepes
   pub keyed : All (HasKey key) cs
   pub too_deep : IsTooDeep (items_of key shown cs) deepest depth
 
-abbrev pub IsItemFault : Name → Shown → List Component → ℕ → ItemFault → Type 0
-IsItemFault key shown cs deepest (NoKey number) = IsFirstKeyless key cs number
-IsItemFault key shown cs deepest (TooDeep depth) = AreTooDeep key shown cs deepest depth
-IsItemFault key shown cs deepest Memory = Unit {0}
-
--- what is told of keys alone
-abbrev pub IsKeyFault : Name → List Component → ItemFault → Type 0
-IsKeyFault key cs (NoKey number) = IsFirstKeyless key cs number
-IsKeyFault key cs (TooDeep depth) = ⊥
-IsKeyFault key cs Memory = Unit {0}
+-- why components are no items
+abbrev pub IsItemFault : Name → List Component → ItemFault → Type 0
+IsItemFault key cs (NoKey number) = IsFirstKeyless key cs number
+IsItemFault key cs Memory = Unit {0}

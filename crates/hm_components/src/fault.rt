@@ -1,17 +1,15 @@
-//! Why components have no tree.
+//! Why components are no items.
 ghost use Rattle.std.specs.Prelude.{◌≡◌};
 ghost use Rattle.hm_components.specs.declared.fault.ItemFault.TheVariants.{Memory};
 
 use hm_tree::Memory;
 use std::alloc::AllocFailed;
 
-/// Why components have no tree.
+/// Why components are no items.
 #[derive(Clone, Copy, Debug, PartialEq, Eq)]
 pub enum ItemFault {
     /// The component of this number, from 1, is the first without a key.
     NoKey { number: usize },
-    /// The tree would be deeper than allowed, and so deep.
-    TooDeep { depth: usize },
     /// There was no memory.
     Memory,
 }

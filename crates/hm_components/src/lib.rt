@@ -2,8 +2,8 @@
 //!
 //! A vCard (RFC 6350, section 6.1) and an event of a calendar (RFC 5545, section 3.6.1) are components: lines between BEGIN and
 //! END, of which those of the component's own properties show a card (`hm_properties`), and the text of one of them is its key.
-//! A file is a list of pieces: components, and between them lines of none (`specs/Components`). `tree_of` gives the tree of a
-//! file's components, or tells the first that has no key (`specs/Reading`).
+//! A file is a list of pieces: components, and between them lines of none (`specs/Components`). `items_of` gives a file's
+//! components as items, or tells the first that has no key (`specs/Reading`).
 //!
 //! Where a file is to show another tree, components survive by their keys and places, each with the lines that are to show its
 //! card; the others go, and new ones, of a certain kind, stand behind all. Every other line stays (`specs/Rewriting`).
@@ -22,5 +22,5 @@ mod stop;
 pub use component::{Component, Kind, Layout, Piece};
 pub use fault::ItemFault;
 pub use grammar::Grammar;
-pub use reading::tree_of;
+pub use reading::items_of;
 pub use stop::Stop;

@@ -1,38 +1,32 @@
-//! The tree of a file's components.
+//! The components of a file as items.
 ghost use Rattle.std.specs.Prelude.{◌≡◌, ◌++◌, ◌∷◌, [], All, IfOk, IfErr, OnOk, MatchOption, T};
 ghost use Rattle.hm_tree.specs.Nodes.{are_edges};
 ghost use Rattle.hm_properties.specs.Lent.{AreLines};
 ghost use Rattle.hm_components.specs.Components as spec;
-ghost use Rattle.hm_components.specs.Reading.{IsItem, IsTreeOf, IsKeyFault, IsItemFault};
+ghost use Rattle.hm_components.specs.Reading.{IsItem, IsItemFault};
 ghost use Rattle.hm_components.specs.Lent.{component_of, layout_of, pieces_of, HaveLines};
 
 use crate::component::{Component, Layout, Piece};
 use crate::fault::ItemFault;
-use hm_item_trees::{ItemTreeFault, item_tree};
 use hm_properties::{card_of, key_of};
 use hm_tree::{Memory, Name, Tree};
 use std::alloc::Global;
 
-/// The tree of the components of a file, which are its items: the text of a property is the key of each, and some properties
-/// are shown, whose names rise.
-pub fn tree_of(
+/// The components of a file as its items, in their order: the text of a property is the key of each, and some properties are
+/// shown, whose names rise.
+pub fn items_of(
     alloc: Global,
     key: &Name,
     shown: &[(Name, bool)],
     layout: &Layout,
-    deepest: usize,
-) -> Result<Tree, ItemFault>
+) -> Result<Vec<(Name, Tree)>, ItemFault>
     requires names { T (are_edges shown.now) }
     requires lines { HaveLines layout.now.pieces.items }
-    ensures tree { IfOk result (IsTreeOf key.now shown.now (spec.components (layout_of layout.now)) deepest) }
-    ensures fault { IfErr result (IsItemFault key.now shown.now (spec.components (layout_of layout.now)) deepest) }
+    ensures items { IfOk result (λ items. items.items ≡ spec.items_of key.now shown.now (spec.components (layout_of layout.now))) }
+    ensures keyed { OnOk result (All (spec.HasKey key.now) (spec.components (layout_of layout.now))) }
+    ensures fault { IfErr result (IsItemFault key.now (spec.components (layout_of layout.now))) }
 {
-    let items = items(alloc, key, shown, &layout.pieces)?;
-    match item_tree(alloc, items, deepest) {
-        Ok(tree) => Ok(tree),
-        Err(ItemTreeFault::TooDeep { depth }) => Err(ItemFault::TooDeep { depth }),
-        Err(ItemTreeFault::Memory) => Err(ItemFault::Memory),
-    }
+    items(alloc, key, shown, &layout.pieces)
 }
 
 // The components among pieces as items, in their order, if each has a key.
@@ -46,7 +40,7 @@ fn items(
     requires lines { HaveLines pieces.now }
     ensures items { IfOk result (λ items. items.items ≡ spec.items_of key.now shown.now (spec.components_of (pieces_of pieces.now))) }
     ensures keyed { IfOk result (λ items. All (spec.HasKey key.now) (spec.components_of (pieces_of pieces.now))) }
-    ensures keyless { IfErr result (IsKeyFault key.now (spec.components_of (pieces_of pieces.now))) }
+    ensures keyless { IfErr result (IsItemFault key.now (spec.components_of (pieces_of pieces.now))) }
 {
     let mut items = Vec::new(alloc);
     for place in 0..pieces.len() {

@@ -8,8 +8,8 @@ ghost use Rattle.hm_components.specs.Lent.{texts, component_of, piece_of, layout
 ghost use Rattle.hm_format_cases.specs.Shown.{one_property};
 
 use hm_component_writer::rewrite;
-use hm_components::{Component, Kind, Layout, Piece, tree_of};
-use hm_item_trees::item_lists;
+use hm_components::{Component, Kind, Layout, Piece, items_of};
+use hm_item_trees::{item_lists, item_tree};
 use hm_lines::parts;
 use hm_properties::Line;
 use hm_tree::Name;
@@ -132,11 +132,14 @@ fn written<'a>(
     };
     let kind = kind(alloc)?;
     let shown = shown(alloc)?;
-    let Ok(_) = tree_of(alloc, &kind.key, &shown, &old, 100) else {
+    let Ok(_) = items_of(alloc, &kind.key, &shown, &old) else {
         return Err("a component has no key".into());
     };
-    let Ok(tree) = tree_of(alloc, &kind.key, &shown, &new, 100) else {
+    let Ok(items) = items_of(alloc, &kind.key, &shown, &new) else {
         return Err("a component has no key".into());
+    };
+    let Ok(tree) = item_tree(alloc, items, 100) else {
+        return Err("the tree is too deep".into());
     };
     let lists = item_lists(alloc, &tree)?;
     let lines = lines_of(alloc, &old)?;
