@@ -17,10 +17,12 @@ mod component;
 mod fault;
 mod grammar;
 mod reading;
+mod room;
 mod stop;
 
 pub use component::{Component, Kind, Layout, Piece};
 pub use fault::ItemFault;
 pub use grammar::Grammar;
 pub use reading::items_of;
+pub use room::room_for;
 pub use stop::Stop;

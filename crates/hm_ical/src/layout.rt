@@ -59,7 +59,8 @@ fn pieces<'a>(
     let mut pieces = Vec::new(alloc);
     let mut at = Place::Before;
     for place in 0..lines.len() {
-        match step(alloc, singles, &mut pieces, at, lines[place])? {
+        let (_, left) = lines.split_at(place);
+        match step(alloc, singles, &mut pieces, at, lines[place], left)? {
             Some(to) => at = to,
             None => return Err(Stop::At(place)),
         }
@@ -70,13 +71,14 @@ fn pieces<'a>(
     }
 }
 
-// Where a line leads, if it fits; puts the piece that it's of or ends behind others.
+// Where a line leads, if it fits, with which some lines begin; puts the piece that it's of or ends behind others.
 fn step<'a>(
     alloc: Global,
     singles: &[(Name, bool)],
     pieces: &mut Vec<Piece<'a>>,
     from: Place<'a>,
     line: &'a str,
+    left: &[&str],
 ) -> Result<Option<Place<'a>>, Memory>
     requires { spec.AreSound (place_of from) }
     ensures { IfOk result (λ to. spec.IsStep singles.now (place_of from.entry) line.now (pieces_of pieces.old.items) (pieces_of pieces.new.items) (option_map place_of to)) }
@@ -84,7 +86,7 @@ fn step<'a>(
     let Some(kind) = kind_of(line) else {
         return Ok(None);
     };
-    let Some(Step { to, piece }) = next(alloc, singles, from, line, kind)? else {
+    let Some(Step { to, piece }) = next(alloc, singles, from, line, kind, left)? else {
         return Ok(None);
     };
     if let Some(piece) = piece {

@@ -9,18 +9,20 @@ ghost use Rattle.hm_ical.specs.Lent.{kind_of, names_of, place_of, step_of, steps
 
 use crate::line::{LineKind, is_same};
 use crate::place::{Place, Step};
-use hm_components::{Component, Piece};
+use hm_components::{Component, Piece, room_for};
 use hm_properties::{Line, is_second};
 use hm_tree::{Memory, Name};
 use std::alloc::Global;
 
-/// Where a line of a kind leads from a place, if it fits there; some properties may have one text alone.
+/// Where a line of a kind leads from a place, if it fits there; some properties may have one text alone. Of the lines that are
+/// left, this one first, it's told how much room an event takes.
 pub(crate) fn next<'a>(
     alloc: Global,
     singles: &[(Name, bool)],
     from: Place<'a>,
     line: &'a str,
     kind: LineKind<'a>,
+    left: &[&str],
 ) -> Result<Option<Step<'a>>, Memory>
     requires sound { spec.AreSound (place_of from) }
     requires is { spec.IsKind line.now (kind_of kind) }
@@ -29,7 +31,7 @@ pub(crate) fn next<'a>(
     match from {
         Place::Before => Ok(from_start(line, kind)),
         Place::Behind => Ok(None),
-        Place::Calendar { told } => in_calendar(alloc, told, line, kind),
+        Place::Calendar { told } => in_calendar(alloc, told, line, kind, left),
         Place::Event { lines, names } => in_event(alloc, singles, lines, names, line, kind),
         Place::Component { name, around } => in_component(name, around, line, kind),
     }
@@ -53,6 +55,7 @@ fn in_calendar<'a>(
     told: bool,
     line: &'a str,
     kind: LineKind<'a>,
+    left: &[&str],
 ) -> Result<Option<Step<'a>>, Memory>
     ensures { IfOk result (λ step. steps_of step ≡ spec.in_calendar told line.now (kind_of kind.entry)) }
 {
@@ -63,7 +66,7 @@ fn in_calendar<'a>(
                 told: told || is_same(line, "VERSION:2.0"),
             },
         ))),
-        LineKind::Begin(name) if told => Ok(Some(into_component(alloc, line, name)?)),
+        LineKind::Begin(name) if told => Ok(Some(into_component(alloc, line, name, left)?)),
         LineKind::End(name) if told && is_same(name, "VCALENDAR") => {
             Ok(Some(Step::to(Place::Behind)))
         }
@@ -72,16 +75,20 @@ fn in_calendar<'a>(
 }
 
 // Into the component of a name that a line begins.
-fn into_component<'a>(alloc: Global, line: &'a str, name: &'a str) -> Result<Step<'a>, Memory>
+fn into_component<'a>(
+    alloc: Global,
+    line: &'a str,
+    name: &'a str,
+    left: &[&str],
+) -> Result<Step<'a>, Memory>
     ensures { IfOk result (λ step. Some (step_of step) ≡ spec.into_component line.now name.now) }
 {
     if is_same(name, "VEVENT") {
-        let lines = vec![in alloc;
-            Line {
-                text: line,
-                parts: None
-            },
-        ]?;
+        let mut lines = room_for(alloc, left, "END:VEVENT")?;
+        lines.push(Line {
+            text: line,
+            parts: None,
+        })?;
         return Ok(Step::to(Place::Event {
             lines,
             names: Vec::new(alloc),

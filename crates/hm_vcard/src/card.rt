@@ -1,5 +1,5 @@
 //! Cards by their lines.
-ghost use Rattle.std.specs.Prelude.{◌≡◌, IfOk, length};
+ghost use Rattle.std.specs.Prelude.{◌≡◌, None, IfOk, length};
 ghost use Rattle.hm_properties.specs.Lent.{AreLines};
 ghost use Rattle.hm_components.specs.Lent.{component_of};
 ghost use Rattle.hm_vcard.specs.Cards.{lines_of, component_with};
@@ -8,7 +8,6 @@ ghost use Rattle.hm_vcard.specs.Lent.{card_lines};
 use hm_components::Component;
 use hm_properties::Line;
 use hm_tree::Memory;
-use std::alloc::Global;
 
 /// The lines of a card, unfolded and without their ends.
 #[derive(Drop)]
@@ -29,24 +28,25 @@ impl<'a> Card<'a> {
     }
 
     /// The card as a component of a file.
-    pub fn component(&self, alloc: Global) -> Result<Component<'a>, Memory>
-        requires { AreLines self.now.properties.items }
-        ensures component { IfOk result (λ made. component_of made ≡ component_with (card_lines self.now)) }
+    pub fn into_component(self) -> Result<Component<'a>, Memory>
+        requires { AreLines self.properties.items }
+        ensures component { IfOk result (λ made. component_of made ≡ component_with (card_lines self.entry)) }
         ensures lines { IfOk result (λ made. AreLines made.lines.items) }
     {
-        let mut lines = Vec::with_capacity(alloc, self.properties.len() + 2)?;
-        lines.push(Line {
-            text: self.begin,
-            parts: None,
-        })?;
-        lines.push(Line {
-            text: self.version,
-            parts: None,
-        })?;
-        lines.extend_from_slice(&self.properties)?;
+        let mut lines = self.properties;
+        lines.insert(0, frame_line(self.version))?;
+        lines.insert(0, frame_line(self.begin))?;
         Ok(Component {
             lines,
             end: self.end,
         })
     }
+}
+
+// A line that is no property.
+fn frame_line(text: &str) -> Line
+    ensures text { result.text.now ≡ text.now }
+    ensures parts { result.parts ≡ None }
+{
+    Line { text, parts: None }
 }

@@ -37,8 +37,8 @@ fn all_of<'a>(alloc: Global, lines: &[&'a str]) -> Result<Vec<Piece<'a>>, Stop>
     let mut from = 0;
     while from < lines.len() {
         let card = card_at(alloc, &single, lines, from)?;
-        pieces.push(Piece::Item(card.component(alloc)?))?;
         from += card.count();
+        pieces.push(Piece::Item(card.into_component()?))?;
     }
     Ok(pieces)
 }
@@ -84,7 +84,7 @@ fn first_card<'a>(
     let begin = line_at(lines, 0, "BEGIN:VCARD")?;
     let version = line_at(lines, 1, "VERSION:4.0")?;
     let (_, others) = lines.split_at(2);
-    let properties = properties(alloc, others)?;
+    let properties = properties(alloc, others, lines)?;
     if let Some(place) = second_of(alloc, single, &properties)? {
         return Err(Stop::At(place + 2));
     }

@@ -6,18 +6,23 @@ ghost use Rattle.hm_components.specs.Lent.{texts};
 ghost use Rattle.hm_vcard.specs.Cards.{IsProperty, is_frame};
 ghost use Rattle.hm_vcard.specs.Opening.{IsOther, IsPropertyOf, EndsAt};
 
+use hm_components::room_for;
 use hm_lines::{LineParts, parts};
 use hm_properties::Line;
 use hm_tree::Memory;
 use std::alloc::Global;
 
-/// The lines of properties in front of some lines.
-pub fn properties<'a>(alloc: Global, lines: &[&'a str]) -> Result<Vec<Line<'a>>, Memory>
+/// The lines of properties in front of some lines, with room for all lines of the card in front of others.
+pub fn properties<'a>(
+    alloc: Global,
+    lines: &[&'a str],
+    card: &[&str],
+) -> Result<Vec<Line<'a>>, Memory>
     ensures front { IfOk result (λ found. plain (lent found.items) ≡ take (length found.items) (texts lines.now)) }
     ensures each { IfOk result (λ found. All IsProperty (lent found.items)) }
     ensures all { IfOk result (λ found. EndsAt (texts lines.now) (length found.items)) }
 {
-    let mut found = Vec::new(alloc);
+    let mut found = room_for(alloc, card, "END:VCARD")?;
     for place in 0..lines.len() {
         match property(lines[place]) {
             Some(line) => found.push(line)?,

@@ -12,8 +12,8 @@ use Rattle.hm_vcard.proofs.LentLines.{are_lines}
 use Rattle.hm_vcard.proofs.CardLists.{front_more, within_more}
 use Rattle.hm_vcard.proofs.opening.all_of.Goals as goal
 
-pub component-requires : goal.component-requires
-component-requires c = are_lines c.in_ok-card.card.properties.items c.in_ok-card.ensures.card.is.properties
+pub into_component-requires : goal.into_component-requires
+into_component-requires c = are_lines c.in_ok-card.card.properties.items c.in_ok-card.ensures.card.is.properties
 
 pub loop-from-preserved : goal.loop-from-preserved
 loop-from-preserved c =
@@ -23,16 +23,16 @@ loop-from-preserved c =
     let pieces = c.loop-from.pieces.items in
     let card = card_lines c.in_ok-card.card in
     let front = c.in_ok-card.ensures.card in
-    let made = c.in_ok-component.field-0 in
+    let made = c.in_ok-into_component.field-0 in
     let pushed : pieces_of c.push.new.self.items ≡ pieces_of pieces ++ item (component_with card) ∷ []
     = ap pieces_of c.in_ok-push.ensures.items ∙ map-append piece_of pieces (Item made ∷ [])
-    ∙ ap (λ m. pieces_of pieces ++ item m ∷ []) c.in_ok-component.ensures.component in
+    ∙ ap (λ m. pieces_of pieces ++ item m ∷ []) c.in_ok-into_component.ensures.component in
     let count = c.count.ensures in
     record {
       single = inv.single;
       front = subst (λ n. AreFront L (from + n) (pieces_of c.push.new.self.items)) (sym count)
           (front_more L from (pieces_of pieces) inv.front card front (pieces_of c.push.new.self.items) pushed);
-      lines = subst HaveLines (sym c.in_ok-push.ensures.items) (All-push HasLines pieces (Item made) inv.lines c.in_ok-component.ensures.lines);
+      lines = subst HaveLines (sym c.in_ok-push.ensures.items) (All-push HasLines pieces (Item made) inv.lines c.in_ok-into_component.ensures.lines);
       within =
           let w = within_more L from (pieces_of pieces) inv.front card front in
           let long = length-map c.args.lines.now (λ (l : Bor Bytes). l.now) in
