@@ -1,21 +1,18 @@
 -- What is read of a file is an address book.
-use Rattle.std.proofs.Common.{◌≡◌, ◌≢◌, ℕ, ◌<◌, true, false, ◌||◌, List, [], ◌∷◌, get_or, refl, ap, ◌∙◌, arith}
+use Rattle.std.proofs.Common.{◌≡◌, ◌≢◌, ℕ, true, false, ◌||◌, List, [], ◌∷◌, get_or, refl, ap, ◌∙◌}
 use Rattle.std.specs.Prelude.{All, IsTrue, IsUtf8}
 use Rattle.std.specs.List.{list_any}
 use Rattle.std.specs.Ordering.{eq_by_cmp, is_eq}
 use Rattle.std.specs.FinSet.{contains, from_list, contains-from_list}
 use Rattle.std.proofs.lemmas.Cmp.{tied_itself}
-use Rattle.std.proofs.lemmas.Bool.Decides.{nat_tests}
 use Rattle.std.proofs.lemmas.List.Elements.{All-nil, All-cons, All-map}
-use Rattle.std.proofs.lemmas.Str.{IsUtf8-from_ascii}
-use Rattle.std.proofs.lemmas.Str.Ascii.{IsAscii-from_all}
 use Rattle.hm_tree.specs.Names.{Name, name_cmp}
 use Rattle.hm_tree.specs.Nodes.{Tree, edges_cons}
 use Rattle.hm_tree.specs.Classes.{IsFilled}
 use Rattle.hm_tree.proofs.Sorted.{name_total}
 use Rattle.hm_tree.proofs.Texts.{text_test}
 use Rattle.hm_schema.specs.Values.{OptionsValue}
-use Rattle.hm_lines.specs.Content.{is_of_word, IsWord}
+use Rattle.hm_lines.specs.Content.{IsWord}
 use Rattle.hm_cards.specs.Cards.{Shown, IsCard}
 use Rattle.hm_cards.specs.Books as books
 use Rattle.hm_cards.proofs.Laws.{items_book, card_again}

@@ -1,7 +1,6 @@
 -- A file that is opened under options, of which the grammar gives the layout.
-use Rattle.std.proofs.Common.{◌≡◌, ℕ, T, List, Result, Ok, Err, sym, ap, ◌∙◌, subst}
+use Rattle.std.proofs.Common.{◌≡◌, T, List, Result, sym, ap, ◌∙◌, subst}
 use Rattle.std.specs.Prelude.{IfOk, IfErr}
-use Rattle.hm_tree.specs.Names.{Name}
 use Rattle.hm_tree.specs.Nodes.{Tree, are_edges}
 use Rattle.hm_schema.specs.Values.{OptionsValue}
 use Rattle.hm_lines.specs.Unfolding.{unfolded, lines}
@@ -14,7 +13,6 @@ use Rattle.hm_components.specs.Reading.{IsTreeOf}
 use Rattle.hm_components.specs.Forms.{Form, shown_by, shown_of}
 use Rattle.hm_components.specs.FormLaws.{IsForm}
 use Rattle.hm_components.specs.Files.{full, lines_in}
-use Rattle.hm_components.specs.Stops.{AreOf}
 use Rattle.hm_components.proofs.ShownProperties.{shown_properties}
 use Rattle.hm_component_files.specs.Faults.{IsBookFault}
 use Rattle.hm_component_files.specs.Written.{IsWritten}

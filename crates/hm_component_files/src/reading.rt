@@ -1,18 +1,22 @@
 //! Reading a file of a form as an address book.
-ghost use Rattle.hm_schema.specs.Values.{options_value};
+ghost use Rattle.std.specs.Prelude.{◌≡◌, IfOk, IfErr};
+ghost use Rattle.hm_schema.specs.Values.{options_value, OptionsValue};
 ghost use Rattle.hm_format.specs.Formats.{MayRead};
 ghost use Rattle.hm_format.specs.Answers.{Reads};
 ghost use Rattle.hm_components.specs.Writing.{meaning_of};
+ghost use Rattle.hm_components.specs.Forms.{shown_of};
+ghost use Rattle.hm_components.specs.Stops.{AreOf, IsStop};
+ghost use Rattle.hm_components.specs.Lent.{texts, layout_of, HaveLines};
 ghost use Rattle.hm_components.specs.Files as files;
 
 use crate::book::book_of;
 use crate::opening::{fault_of, full_lines, text_of};
 use crate::options::shown_by;
-use hm_components::Grammar;
+use hm_components::{Grammar, Layout, Stop};
 use hm_format::FormatFault;
 use hm_lines::Unfolded;
 use hm_schema::Options;
-use hm_tree::Tree;
+use hm_tree::{Name, Tree};
 use std::alloc::Global;
 
 /// The address book of a file of a form, or why it has none.
@@ -31,8 +35,22 @@ pub fn read_book<G: Grammar>(
     let unfolded = Unfolded::new(alloc, bytes)?;
     let text = text_of(&unfolded)?;
     let lines = full_lines(alloc, &unfolded, text)?;
-    match grammar.layout(alloc, &shown, &lines) {
+    match laid_out(alloc, grammar, &shown, lines) {
         Ok(layout) => book_of(alloc, &kind.key, &shown, layout),
         Err(stop) => Err(fault_of(&unfolded, stop)),
     }
+}
+
+// The layout of lines, whose list is let go.
+fn laid_out<'a, G: Grammar>(
+    alloc: Global,
+    grammar: &G,
+    shown: &[(Name, bool)],
+    lines: Vec<&'a str>,
+) -> Result<Layout<'a>, Stop>
+    ensures layout { (o : OptionsValue) → shown.now ≡ shown_of (G.form grammar.now) o → IfOk result (λ found. AreOf (G.form grammar.now) o (texts lines.entry.items) (layout_of found)) }
+    ensures lines { IfOk result (λ found. HaveLines found.pieces.items) }
+    ensures stop { (o : OptionsValue) → shown.now ≡ shown_of (G.form grammar.now) o → IfErr result (IsStop (G.form grammar.now) o (texts lines.entry.items)) }
+{
+    grammar.layout(alloc, shown, &lines)
 }

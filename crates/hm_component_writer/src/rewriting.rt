@@ -48,7 +48,7 @@ pub fn rewrite<'a>(
     let mut writer = Writer::new(alloc, lines)?;
     append_old(alloc, kind, shown, &layout.pieces, &mut trees, &mut writer)?;
     append_new(alloc, kind, shown, &trees, &mut writer)?;
-    writer.append_all(layout.end)?;
+    writer.append_all(&layout.end)?;
     Ok(writer.finish())
 }
 

@@ -24,7 +24,7 @@ abbrev pub pieces_of : List Piece → List plain.Piece
 pieces_of ps = map piece_of ps
 
 abbrev pub layout_of : Layout → plain.Layout
-layout_of l = record { pieces = pieces_of l.pieces.items; end = texts l.end.now }
+layout_of l = record { pieces = pieces_of l.pieces.items; end = texts l.end.items }
 
 abbrev pub kind_of : Kind → plain_rewriting.Kind
 kind_of k = record { key = k.key; front = lent k.front.items; more = lent k.more.items; end = k.end.now }

@@ -23,7 +23,7 @@ pub enum Piece<'a> {
 pub struct Layout<'a> {
     pub pieces: Vec<Piece<'a>>,
     /// The lines before which new components stand.
-    pub end: &'a [&'a str],
+    pub end: Vec<&'a str>,
 }
 
 /// What a new component has.

@@ -38,7 +38,7 @@ pub trait Grammar {
         &self,
         alloc: Global,
         shown: &[(Name, bool)],
-        lines: &'a [&'a str],
+        lines: &[&'a str],
     ) -> Result<Layout<'a>, Stop>
         ensures layout { (o : OptionsValue) → shown.now ≡ shown_of (form self.now) o → IfOk result (λ found. AreOf (form self.now) o (texts lines.now) (layout_of found)) }
         ensures lines { IfOk result (λ found. HaveLines found.pieces.items) }

@@ -89,7 +89,7 @@ fn lines_of<'a>(alloc: Global, layout: &Layout<'a>) -> Result<Vec<&'a str>, Fail
     for piece in &layout.pieces {
         append(&mut lines, piece)?;
     }
-    for line in layout.end {
+    for line in &layout.end {
         lines.push(*line)?;
     }
     Ok(lines)
@@ -121,14 +121,13 @@ fn written<'a>(
     before: &[&[&'a str]],
     other: &[&[&'a str]],
 ) -> Result<Option<Vec<u8>>, Fail> {
-    let end: &'static [&'static str] = &["Z"];
     let old = Layout {
         pieces: pieces(alloc, before)?,
-        end,
+        end: vec![in alloc; "Z"]?,
     };
     let new = Layout {
         pieces: pieces(alloc, other)?,
-        end,
+        end: vec![in alloc; "Z"]?,
     };
     let kind = kind(alloc)?;
     let shown = shown(alloc)?;

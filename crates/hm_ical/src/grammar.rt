@@ -47,7 +47,7 @@ impl Grammar for Calendars {
         &self,
         alloc: Global,
         shown: &[(Name, bool)],
-        lines: &'a [&'a str],
+        lines: &[&'a str],
     ) -> Result<Layout<'a>, Stop> {
         layout_of(alloc, shown, lines)
     }

@@ -22,7 +22,7 @@ use std::alloc::Global;
 pub fn layout_of<'a>(
     alloc: Global,
     shown: &[(Name, bool)],
-    lines: &'a [&'a str],
+    lines: &[&'a str],
 ) -> Result<Layout<'a>, Stop>
     ensures layout { (o : OptionsValue) → shown.now ≡ shown_of ical o → IfOk result (λ l. AreOf ical o (texts lines.now) (layout_of l)) }
     ensures lines { IfOk result (λ l. HaveLines l.pieces.items) }
@@ -32,7 +32,7 @@ pub fn layout_of<'a>(
     let pieces = pieces(alloc, &singles, lines)?;
     Ok(Layout {
         pieces,
-        end: last(lines),
+        end: last(alloc, lines)?,
     })
 }
 
@@ -95,11 +95,11 @@ fn step<'a>(
     Ok(Some(to))
 }
 
-// The last of some lines.
-fn last<'a>(lines: &'a [&'a str]) -> &'a [&'a str]
+// The last of some lines, alone.
+fn last<'a>(alloc: Global, lines: &[&'a str]) -> Result<Vec<&'a str>, Memory>
     requires { 0 < length lines.now }
-    ensures { result.now ≡ drop (length lines.now - 1) lines.now }
+    ensures { IfOk result (λ last. last.items ≡ drop (length lines.now - 1) lines.now) }
 {
     let (_, last) = lines.split_at(lines.len() - 1);
-    last
+    Ok(Vec::from_slice(alloc, last)?)
 }

@@ -44,7 +44,7 @@ impl Grammar for VCards {
         &self,
         alloc: Global,
         _shown: &[(Name, bool)],
-        lines: &'a [&'a str],
+        lines: &[&'a str],
     ) -> Result<Layout<'a>, Stop> {
         cards_in(alloc, lines)
     }

@@ -22,7 +22,7 @@ pub(crate) fn cards_in<'a>(alloc: Global, lines: &[&'a str]) -> Result<Layout<'a
 {
     Ok(Layout {
         pieces: all_of(alloc, lines)?,
-        end: &[],
+        end: Vec::new(alloc),
     })
 }
 

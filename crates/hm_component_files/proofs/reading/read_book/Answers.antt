@@ -1,9 +1,8 @@
-use Rattle.std.proofs.Common.{List, ap, sym, subst, ◌∙◌}
+use Rattle.std.proofs.Common.{List, subst, ◌∙◌}
 use Rattle.std.specs.Prelude.{IsUtf8}
 use Rattle.hm_lines.specs.Unfolding.{lines as lines_of_bytes}
 use Rattle.hm_component_files.specs.Faults.{IsFaultOf}
 use Rattle.hm_schema.specs.Values.{options_value}
-use Rattle.hm_cards.specs.Cards.{Shown}
 use Rattle.hm_components.specs.Components.{Bytes, components}
 use Rattle.hm_components.specs.Lent.{texts, layout_of, kind_of}
 use Rattle.hm_components.specs.Stops.{AreOf, IsStop}
@@ -25,8 +24,7 @@ returns-in-Ok g c =
     let bytes = c.args.bytes.now in
     let shown = shown_is f o c.in_ok-properties.field-0.items c.deref.result.now c.in_ok-shown.shown.items c.in_ok-properties.ensures c.deref.ensures.value c.in_ok-shown.ensures in
     let layout = layout_of c.in-Ok.layout in
-    let lines = ap texts c.deref-3.ensures.value
-    ∙ lines_are bytes c.in_ok-unfolded.unfolded (texts c.in_ok-lines.lines.items) c.in_ok-unfolded.ensures c.in_ok-lines.ensures in
+    let lines = lines_are bytes c.in_ok-unfolded.unfolded (texts c.in_ok-lines.lines.items) c.in_ok-unfolded.ensures c.in_ok-lines.ensures in
     let are = subst (λ (ls : List Bytes). AreOf f o ls layout) lines (c.in-Ok.ensures.layout o (c.deref-2.ensures.value ∙ shown)) in
     let kind = kind_of c.in_ok-kind.kind in
     let lent = c.deref-in-Ok.ensures.value ∙ shown in
@@ -40,8 +38,7 @@ returns g c =
     let o = options_value c.args.options.now in
     let bytes = c.args.bytes.now in
     let shown = shown_is f o c.in_ok-properties.field-0.items c.deref.result.now c.in_ok-shown.shown.items c.in_ok-properties.ensures c.deref.ensures.value c.in_ok-shown.ensures in
-    let lines = ap texts c.deref-3.ensures.value
-    ∙ lines_are bytes c.in_ok-unfolded.unfolded (texts c.in_ok-lines.lines.items) c.in_ok-unfolded.ensures c.in_ok-lines.ensures in
+    let lines = lines_are bytes c.in_ok-unfolded.unfolded (texts c.in_ok-lines.lines.items) c.in_ok-unfolded.ensures c.in_ok-lines.ensures in
     let stop = subst (λ (ls : List Bytes). IsStop f o ls c.in-Err.stop) lines (c.in-Err.ensures.stop o (c.deref-2.ensures.value ∙ shown)) in
     stop_read f o bytes (subst IsUtf8 c.in_ok-unfolded.ensures c.in_ok-text.ensures.utf8) c.tag-tag.ensures.lawful c.in-Err.stop stop c.fault_of.result
     (subst (λ (b : Bytes). IsFaultOf (lines_of_bytes b) c.in-Err.stop c.fault_of.result) c.in_ok-unfolded.ensures c.fault_of.ensures)

@@ -1,6 +1,5 @@
 use Rattle.std.proofs.Common.{List, ap, subst, ◌∙◌, arith}
 use Rattle.hm_schema.specs.Values.{options_value}
-use Rattle.hm_cards.specs.Cards.{Shown}
 use Rattle.hm_components.specs.Components.{Bytes}
 use Rattle.hm_components.specs.Lent.{texts, layout_of, kind_of}
 use Rattle.hm_components.specs.Stops.{AreOf}

@@ -1,5 +1,6 @@
 use Rattle.std.proofs.Common.{◌≡◌, ◌≢◌, List, [], ◌++◌, ap, sym, subst, ◌∙◌}
 use Rattle.std.specs.Prelude.{MatchOption}
+use Rattle.std.specs.Borrow.{Bor}
 use Rattle.std.specs.List.{flat_map}
 use Rattle.std.proofs.lemmas.List.Concat.{flat_map-append}
 use Rattle.hm_tree.specs.Names.{name_cmp}
@@ -32,7 +33,8 @@ returns c =
     let one : Extends w c.append_old.new.writer kept = c.in_ok-append_old.ensures.lines lists c.in_ok-trees.ensures in
     let two : Extends c.append_old.new.writer c.append_new.new.writer more =
     c.in_ok-append_new.ensures lists cs (c.in_ok-append_old.ensures.taken lists c.in_ok-trees.ensures) in
-    let three : Extends c.append_new.new.writer c.append_all.new.self old.end = c.in_ok-append_all.ensures in
+    let three : Extends c.append_new.new.writer c.append_all.new.self old.end =
+    subst (λ (ls : List (Bor Bytes)). Extends c.append_new.new.writer c.append_all.new.self (texts ls)) c.deref-2.ensures.value c.in_ok-append_all.ensures in
     let all = extends_more w c.append_new.new.writer c.append_all.new.self (kept ++ more) old.end (extends_more w c.append_old.new.writer c.append_new.new.writer kept more one two) three in
     let h : HasWritten c.append_all.new.self (texts c.args.lines.now) new =
     subst (HasWritten c.append_all.new.self (texts c.args.lines.now)) same (all (texts c.args.lines.now) [] c.in_ok-writer.ensures) in

@@ -25,7 +25,7 @@ returns-clause-layout c = λ o e.
     let pieces = c.in_ok-pieces.pieces.items in
     let few = c.deref.ensures.value ∙ c.in_ok-singles.ensures in
     let run = subst (λ (s : Shown). Runs s before (texts lines) (pieces_of pieces) behind) few c.in_ok-pieces.ensures.pieces in
-    subst (λ (end : List (Bor Bytes)). AreOf ical o (texts lines) (record { pieces = pieces_of pieces; end = texts end })) (sym c.last.ensures)
+    subst (λ (end : List (Bor Bytes)). AreOf ical o (texts lines) (record { pieces = pieces_of pieces; end = texts end })) (sym c.in_ok-last.ensures)
     (are_of c.args.shown.now lines pieces run o e)
 
 pub returns-clause-lines : goal.returns-clause-lines

@@ -1,6 +1,8 @@
-use Rattle.std.proofs.Common.{[], refl}
+use Rattle.std.proofs.Common.{List, [], refl, sym, subst}
+use Rattle.std.specs.Borrow.{Bor}
 use Rattle.hm_components.specs.Lent.{texts, pieces_of}
-use Rattle.hm_components.specs.Stops.{IsStop}
+use Rattle.hm_components.specs.Components.{Bytes}
+use Rattle.hm_components.specs.Stops.{AreOf, IsStop}
 use Rattle.hm_vcard.specs.Cards.{vcards}
 use Rattle.hm_vcard.proofs.FirstStops.{passed}
 use Rattle.hm_vcard.proofs.FileStops.{stop_told, layout_told}
@@ -12,4 +14,8 @@ returns-in_err-all_of-clause-stop c o =
     (stop_told o (texts c.args.lines.now) c.in_err-all_of.field-0.0 c.in_err-all_of.ensures.stop)
 
 pub returns-clause-layout : goal.returns-clause-layout
-returns-clause-layout c o = layout_told o (texts c.args.lines.now) (record { pieces = pieces_of c.in_ok-all_of.field-0.items; end = [] }) c.in_ok-all_of.ensures.cards refl
+returns-clause-layout c o =
+    let lines = texts c.args.lines.now in
+    let pieces = pieces_of c.in_ok-all_of.field-0.items in
+    subst (λ (end : List (Bor Bytes)). AreOf vcards o lines (record { pieces = pieces; end = texts end })) (sym c.new.ensures.items)
+    (layout_told o lines (record { pieces = pieces; end = [] }) c.in_ok-all_of.ensures.cards refl)
