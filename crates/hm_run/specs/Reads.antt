@@ -12,6 +12,7 @@ use Rattle.hm_schema_text.specs.declared.fault.SchemaFault.{SchemaFault}
 use Rattle.hm_schema_text.specs.declared.fault.SchemaFault.TheVariants as schema
 use Rattle.hm_node_laws.specs.Standing.{Alike}
 use Rattle.hm_types.specs.Checks.{Trees}
+use Rattle.hm_replica.specs.declared.base.Base.{Base}
 use Rattle.hm_replica.specs.Replicas.{ReplicaValue, replica_value}
 use Rattle.hm_files.specs.declared.slot.Slot.{Slot}
 use Rattle.hm_files.specs.declared.slot.Slot.TheVariants as slot
@@ -23,11 +24,12 @@ use Rattle.hm_files.specs.declared.stop.Stop.{Stop}
 use Rattle.hm_files.specs.declared.stop.Stop.TheVariants.{Refused, Memory}
 use Rattle.hm_files.specs.Steps.{Then, Told}
 use Rattle.hm_sides.specs.Sides.{SideValue, side_value, OpensSide, ChecksView, IsSide}
-use Rattle.hm_sides.specs.SideReplicas.{OpensOn, IsReplicaOn}
+use Rattle.hm_sides.specs.SideReplicas.{OpensOn, IsReplicaOn, IsBaseOn}
 use Rattle.hm_run.specs.Handed.{Handed}
 use Rattle.hm_run.specs.declared.read.Inputs.{Inputs}
 use Rattle.hm_run.specs.declared.read.SidePair.{SidePair}
 use Rattle.hm_run.specs.declared.read.ReplicaPair.{ReplicaPair}
+use Rattle.hm_run.specs.declared.read.BasePair.{BasePair}
 
 -- the faults of readers, as what stops a run
 abbrev pub schema_stop : SchemaFault → Stop
@@ -116,6 +118,17 @@ pub record MayClose (h : Handed) (side : SideValue) (replica : ReplicaValue) (sh
   pub is_side : IsSide h.means_of h.formats h.texts side
   pub on_side : IsReplicaOn h.means_of h.formats h.texts side replica
   pub member : Trees side.typed.view shown
+
+-- the same over what new views of a replica are put over
+pub record MayCloseOver (h : Handed) (side : SideValue) (base : Base) (shown : Tree) : Type 0 where
+  pub is_side : IsSide h.means_of h.formats h.texts side
+  pub over : (r : ReplicaValue) × IsBaseOn h.means_of h.formats h.texts side r base
+  pub member : Trees side.typed.view shown
+
+-- new views of replicas are put over these
+pub record AreBases (h : Handed) (sides : Sides) (replicas : Replicas) (bases : BasePair) : Type 0 where
+  pub left : IsBaseOn h.means_of h.formats h.texts sides.left replicas.left bases.left
+  pub right : IsBaseOn h.means_of h.formats h.texts sides.right replicas.right bases.right
 
 -- the replicas are those of sides that serve the schema, of which their views are members
 pub record AreOpened (h : Handed) (b : Before) : Type 0 where

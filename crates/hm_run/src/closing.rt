@@ -10,16 +10,16 @@ ghost use Rattle.hm_files.specs.Steps.{Computes};
 ghost use Rattle.hm_replica.specs.Replicas.{replica_value};
 ghost use Rattle.hm_sides.specs.Sides.{seen, side_value};
 ghost use Rattle.hm_run.specs.Handed.{handed};
-ghost use Rattle.hm_run.specs.Reads.{sides_of, replicas_of, MayClose};
+ghost use Rattle.hm_run.specs.Reads.{Replicas, sides_of, replicas_of, MayClose, MayCloseOver, AreBases};
 ghost use Rattle.hm_run.specs.Verdict.{all_as, Tells, new_texts, archive_fits, Closes, outcome_of};
 
-use crate::read::{ReplicaPair, SidePair};
+use crate::read::{BasePair, ReplicaPair, SidePair};
 use hm_command::Output;
 use hm_files::{FileFault, Refusal, Slot, Stop};
 use hm_format::Format;
 use hm_replica::Replica;
 use hm_report::{Conflict, Outcome, write_report};
-use hm_sides::close_replica;
+use hm_sides::{close_base, close_replica};
 use hm_text_lens::TextLens;
 use hm_tree::{Archive, Memory, Tree};
 use hm_tree_text::{write_archive, write_tree};
@@ -86,40 +86,40 @@ fn text_of(alloc: Global, archive: Archive) -> Result<Vec<u8>, Memory>
     write_archive(alloc, &archive)
 }
 
-/// The texts of an outcome, of the depth of whose archive a bound is known.
+/// The texts of an outcome, of the depth of whose archive a bound is known, over what is left of the replicas without their views.
 pub fn close(
     alloc: Global,
     formats: &[Box<dyn Format>],
     texts: &[Box<dyn TextLens>],
     sides: &SidePair,
-    replicas: ReplicaPair,
+    bases: BasePair,
     outcome: Outcome,
     bound: usize,
 ) -> Result<NewTexts, Stop>
-    requires left { MayClose (handed (λ b. means b) formats.now (map (λ b. meaning b) texts.now)) (side_value sides.now.left) (replica_value replicas.left) outcome.left }
-    requires right { MayClose (handed (λ b. means b) formats.now (map (λ b. meaning b) texts.now)) (side_value sides.now.right) (replica_value replicas.right) outcome.right }
+    requires left { MayCloseOver (handed (λ b. means b) formats.now (map (λ b. meaning b) texts.now)) (side_value sides.now.left) bases.left outcome.left }
+    requires right { MayCloseOver (handed (λ b. means b) formats.now (map (λ b. meaning b) texts.now)) (side_value sides.now.right) bases.right outcome.right }
     requires bound { depth_here outcome.archive ≤ bound }
-    ensures closes { Computes (Closes (handed (λ b. means b) formats.now (map (λ b. meaning b) texts.now)) (sides_of sides.now) (replicas_of replicas) (outcome_of outcome)) (seen new_texts result) }
+    ensures closes { (replicas : Replicas) → AreBases (handed (λ b. means b) formats.now (map (λ b. meaning b) texts.now)) (sides_of sides.now) replicas bases → Computes (Closes (handed (λ b. means b) formats.now (map (λ b. meaning b) texts.now)) (sides_of sides.now) replicas (outcome_of outcome)) (seen new_texts result) }
     ensures tells { IfOk result (λ made. Tells outcome.conflicts.items made.output) }
 {
     let fits = check_depth(&outcome.archive, bound);
     let archive = text_of(alloc, outcome.archive)?;
-    let left = close_replica(
+    let left = close_base(
         alloc,
         Slot::A,
         formats,
         texts,
         &sides.left,
-        replicas.left,
+        bases.left,
         outcome.left,
     )?;
-    let right = close_replica(
+    let right = close_base(
         alloc,
         Slot::B,
         formats,
         texts,
         &sides.right,
-        replicas.right,
+        bases.right,
         outcome.right,
     )?;
     fits?;

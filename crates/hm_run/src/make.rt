@@ -4,6 +4,8 @@ ghost use Rattle.hm_tree.specs.Nodes.{depth};
 ghost use Rattle.hm_schema.specs.Membership.{HasNoTwins};
 ghost use Rattle.hm_outcome.specs.Trios.{given, views, AreMembers};
 ghost use Rattle.hm_reconcile.specs.Reconciled.{IsReconciled};
+ghost use Rattle.hm_replica.specs.Bases.{IsBase};
+ghost use Rattle.hm_replica.specs.Replicas.{main_in, typed_value, replica_value};
 ghost use Rattle.hm_files.specs.Steps.{Computes};
 ghost use Rattle.hm_files.specs.Files.{all_bytes, new_of};
 ghost use Rattle.hm_command.specs.Words.{names};
@@ -12,7 +14,7 @@ ghost use Rattle.hm_run.specs.Reads.{before_of, before_with, AreOpened};
 ghost use Rattle.hm_run.specs.Verdict.{news_of, new_texts, MakesTexts, Makes};
 
 use crate::closing::{NewTexts, close, close_as_left, close_as_right};
-use crate::read::{Inputs, ReplicaPair, SidePair, read_all};
+use crate::read::{BasePair, Inputs, ReplicaPair, SidePair, read_all};
 use hm_command::{Files, Output};
 use hm_files::{NewFile, Slot, Stop, measure_all};
 use hm_format::Format;
@@ -31,20 +33,25 @@ fn deeper(left: &Tree, right: &Tree) -> usize
     left.depth().max(right.depth())
 }
 
-// What the archive and the views become. The views are copied, since replicas are closed against them.
+// What the archive and the views become, and what the new views are put over. The views are taken from the replicas, and copied
+// only where a program of lenses needs the old ones.
 fn reconcile(
     alloc: Global,
     schema: &Schema,
+    sides: &SidePair,
     archive: Archive,
-    replicas: &ReplicaPair,
-) -> Result<Outcome, Memory>
+    replicas: ReplicaPair,
+) -> Result<(Outcome, BasePair), Memory>
     requires no_twins { HasNoTwins schema.now }
-    requires members { AreMembers schema.now schema.now.root (views (given archive replicas.now.left.view replicas.now.right.view)) }
-    ensures { IfOk result (IsReconciled schema.now (given archive replicas.now.left.view replicas.now.right.view)) }
+    requires members { AreMembers schema.now schema.now.root (views (given archive replicas.left.view replicas.right.view)) }
+    ensures outcome { IfOk result (λ r. IsReconciled schema.now (given archive replicas.left.view replicas.right.view) r.0) }
+    ensures left { IfOk result (λ r. IsBase (main_in (typed_value sides.now.left.typed)) (replica_value replicas.left) r.1.left) }
+    ensures right { IfOk result (λ r. IsBase (main_in (typed_value sides.now.right.typed)) (replica_value replicas.right) r.1.right) }
 {
-    let left = replicas.left.view.copy()?;
-    let right = replicas.right.view.copy()?;
-    reconcile_owned(alloc, schema, archive, left, right)
+    let (left_view, left) = replicas.left.parted(&sides.left.typed)?;
+    let (right_view, right) = replicas.right.parted(&sides.right.typed)?;
+    let outcome = reconcile_owned(alloc, schema, archive, left_view, right_view)?;
+    Ok((outcome, BasePair { left, right }))
 }
 
 // The new texts of what was read, whatever has changed.
@@ -61,8 +68,8 @@ fn make_both(
     ensures { Computes (MakesTexts (handed (λ b. means b) formats.now (map (λ b. meaning b) texts.now)) (before_with schema.now sides.now archive replicas)) result }
 {
     let bound = deeper(&replicas.left.view, &replicas.right.view);
-    let outcome = reconcile(alloc, schema, archive, &replicas)?;
-    close(alloc, formats, texts, sides, replicas, outcome, bound)
+    let (outcome, bases) = reconcile(alloc, schema, sides, archive, replicas)?;
+    close(alloc, formats, texts, sides, bases, outcome, bound)
 }
 
 // The new texts of what was read. In most runs only one side has changed since the last, or none has; then the archive is

@@ -10,7 +10,7 @@ ghost use Rattle.hm_run.specs.Reads.{Serves, OpensView, OpensSides, OpensReplica
 
 use hm_files::{ArchiveFault, FileFault, Refusal, Slot, Stop};
 use hm_format::Format;
-use hm_replica::Replica;
+use hm_replica::{Base, Replica};
 use hm_schema::Schema;
 use hm_schema_text::SchemaFault;
 use hm_sides::{Side, check_view, open_replica, open_side};
@@ -31,6 +31,13 @@ pub struct SidePair {
 pub struct ReplicaPair {
     pub left: Replica,
     pub right: Replica,
+}
+
+/// What new views of both replicas are put over.
+#[derive(Drop)]
+pub struct BasePair {
+    pub left: Base,
+    pub right: Base,
 }
 
 /// The schema, the sides, the archive and the replicas that were read.
