@@ -4,6 +4,7 @@ pub mod OnePut
 pub mod Rows
 pub mod Terms
 mod Refused
+mod Keeping
 pub mod Laws
 mod Examples
 mod Cycles
