@@ -3,8 +3,9 @@ use Rattle.std.proofs.Common.{◌≡◌, Bool, true, false, inl, inr, Some, refl
 use Rattle.std.proofs.lemmas.Option.{same_Some}
 use mathlib.Core.Bool.{true≢false}
 use Rattle.hm_tree.specs.Names.{Name}
-use Rattle.hm_terms.specs.Lenses.{Lens, sequence, each, hoist, call, Definitions, body_of}
-use Rattle.hm_terms.specs.Calls.{Calls, calls_itself, calls_second, calls_each, Way, one_call, more_calls, IsInBadCycle}
+use Rattle.hm_schema.specs.Values.{Names}
+use Rattle.hm_terms.specs.Lenses.{Lens, identity, sequence, fork, each, among, none, also, items, on_concrete, on_view, hoist, call, Definitions, body_of}
+use Rattle.hm_terms.specs.Calls.{Calls, calls_itself, calls_second, calls_inside, calls_outside, calls_each, calls_among, calls_items, calls_where_it_has, calls_where_it_lacks, calls_where_it_showed, calls_where_it_did_not, Way, one_call, more_calls, IsInBadCycle}
 
 module _ (ds : Definitions) (n : Name) where
   -- `lens L = call(L)`
@@ -39,3 +40,37 @@ module _ (ds : Definitions) (n : Name) where
     down_is_good b =
         let all = way_down n refl b.way in
         elim b.bad [ inl e ↦ true≢false (sym e ∙ all.plain) | inr e ↦ true≢false (sym all.down ∙ e) ]
+
+-- a call in a lens on items or on named children goes down as one in `map` does, and neither is inside a sequence
+items_down : (n m : Name) {s c : Bool} → Calls (items (call n)) s c m → (s ≡ false) × (c ≡ true)
+items_down n m (calls_items calls_itself) = (refl, refl)
+
+among_down : (k n m : Name) {s c : Bool} → Calls (among (also k (call n) none)) s c m → c ≡ true
+among_down k n m (calls_among z at h) = refl
+
+-- one in the other lenses doesn't
+fork_stays : (P Q : Names) (n m : Name) {s c : Bool} → Calls (fork P Q identity (call n)) s c m → (s ≡ false) × (c ≡ false)
+fork_stays P Q n m (calls_inside h) = elim h [ ]
+fork_stays P Q n m (calls_outside calls_itself) = (refl, refl)
+
+concrete_stays : (k n m : Name) {s c : Bool} → Calls (on_concrete k (call n) identity) s c m → (s ≡ false) × (c ≡ false)
+concrete_stays k n m (calls_where_it_has calls_itself) = (refl, refl)
+concrete_stays k n m (calls_where_it_lacks h) = elim h [ ]
+
+view_stays : (k o n m : Name) {s c : Bool} → Calls (on_view k o (call n) identity) s c m → (s ≡ false) × (c ≡ false)
+view_stays k o n m (calls_where_it_showed calls_itself) = (refl, refl)
+view_stays k o n m (calls_where_it_did_not h) = elim h [ ]
+
+-- a way of two calls: it goes down where one of them does, and one inside a sequence is enough to make it bad
+module _ (ds : Definitions) (n m : Name) where
+  two_calls : body_of ds n ≡ Some (each (call m)) → body_of ds m ≡ Some (call n) → Way ds n n false true
+  two_calls one two = more_calls one (calls_each calls_itself) (one_call two calls_itself)
+
+  -- `lens L = id;call(M)`, `lens M = map(call(L))`
+  two_calls_bad : body_of ds n ≡ Some (sequence identity (call m)) → body_of ds m ≡ Some (each (call n)) → IsInBadCycle ds n
+  two_calls_bad one two = record {
+    sequence = true;
+    children = true;
+    way = more_calls one (calls_second calls_itself) (one_call two (calls_each calls_itself));
+    bad = inl refl;
+  }
