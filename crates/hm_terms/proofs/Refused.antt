@@ -1,17 +1,20 @@
 -- Where a lens shows no view of a tree, and puts none.
-use Rattle.std.proofs.Common.{◌≡◌, inl, inr, List, ◌∷◌, Option, Some, None, IfSome, sym, ap, ◌∙◌}
+use Rattle.std.proofs.Common.{◌≡◌, inl, inr, List, ◌∷◌, Option, Some, None, IfSome, sym, ap, subst, ◌∙◌}
 use Rattle.std.specs.Prelude.{not}
 use Rattle.std.specs.FinSet.{contains}
 use Rattle.std.specs.Option.{option_map}
-use Rattle.std.proofs.lemmas.Option.{none-some}
+use Rattle.std.proofs.lemmas.Option.{same_Some, none-some}
 use Rattle.hm_tree.specs.Names.{Name}
 use Rattle.hm_tree.specs.Nodes.{Tree, edges, below}
 use Rattle.hm_schema.specs.Values.{Names}
-use Rattle.hm_terms.specs.Lenses.{Lens, hoist, plunge, fork, items, copy, merge, Setting}
+use Rattle.hm_text_lens.specs.Meanings.{TextMeaning, IsFrom, IsInto}
+use Rattle.hm_text_lens.specs.Naming.{first_named}
+use Rattle.hm_terms.specs.Lenses.{Lens, hoist, plunge, fork, items, copy, merge, text, Setting}
 use Rattle.hm_tree.specs.Parts.{part, Joins}
-use Rattle.hm_terms.specs.Parts.{IsList, no_items, an_item}
-use Rattle.hm_terms.specs.Shown.{Shows, by_hoist, by_fork, by_items_none, by_items_more, by_copy}
-use Rattle.hm_terms.specs.Put.{Puts, put_plunge, put_fork, put_items_none, put_items_more, put_merge, of_same, of_other}
+use Rattle.hm_terms.specs.Parts.{IsList, IsValue, no_items, an_item}
+use Rattle.hm_terms.specs.Shown.{Shows, by_hoist, by_fork, by_items_none, by_items_more, by_copy, by_text}
+use Rattle.hm_terms.specs.Put.{Puts, put_plunge, put_fork, put_items_none, put_items_more, put_merge, put_text, value_before, of_same, of_other}
+use Rattle.hm_terms.proofs.Maps.{one_value}
 use Rattle.hm_terms.proofs.OneShown.{one_shown}
 use Rattle.hm_terms.proofs.OnePut.{one_put}
 
@@ -41,6 +44,12 @@ module _ (S : Setting) where
   fork_onto P Q l k c v x y n p q one two at there (by_fork {x = x2} {y = y2} h i j) =
       joins_apart x2 y2 v n p q (ap (below n) (one_shown S h one) ∙ at) (ap (below n) (one_shown S i two) ∙ there) j
 
+  -- text, of a value whose text isn't of the class that the text lens reads
+  pub text_of_other : (x v : Name) (m : TextMeaning) (c a : Tree) → first_named x S.texts ≡ Some m → IsValue v c → ¬ (IsFrom m v)
+      → Shows S (text x) c a → ⊥
+  text_of_other x v m c a is value other (by_text {v = w} {m = k} at h e f) =
+      other (subst (λ v. IsFrom m v) (one_value w v c e value) (subst (λ (k : TextMeaning). IsFrom k w) (same_Some k m (sym at ∙ is)) h))
+
   -- ---- nothing is put
 
   -- plunge, of a view of two edges
@@ -68,3 +77,14 @@ module _ (S : Setting) where
       → below n x ≡ Some p → below n y ≡ Some q → Puts S (fork P Q l k) a b c → ⊥
   fork_put_onto P Q l k a c x y b n p q one two at there (put_fork {x = x2} {y = y2} h i j) =
       joins_apart x2 y2 c n p q (ap (below n) (one_put S h one) ∙ at) (ap (below n) (one_put S i two) ∙ there) j
+
+  -- text, of a value whose text isn't of the class that it shows, and with one from before that isn't of the class that it reads
+  pub text_put_other : (x w : Name) (m : TextMeaning) (a c : Tree) (b : Option Tree) → first_named x S.texts ≡ Some m → IsValue w a
+      → ¬ (IsInto m w) → Puts S (text x) a b c → ⊥
+  text_put_other x w m a c b is value other (put_text {w = v} {m = k} at h e from f) =
+      other (subst (λ w. IsInto m w) (one_value v w a e value) (subst (λ (k : TextMeaning). IsInto k v) (same_Some k m (sym at ∙ is)) h))
+
+  pub text_put_over_other : (x u : Name) (m : TextMeaning) (a b c : Tree) → first_named x S.texts ≡ Some m → IsValue u b
+      → ¬ (IsFrom m u) → Puts S (text x) a (Some b) c → ⊥
+  text_put_over_other x u m a b c is value other (put_text {m = k} at h e (value_before {u = v} g i) f) =
+      other (subst (λ u. IsFrom m u) (one_value v u b g value) (subst (λ (k : TextMeaning). IsFrom k v) (same_Some k m (sym at ∙ is)) i))
