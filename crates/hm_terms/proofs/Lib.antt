@@ -8,3 +8,4 @@ mod Keeping
 pub mod Laws
 mod Examples
 mod Cycles
+mod Formed
