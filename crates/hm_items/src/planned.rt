@@ -98,7 +98,7 @@ fn last_edge(slots: &[Slot]) -> usize {
 
 /// Where the next old item survives, by its key, behind others that were counted: where its key stands among those of the new
 /// tree, and its place in the list there. None where the list is too short, or where there is none. The item is counted. Its key
-/// is found without a search where it stands near that of the item before, or just behind.
+/// is looked for at a place and just behind it first, whichever this is: near that of the item before most searches are spared.
 pub fn next_place(
     wanted: &[(&Name, usize)],
     key: &Name,
