@@ -14,7 +14,11 @@ use Rattle.hm_tree.specs.Sets.{ascending}
 use Rattle.hm_tree.proofs.Texts.{text_test}
 use Rattle.hm_tree.proofs.Ascending.{beside, set_of-ascending, ascending_rises, contains-ascending, ascending_is}
 use Rattle.hm_schema.specs.Permitted.{names_of}
-use Rattle.hm_cards.specs.Cards.{leaf, texts_tree, IsSound}
+use Rattle.hm_cards.specs.Cards.{leaf, texts_tree, no_texts, IsSound}
+
+pub none_ascending : ascending no_texts ≡ []
+unfolding IsStrictlySortedBy
+none_ascending = ascending_is [] no_texts tt refl
 
 -- names with values rise where the names do
 module _ {X : Type 0} (value : Name → X) where

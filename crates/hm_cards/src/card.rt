@@ -64,6 +64,16 @@ pub fn texts_at(tree: &Tree, name: &Name) -> Result<NameSet, Memory>
     }
 }
 
+/// The edges of a card right below a name, which are its texts there; none where the name isn't there.
+pub fn edges_at<'a>(card: &'a Tree, name: &Name) -> &'a [(Name, Tree)]
+    ensures { ascending (spec.texts_at name.now card.now) ≡ map (λ e. e.0) result.now }
+{
+    match card.child(name) {
+        Some(texts) => texts.edges(),
+        None => &[],
+    }
+}
+
 // The names right below the root of a tree.
 fn names_of(tree: &Tree) -> Result<NameSet, Memory>
     ensures { IfOk result (λ set. set ≡ names_of tree.now) }

@@ -5,7 +5,7 @@
 //! of comma-separated values, of vCards (RFC 6350) and of calendars (RFC 5545) all have such trees: they differ in the names
 //! that cards may have, and in which of them may have many texts.
 //!
-//! `book_schema` is the schema of these trees, `card_tree` makes the tree of a card, and `texts_at` reads it.
+//! `book_schema` is the schema of these trees, `card_tree` makes the tree of a card, and `texts_at` and `edges_at` read it.
 #![tactic(auto)]
 
 mod book;
@@ -13,4 +13,4 @@ mod card;
 mod nodes;
 
 pub use book::book_schema;
-pub use card::{card_tree, texts_at};
+pub use card::{card_tree, edges_at, texts_at};

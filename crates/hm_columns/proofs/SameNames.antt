@@ -14,7 +14,6 @@ use Rattle.hm_tree.specs.Sets.{ascending}
 use Rattle.hm_tree.proofs.Sorted.{name_total, name_one}
 use Rattle.hm_tree.proofs.Ascending.{ascending_is}
 use Rattle.hm_pieces.specs.Texts.{is_text}
-use Rattle.hm_cards.specs.Cards.{no_texts}
 use Rattle.hm_columns.specs.Fields.{texts_shown, same_names}
 
 off : (b : Bool) → (b && false) ≡ false
@@ -93,11 +92,6 @@ module _ (ns : List Name) (es : List (Name × Tree)) (place : ℕ) (n : Name) (e
 
   pub edge_same : n ≡ (get_or es place e).0 → same_names (drop (place + 1) ns) (drop (place + 1) (names_in es)) ≡ same_names ns (names_in es)
   edge_same same = same_here ns (names_in es) place n there as_long lt here there_is so_far same
-
--- no edges, where a name isn't there
-pub no_names : ascending no_texts ≡ []
-unfolding IsStrictlySortedBy
-no_names = ascending_is [] no_texts tt refl
 
 -- ---- the texts of a field of one text at the most
 

@@ -3,7 +3,6 @@ ghost use Rattle.std.specs.Prelude.{◌≡◌, ◌<◌, ◌++◌, ◌∷◌, [],
 ghost use Rattle.csv.specs.Records.{fields_of, partial_of};
 ghost use Rattle.std.specs.Bool.{◌==◌};
 ghost use Rattle.std.specs.Option.{option_map};
-ghost use Rattle.hm_tree.specs.Sets.{ascending};
 ghost use Rattle.hm_cards.specs.Cards as cards;
 ghost use Rattle.hm_columns.specs.Fields as fields;
 ghost use Rattle.hm_columns.specs.Records as spec;
@@ -12,7 +11,7 @@ use crate::column::Column;
 use crate::field::made;
 use crate::staying::shows_names;
 use csv::ByteRecord;
-use hm_cards::texts_at;
+use hm_cards::{edges_at, texts_at};
 use hm_records::field;
 use hm_tree::{Memory, Name, Tree};
 use std::alloc::Global;
@@ -97,16 +96,6 @@ fn push_made(
         new.push_field(&made(alloc, column.many, field, &texts)?)?;
     }
     Ok(())
-}
-
-// The edges right below a name, which are its texts; none where the name isn't there.
-fn edges_at<'a>(card: &'a Tree, name: &Name) -> &'a [(Name, Tree)]
-    ensures { ascending (cards.texts_at name.now card.now) ≡ map (λ e. e.0) result.now }
-{
-    match card.child(name) {
-        Some(texts) => texts.edges(),
-        None => &[],
-    }
 }
 
 /// A record of so many fields that are empty but for the key at its place.

@@ -19,9 +19,9 @@ use Rattle.hm_tree.proofs.Sorted.{name_total}
 use Rattle.hm_tree.proofs.Ascending.{ascending_is, contains-ascending, set_of-ascending}
 use Rattle.hm_pieces.specs.Texts.{new_names}
 use Rattle.hm_cards.specs.Cards.{Shown, texts_at}
+use Rattle.hm_cards.proofs.TextTrees.{none_ascending}
 use Rattle.hm_properties.specs.Lines.{Line, AreProperties, IsLine, is_of, text_shown, texts_of, set_of, card_of, AreFew}
 use Rattle.hm_properties.specs.Rewriting.{Property, stays, if_stays, with_value, one_line, first_in, target, line_for, is_at, property_of, line_in, line_at, rewritten_from, new_line, new_texts, lines_for, rewritten, IsShown, AreShown}
-use Rattle.hm_properties.proofs.Texts.{none_ascending}
 use Rattle.hm_properties.proofs.PropertyNames.{found_there}
 use Rattle.hm_properties.proofs.Targets.{IsTarget, has_target, no_target, target_is, no_lines}
 use Rattle.hm_properties.proofs.ShownCards.{few_at}

@@ -5,7 +5,6 @@ use Rattle.std.specs.FinMap.{is_sorted}
 use Rattle.std.specs.FinMap.Entries.{below_all}
 use Rattle.std.specs.FinSet.{FinSet, contains, len, from_list, retain, same_set, contains-retain, contains-from_list}
 use Rattle.std.specs.List.{list_any, count_by, cons_option}
-use Rattle.std.specs.List.Sorted.{IsStrictlySortedBy}
 use Rattle.std.specs.Option.{is_some, option_copied}
 use Rattle.std.specs.Ordering.{is_lt, eq_by_cmp}
 use Rattle.std.proofs.lemmas.Bool.{and_right}
@@ -15,15 +14,11 @@ use Rattle.hm_tree.specs.Names.{Name, name_cmp}
 use Rattle.hm_tree.specs.Nodes.{are_edges, edges_rise}
 use Rattle.hm_tree.specs.Sets.{ascending}
 use Rattle.hm_tree.proofs.Sorted.{name_total, name_one}
-use Rattle.hm_tree.proofs.Ascending.{ascending_is, set_of-ascending}
+use Rattle.hm_tree.proofs.Ascending.{set_of-ascending}
 use Rattle.hm_schema.proofs.NamesOf.{len-retain_names, tie_one}
 use Rattle.hm_pieces.specs.Texts.{new_names}
 use Rattle.hm_cards.specs.Cards.{Shown, no_texts}
 use Rattle.hm_properties.specs.Lines.{Line, texts_by}
-
-pub none_ascending : ascending no_texts ≡ []
-unfolding IsStrictlySortedBy
-none_ascending = ascending_is [] no_texts tt refl
 
 pub none_there : (k : Name) → contains no_texts k ≡ false
 none_there k = contains-from_list name_total [] k

@@ -3,7 +3,6 @@ ghost use Rattle.std.specs.Prelude.{◌≡◌, ◌<◌, ◌++◌, ◌∷◌, [],
 ghost use Rattle.std.specs.Option.{option_map};
 ghost use Rattle.std.specs.List.{flat_map};
 ghost use Rattle.std.specs.FinSet.{contains};
-ghost use Rattle.hm_tree.specs.Sets.{ascending};
 ghost use Rattle.hm_cards.specs.Cards.{texts_in, texts_at};
 ghost use Rattle.hm_properties.specs.Lines as lines_spec;
 ghost use Rattle.hm_properties.specs.Rewriting as spec;
@@ -12,6 +11,7 @@ ghost use Rattle.hm_properties.specs.Lent.{AreLines, lent, line_of, target_of, t
 use crate::card::set_of;
 use crate::line::{Line, NewLine, is_of, text_shown};
 use crate::writing::{new_line, with_value};
+use hm_cards::edges_at;
 use hm_tree::{Memory, Name, NameSet, Tree};
 use std::alloc::Global;
 
@@ -306,16 +306,6 @@ fn first_text<'a>(card: &'a Tree, name: &Name) -> Option<&'a Name>
     match edges_at(card, name).first() {
         Some(edge) => Some(&edge.0),
         None => None,
-    }
-}
-
-// The edges right below a name, which are its texts; none where the name isn't there.
-fn edges_at<'a>(card: &'a Tree, name: &Name) -> &'a [(Name, Tree)]
-    ensures { ascending (texts_at name.now card.now) ≡ map (λ e. e.0) result.now }
-{
-    match card.child(name) {
-        Some(texts) => texts.edges(),
-        None => &[],
     }
 }
 

@@ -5,8 +5,8 @@ use Rattle.hm_tree.specs.Nodes.{Tree}
 use Rattle.hm_tree.specs.Sets.{ascending}
 use Rattle.hm_schema.proofs.NamesOf.{ascending-names_of}
 use Rattle.hm_cards.specs.Cards.{texts_in}
-use Rattle.hm_properties.proofs.Texts.{none_ascending}
-use Rattle.hm_properties.proofs.rewriting.edges_at.Goals as goal
+use Rattle.hm_cards.proofs.TextTrees.{none_ascending}
+use Rattle.hm_cards.proofs.card.edges_at.Goals as goal
 
 pub returns-in-Some : goal.returns-in-Some
 returns-in-Some c =
