@@ -5,6 +5,8 @@ use Rattle.std.specs.List.{flat_map}
 use Rattle.std.proofs.lemmas.List.{append_assoc, append-nil, map-append, take_more, flat_map_more, length-append}
 use Rattle.std.proofs.lemmas.List.Prefix.{front_rest}
 use Rattle.hm_lines.specs.Folding.{IsFolded, AreFolded, Appends}
+use Rattle.hm_properties.specs.declared.line.Line.{Line}
+use Rattle.hm_properties.specs.Lent.{lent, plain}
 use Rattle.hm_components.specs.Components.{Bytes}
 use Rattle.hm_component_writer.specs.declared.writer.Writer.{Writer}
 use Rattle.hm_component_writer.specs.Written.{HasWritten, Extends}
@@ -70,6 +72,18 @@ pub extends_behind : {E : Type 0} (a b c : Writer) (result : Result Unit E) (xs 
     → OnOk result (Extends a c (xs ++ ys))
 extends_behind a b c (Ok u) xs ys f g = extends_more a b c xs ys f g
 extends_behind a b c (Err e) xs ys f g = tt
+
+-- ---- lines as they are
+
+abbrev pub text_in : Line → Bytes
+text_in l = l.text.now
+
+abbrev pub texts_in : List Line → List Bytes
+texts_in lines = map text_in lines
+
+pub texts_plain : (lines : List Line) → plain (lent lines) ≡ texts_in lines
+texts_plain [] = refl
+texts_plain (l ∷ lines) = ap (λ texts. l.text.now ∷ texts) (texts_plain lines)
 
 -- ---- one element after another
 

@@ -7,7 +7,7 @@ ghost use Rattle.hm_items.specs.Items.{fresh, added};
 ghost use Rattle.hm_items.specs.Plans.{keys_of};
 ghost use Rattle.hm_item_trees.specs.Lent.{lent_lists};
 ghost use Rattle.hm_lines.specs.Content.{IsWord};
-ghost use Rattle.hm_properties.specs.Lent.{AreLines, lent, plain, line_of};
+ghost use Rattle.hm_properties.specs.Lent.{AreLines, lent, all_bytes, plain, line_of};
 ghost use Rattle.hm_properties.specs.Lines.{IsLine};
 ghost use Rattle.hm_properties.specs.Rewriting.{new_line, rewritten};
 ghost use Rattle.hm_components.specs.Components as spec;
@@ -21,7 +21,7 @@ use crate::trees::Trees;
 use crate::writer::Writer;
 use hm_components::{Component, Kind, Layout, Piece};
 use hm_lines::{escape, parts};
-use hm_properties::{Line, key_of, rewrite as rewrite_lines};
+use hm_properties::{Line, NewLine, key_of, rewrite as rewrite_lines};
 use hm_tree::{Memory, Name, Tree};
 use std::alloc::Global;
 use std::str;
@@ -130,10 +130,31 @@ fn append_item(
     requires { AreLines lines.now }
     ensures { OnOk result (Extends writer.old writer.new (plain (rewritten shown.now tree.now (lent lines.now)) ++ end.now ∷ [])) }
 {
-    for line in &rewrite_lines(alloc, shown, lines, tree)? {
-        writer.append(line.text())?;
+    match rewrite_lines(alloc, shown, lines, tree)? {
+        Some(new) => append_made(&new, writer)?,
+        None => append_kept(lines, writer)?,
     }
     writer.append(end)
+}
+
+// Puts lines that were rewritten behind others.
+fn append_made(lines: &[NewLine], writer: &mut Writer) -> Result<(), Memory>
+    ensures { OnOk result (Extends writer.old writer.new (all_bytes lines.now)) }
+{
+    for line in lines {
+        writer.append(line.text())?;
+    }
+    Ok(())
+}
+
+// Puts lines that stay behind others.
+fn append_kept(lines: &[Line], writer: &mut Writer) -> Result<(), Memory>
+    ensures { OnOk result (Extends writer.old writer.new (plain (lent lines.now))) }
+{
+    for line in lines {
+        writer.append(line.text)?;
+    }
+    Ok(())
 }
 
 // Puts the new components behind other lines, by their keys and places.

@@ -6,7 +6,7 @@ ghost use Rattle.hm_properties.specs.Lent.{AreLines};
 ghost use Rattle.hm_format_cases.specs.Shown.{four_properties};
 
 use hm_lines::parts;
-use hm_properties::{Line, card_of, key_of, rewrite, second_of};
+use hm_properties::{Line, NewLine, card_of, key_of, rewrite, second_of};
 use hm_tree::{Name, Tree};
 use std::alloc::Global;
 use std::process::Abort;
@@ -93,12 +93,25 @@ fn expect_rewritten(
     want: &[&str],
 ) -> Result<(), Fail> {
     let lines = item(alloc, lines)?;
-    let new = rewrite(alloc, &of_cards(alloc)?, &lines, &tree(alloc, card)?)?;
-    assert_eq!(rt; new.len(), want.len());
-    for (line, text) in new.iter().zip(want.iter()) {
-        assert_eq!(rt; line.text(), *text);
+    match rewrite(alloc, &of_cards(alloc)?, &lines, &tree(alloc, card)?)? {
+        Some(new) => expect_made(rt, &new, want),
+        None => expect_kept(rt, &lines, want),
     }
     Ok(())
+}
+
+fn expect_made(rt: &impl Abort, lines: &[NewLine], want: &[&str]) {
+    assert_eq!(rt; lines.len(), want.len());
+    for (line, text) in lines.iter().zip(want.iter()) {
+        assert_eq!(rt; line.text(), *text);
+    }
+}
+
+fn expect_kept(rt: &impl Abort, lines: &[Line], want: &[&str]) {
+    assert_eq!(rt; lines.len(), want.len());
+    for (line, text) in lines.iter().zip(want.iter()) {
+        assert_eq!(rt; line.text, *text);
+    }
 }
 
 #[test]

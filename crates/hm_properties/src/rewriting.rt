@@ -1,5 +1,5 @@
 //! Lines that are to show another card.
-ghost use Rattle.std.specs.Prelude.{◌≡◌, ◌<◌, ◌++◌, ◌∷◌, [], All, IfOk, IfSome, IsTrue, OnOk, Some, None, cond, not, map, filter, length, get_or, slice_get, option_and_then};
+ghost use Rattle.std.specs.Prelude.{◌≡◌, ◌<◌, ◌++◌, ◌∷◌, [], All, IfOk, IfSome, IsTrue, MatchOption, OnOk, Some, None, cond, not, map, filter, length, get_or, slice_get, option_and_then};
 ghost use Rattle.std.specs.Option.{option_map};
 ghost use Rattle.std.specs.List.{flat_map};
 ghost use Rattle.std.specs.FinSet.{contains};
@@ -16,24 +16,24 @@ use hm_tree::{Memory, Name, NameSet, Tree};
 use std::alloc::Global;
 
 /// The lines of an item that is to show a card: those from before that stay, with a new value where one changed, and behind
-/// them the new ones.
+/// them the new ones; none where all are those from before.
 pub fn rewrite<'a>(
     alloc: Global,
     properties: &[(Name, bool)],
     lines: &[Line<'a>],
     card: &Tree,
-) -> Result<Vec<NewLine<'a>>, Memory>
+) -> Result<Option<Vec<NewLine<'a>>>, Memory>
     requires { AreLines lines.now }
-    ensures { IfOk result (λ new. all_bytes new.items ≡ plain (spec.rewritten properties.now card.now (lent lines.now))) }
+    ensures { IfOk result (λ new. MatchOption new (spec.rewritten properties.now card.now (lent lines.now) ≡ lent lines.now) (λ new. all_bytes new.items ≡ plain (spec.rewritten properties.now card.now (lent lines.now)))) }
 {
     if are_shown(alloc, properties, lines, card)? {
-        return kept(alloc, lines);
+        return Ok(None);
     }
     let targets = targets_of(alloc, properties, lines)?;
     let mut new = Vec::with_capacity(alloc, lines.len())?;
     append_old(alloc, &mut new, properties, &targets, lines, card)?;
     append_new(alloc, &mut new, properties, &targets, lines, card)?;
-    Ok(new)
+    Ok(Some(new))
 }
 
 // Whether lines show the texts of a card in their order, which is less to find out than what becomes of each line.
@@ -101,17 +101,6 @@ fn behind<'a>(texts: &'a [(Name, Tree)], text: &Name) -> Option<&'a [(Name, Tree
         Some((first, others)) if first.0.same(text) => Some(others),
         _ => None,
     }
-}
-
-// Lines that stay.
-fn kept<'a>(alloc: Global, lines: &[Line<'a>]) -> Result<Vec<NewLine<'a>>, Memory>
-    ensures { IfOk result (λ new. all_bytes new.items ≡ plain (lent lines.now)) }
-{
-    let mut new = Vec::with_capacity(alloc, lines.len())?;
-    for line in lines {
-        new.push(NewLine::Kept(line.text))?;
-    }
-    Ok(new)
 }
 
 // For each property that may have one text the place of its line that shows one, or else of its first.

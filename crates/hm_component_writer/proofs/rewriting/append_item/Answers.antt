@@ -1,22 +1,27 @@
-use Rattle.std.proofs.Common.{[], ◌∷◌, ap, ◌∙◌, take}
-use Rattle.std.proofs.lemmas.List.{take_all}
-use Rattle.hm_properties.specs.Lent.{all_bytes, bytes_of, plain, lent}
+use Rattle.std.proofs.Common.{◌≡◌, [], ◌∷◌, ap, sym, ◌∙◌, subst}
+use Rattle.hm_properties.specs.Lent.{plain, lent, all_bytes}
 use Rattle.hm_properties.specs.Rewriting.{rewritten}
-use Rattle.hm_components.specs.Components.{Bytes}
-use Rattle.hm_component_writer.proofs.WrittenLines.{lines_more, extends_as, extends_behind}
+use Rattle.hm_component_writer.specs.Written.{Extends}
+use Rattle.hm_component_writer.specs.declared.writer.Writer.{Writer}
+use Rattle.hm_component_writer.proofs.WrittenLines.{extends_as, extends_behind}
 use Rattle.hm_component_writer.proofs.rewriting.append_item.Goals as goal
-
-pub loop-line-preserved : goal.loop-line-preserved
-loop-line-preserved c =
-    lines_more c.args.writer.now c.loop-line.writer c.append.new.self c.deref-line-items.result.now c.loop-line.line-index c.line-item.result c.line-item.result
-    c.loop-line-test.true c.line-item.is bytes_of c.loop-line.invariant
-    (extends_as c.loop-line.writer c.append.new.self (c.text.result.now ∷ []) (bytes_of c.line-item.result ∷ []) (ap (λ (l : Bytes). l ∷ []) c.text.ensures) c.in_ok-append.ensures)
+use Rattle.hm_component_writer.proofs.rewriting.append_item.Goals.{in-Some+in_ok-append_made-in-Some, in-None+in_ok-append_kept-in-None}
 
 pub returns : goal.returns
 returns c =
-    let lines = plain (rewritten c.args.shown.now c.args.tree.now (lent c.args.lines.now)) in
-    extends_behind c.args.writer.now c.loop-line.writer c.append-2.new.self c.append-2.result lines (c.args.end.now ∷ [])
-    (extends_as c.args.writer.now c.loop-line.writer (all_bytes (take c.loop-line.line-index c.deref-line-items.result.now)) lines
-    (ap all_bytes (take_all c.loop-line.line-index c.deref-line-items.result.now c.loop-line-test.false ∙ c.deref-line-items.ensures.value) ∙ c.in_ok-rewrite.ensures)
-    c.loop-line.invariant)
-    c.append-2.ensures
+    let from = c.args.writer.now in
+    let to = c.match-branch-2.writer in
+    let old = lent c.args.lines.now in
+    let new = rewritten c.args.shown.now c.args.tree.now old in
+    let so_far : Extends from to (plain new)
+    = elim c.match-branch-2.branch [
+      | in-Some+in_ok-append_made-in-Some w ↦
+          let made : all_bytes w.in-Some.new.items ≡ plain new = rw w.in-Some.is at c.in_ok-new.ensures in
+          extends_as from to (all_bytes w.deref.result.now) (plain new) (ap all_bytes w.deref.ensures.value ∙ made)
+          (subst (λ (writer : Writer). Extends from writer (all_bytes w.deref.result.now)) (sym w.writer-is) w.in_ok-append_made-in-Some.ensures)
+      | in-None+in_ok-append_kept-in-None w ↦
+          let stays : new ≡ old = rw w.in-None.is at c.in_ok-new.ensures in
+          extends_as from to (plain old) (plain new) (ap plain (sym stays))
+          (subst (λ (writer : Writer). Extends from writer (plain old)) (sym w.writer-is) w.in_ok-append_kept-in-None.ensures)
+    ] in
+    extends_behind from to c.append.new.self c.append.result (plain new) (c.args.end.now ∷ []) so_far c.append.ensures
