@@ -80,23 +80,12 @@ impl Replica {
         ensures view { IfOk result (λ parts. parts.0 ≡ self.view) }
         ensures base { IfOk result (λ parts. IsBase (main_in (typed_value typed.now)) (replica_value self) parts.1) }
     {
-        let Replica {
-            bytes,
-            concrete,
-            view,
-        } = self;
         if is_identity(&typed.program.main) {
+            let Replica { bytes, view, .. } = self;
             return Ok((view, Base { bytes, kept: None }));
         }
-        let concrete = tree_or_copy(concrete, &view)?;
-        let copy = view.copy()?;
-        Ok((
-            view,
-            Base {
-                bytes,
-                kept: Some((concrete, copy)),
-            },
-        ))
+        let view = self.view.copy()?;
+        Ok((view, self.into_base(typed)?))
     }
 
     /// The bytes of a view, behind those of the replica, which are handed on where the view is that of the replica.
