@@ -1,6 +1,6 @@
 -- Places between lines, as the code has them.
 use Rattle.std.proofs.Common.{◌≡◌, List, [], ◌∷◌, length, refl, sym, ap, ◌∙◌, subst, arith}
-use Rattle.std.specs.Prelude.{All}
+use Rattle.std.specs.Prelude.{All, Result, Ok, Err, IfOk}
 use Rattle.std.specs.Borrow.{Bor}
 use Rattle.std.proofs.lemmas.List.{length-map, length-reverse, get_or-map}
 use Rattle.hm_lines.specs.declared.content.LineParts.{LineParts}
@@ -23,6 +23,11 @@ are_lines ls all = λ i d lt.
     let long = length-map ls line_of in
     subst IsLine (get_or-map line_of ls i d (line_of d) lt) (all i (line_of d) (omega (arith, lt, long)))
 
+-- what holds of an answer gives what is wanted of it
+pub then_ok : {X E : Type 0} {P Q : X → Type 0} (r : Result X E) → IfOk r P → ((x : X) → P x → Q x) → IfOk r Q
+then_ok (Ok x) p f = f x p
+then_ok (Err e) p f = tt
+
 -- in a component of an event no line is a property of its own
 pub in_some : (singles : Shown) (lines : List Line) (names : List Bytes) (line : Bytes) (parts : LineParts) → (names ≡ [] → ⊥)
     → with_line lines (other_line line) names ≡ next singles (event lines names) line (property parts)
@@ -37,5 +42,5 @@ pub at_end : (at : Place) → place_of at ≡ plain.behind → at ≡ Behind
 at_end Before e = let bad : ⊥ = cc in absurd bad
 at_end Behind e = refl
 at_end (Calendar told) e = let bad : ⊥ = cc in absurd bad
-at_end (Event lines names) e = let bad : ⊥ = cc in absurd bad
+at_end (Event inside) e = let bad : ⊥ = cc in absurd bad
 at_end (Component name around) e = let bad : ⊥ = cc in absurd bad

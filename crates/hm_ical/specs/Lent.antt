@@ -1,7 +1,7 @@
 -- What contracts see of lines, of places between them and of steps, whose texts are lent.
-use Rattle.std.specs.Prelude.{List, reverse, Option}
-use Rattle.std.specs.Option.{option_map}
+use Rattle.std.specs.Prelude.{List, reverse, Option, None}
 use Rattle.std.specs.Borrow.{Bor}
+use Rattle.hm_properties.specs.Lines.{Line}
 use Rattle.hm_properties.specs.Lent.{lent}
 use Rattle.hm_components.specs.Components.{Bytes}
 use Rattle.hm_components.specs.Lent.{texts, piece_of}
@@ -9,8 +9,12 @@ use Rattle.hm_ical.specs.Scanning as plain
 use Rattle.hm_ical.specs.declared.line.LineKind.{LineKind}
 use Rattle.hm_ical.specs.declared.line.LineKind.TheVariants.{Begin, End, Property}
 use Rattle.hm_ical.specs.declared.place.Place.{Place}
-use Rattle.hm_ical.specs.declared.place.Place.TheVariants.{Before, Behind, Calendar, Event, Component}
+use Rattle.hm_ical.specs.declared.place.Place.TheVariants as place
+use Rattle.hm_ical.specs.declared.place.Event.{Event}
 use Rattle.hm_ical.specs.declared.place.Step.{Step}
+use Rattle.hm_ical.specs.declared.place.Step.TheVariants as does
+use Rattle.hm_ical.specs.declared.place.Move.{Move}
+use Rattle.hm_ical.specs.declared.place.Move.TheVariants as move
 
 abbrev pub kind_of : LineKind → plain.Kind
 kind_of (Begin name) = plain.begin name.now
@@ -21,15 +25,27 @@ kind_of (Property parts) = plain.property parts
 abbrev pub names_of : List (Bor Bytes) → List Bytes
 names_of names = reverse (texts names)
 
+abbrev pub event_of : Event → plain.Place
+event_of e = plain.event (lent e.lines.items) (names_of e.names.items)
+
 abbrev pub place_of : Place → plain.Place
-place_of Before = plain.before
-place_of Behind = plain.behind
-place_of (Calendar told) = plain.calendar told
-place_of (Event lines names) = plain.event (lent lines.items) (names_of names.items)
-place_of (Component name around) = plain.component name.now (names_of around.items)
+place_of place.Before = plain.before
+place_of place.Behind = plain.behind
+place_of (place.Calendar told) = plain.calendar told
+place_of (place.Event e) = event_of e
+place_of (place.Component name around) = plain.component name.now (names_of around.items)
 
-abbrev pub step_of : Step → plain.Step
-step_of s = (place_of s.to, option_map piece_of s.piece)
+-- what a line does at a place, and where it leads
+abbrev pub step_of : Step → plain.Place → Option plain.Step
+step_of does.Stuck to = None
+step_of does.On to = plain.step_to to
+step_of (does.Ends piece) to = plain.step_with (piece_of piece) to
 
-abbrev pub steps_of : Option Step → Option plain.Step
-steps_of s = option_map step_of s
+-- what a line does in an event, whose lines and names are these then
+abbrev pub moved : Move → Bytes → List Line → List Bytes → Option plain.Step
+moved move.Stuck line lines names = None
+moved move.On line lines names = plain.step_to (plain.event lines names)
+moved move.Out line lines names = plain.out_of_event lines line
+
+abbrev pub move_of : Move → Bytes → Event → Option plain.Step
+move_of made line e = moved made line (lent e.lines.items) (names_of e.names.items)

@@ -86,10 +86,14 @@ in_component name names line (property parts) = step_with (other line) (componen
 abbrev pub with_line : List Line → Line → List Bytes → Option Step
 with_line lines line names = step_to (event (lines ++ line ∷ []) names)
 
+-- out of an event, behind the line that ends it
+abbrev pub out_of_event : List Line → Bytes → Option Step
+out_of_event lines line = step_with (item (record { lines = lines; end = line })) (calendar true)
+
 -- directly in an event
 abbrev pub in_event : Shown → List Line → Bytes → Kind → Option Step
 in_event singles lines line (begin name) = with_line lines (other_line line) (name ∷ [])
-in_event singles lines line (end name) = if_so (is_same name event_name) (step_with (item (record { lines = lines; end = line })) (calendar true))
+in_event singles lines line (end name) = if_so (is_same name event_name) (out_of_event lines line)
 in_event singles lines line (property parts) =
     cond (list_any (is_second lines (line, Some parts)) singles) None (with_line lines (line, Some parts) [])
 

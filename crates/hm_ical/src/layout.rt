@@ -1,6 +1,5 @@
 //! The pieces of a calendar.
-ghost use Rattle.std.specs.Prelude.{◌≡◌, ◌-◌, ◌<◌, IfErr, IfOk, drop, length};
-ghost use Rattle.std.specs.Option.{option_map};
+ghost use Rattle.std.specs.Prelude.{◌≡◌, ◌-◌, ◌<◌, IfErr, IfOk, None, Some, cond, drop, length};
 ghost use Rattle.hm_schema.specs.Values.{OptionsValue};
 ghost use Rattle.hm_components.specs.Forms.{shown_of};
 ghost use Rattle.hm_components.specs.Lent.{texts, pieces_of, layout_of, HaveLines};
@@ -60,9 +59,8 @@ fn pieces<'a>(
     let mut at = Place::Before;
     for place in 0..lines.len() {
         let (_, left) = lines.split_at(place);
-        match step(alloc, singles, &mut pieces, at, lines[place], left)? {
-            Some(to) => at = to,
-            None => return Err(Stop::At(place)),
+        if !step(alloc, singles, &mut pieces, &mut at, lines[place], left)? {
+            return Err(Stop::At(place));
         }
     }
     match at {
@@ -71,28 +69,27 @@ fn pieces<'a>(
     }
 }
 
-// Where a line leads, if it fits, with which some lines begin; puts the piece that it's of or ends behind others.
+// Goes on by a line, if it fits, with which some lines begin; puts the piece that ends with it behind others.
 fn step<'a>(
     alloc: Global,
     singles: &[(Name, bool)],
     pieces: &mut Vec<Piece<'a>>,
-    from: Place<'a>,
+    at: &mut Place<'a>,
     line: &'a str,
     left: &[&str],
-) -> Result<Option<Place<'a>>, Memory>
-    requires { spec.AreSound (place_of from) }
-    ensures { IfOk result (λ to. spec.IsStep singles.now (place_of from.entry) line.now (pieces_of pieces.old.items) (pieces_of pieces.new.items) (option_map place_of to)) }
+) -> Result<bool, Memory>
+    requires { spec.AreSound (place_of at.old) }
+    ensures { IfOk result (λ fits. spec.IsStep singles.now (place_of at.old) line.now (pieces_of pieces.old.items) (pieces_of pieces.new.items) (cond fits (Some (place_of at.new)) None)) }
 {
     let Some(kind) = kind_of(line) else {
-        return Ok(None);
+        return Ok(false);
     };
-    let Some(Step { to, piece }) = next(alloc, singles, from, line, kind, left)? else {
-        return Ok(None);
-    };
-    if let Some(piece) = piece {
-        pieces.push(piece)?;
+    match next(alloc, singles, at, line, kind, left)? {
+        Step::Stuck => return Ok(false),
+        Step::On => {}
+        Step::Ends(piece) => pieces.push(piece)?,
     }
-    Ok(Some(to))
+    Ok(true)
 }
 
 // The last of some lines, alone.

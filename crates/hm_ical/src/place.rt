@@ -1,6 +1,4 @@
 //! Places between the lines of a calendar.
-ghost use Rattle.std.specs.Prelude.{◌≡◌, None, Some};
-
 use hm_components::Piece;
 use hm_properties::Line;
 
@@ -12,43 +10,38 @@ pub(crate) enum Place<'a> {
     /// Behind the last.
     Behind,
     /// Directly in the calendar, whose version has been told or not yet.
-    Calendar {
-        told: bool,
-    },
-    /// In an event with these lines so far, and in components of it with these names, the innermost last.
-    Event {
-        lines: Vec<Line<'a>>,
-        names: Vec<&'a str>,
-    },
+    Calendar { told: bool },
+    /// In an event, or in components of it.
+    Event(Event<'a>),
     /// In another component of this name, and in those around it, the innermost last.
-    Component {
-        name: &'a str,
-        around: Vec<&'a str>,
-    },
+    Component { name: &'a str, around: Vec<&'a str> },
 }
 
-/// A step: where a line leads, and the piece that it's of or ends.
+/// An event with these lines so far, and the names of the components of it, the innermost last.
 #[derive(Drop)]
-pub(crate) struct Step<'a> {
-    pub(crate) to: Place<'a>,
-    pub(crate) piece: Option<Piece<'a>>,
+pub(crate) struct Event<'a> {
+    pub(crate) lines: Vec<Line<'a>>,
+    pub(crate) names: Vec<&'a str>,
 }
 
-impl<'a> Step<'a> {
-    /// A step within a piece.
-    pub(crate) fn to(to: Place<'a>) -> Step<'a>
-        ensures { result ≡ record { to = to.entry; piece = None } }
-    {
-        Step { to, piece: None }
-    }
+/// What a line does at a place.
+#[derive(Drop)]
+pub(crate) enum Step<'a> {
+    /// It doesn't fit.
+    Stuck,
+    /// It leads on, and is of no piece that ends with it.
+    On,
+    /// It leads on, and this piece ends with it.
+    Ends(Piece<'a>),
+}
 
-    /// A step behind a piece.
-    pub(crate) fn with(piece: Piece<'a>, to: Place<'a>) -> Step<'a>
-        ensures { result ≡ record { to = to.entry; piece = Some piece.entry } }
-    {
-        Step {
-            to,
-            piece: Some(piece),
-        }
-    }
+/// What a line does in an event.
+#[derive(Clone, Copy)]
+pub(crate) enum Move {
+    /// It doesn't fit.
+    Stuck,
+    /// It is one more line of it.
+    On,
+    /// It ends the event.
+    Out,
 }

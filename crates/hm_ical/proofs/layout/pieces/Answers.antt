@@ -13,7 +13,7 @@ step-requires c =
 pub loop-place-preserved : goal.loop-place-preserved
 loop-place-preserved c =
     run_push c.args.singles.now c.args.lines.now c.loop-place.place _ c.loop-place-test.true (pieces_of c.loop-place.pieces.items) (pieces_of c.step.new.pieces.items)
-    (place_of c.loop-place.at) (place_of c.in-Some.to) c.loop-place.invariant (rw c.in-Some.is at c.in_ok-to.ensures)
+    (place_of c.loop-place.at) (place_of c.step.new.at) c.loop-place.invariant (rw c.if-not-branch.false at c.in_ok-step.ensures)
 
 pub returns : goal.returns
 returns c = record {
