@@ -16,6 +16,10 @@ mod schema_texts;
 #[cfg(test)]
 mod schemas;
 #[cfg(test)]
+mod setting;
+#[cfg(test)]
 mod tree_texts;
 #[cfg(test)]
 mod trees;
+#[cfg(test)]
+mod vertices;

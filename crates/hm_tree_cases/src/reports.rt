@@ -1,164 +1,154 @@
-//! Reports of conflicts, with the expected bytes by hand.
+//! Reports of conflicts, with the expected text by hand.
+use crate::setting::{expect, path_of, set_of};
 use hm_report::{Conflict, Why, write_report};
-use hm_tree::{Memory, Name, NameSet, Path};
+use hm_tree::Memory;
 use std::alloc::Global;
-use std::process::Abort;
 use std::test::Fail;
 
-fn list_of(alloc: Global, texts: &[&str]) -> Result<Vec<Name>, Memory> {
-    let mut names = Vec::new(alloc);
-    for text in texts {
-        names.push(Name::from_text(alloc, text)?)?;
-    }
-    Ok(names)
+// The texts of a path's names, or of a set's.
+type Texts = &'static [&'static str];
+
+// Why there is a conflict, by the texts of its names.
+#[derive(Clone, Copy)]
+enum Reason {
+    Earlier,
+    Lost(Texts),
+    Names(Texts, Texts),
 }
 
-fn path_of(alloc: Global, texts: &[&str]) -> Result<Path, Memory> {
-    Ok(Path {
-        names: list_of(alloc, texts)?,
-    })
-}
-
-fn earlier(alloc: Global, path: &[&str]) -> Result<Conflict, Memory> {
-    Ok(Conflict {
-        path: path_of(alloc, path)?,
-        why: Why::Earlier,
-    })
-}
-
-fn lost(alloc: Global, path: &[&str], kept: &[&str]) -> Result<Conflict, Memory> {
-    Ok(Conflict {
-        path: path_of(alloc, path)?,
-        why: Why::Lost {
+fn why(alloc: Global, reason: Reason) -> Result<Why, Memory> {
+    match reason {
+        Reason::Earlier => Ok(Why::Earlier),
+        Reason::Lost(kept) => Ok(Why::Lost {
             kept: path_of(alloc, kept)?,
-        },
-    })
+        }),
+        Reason::Names(left, right) => Ok(Why::Names {
+            left: set_of(alloc, left)?,
+            right: set_of(alloc, right)?,
+        }),
+    }
 }
 
-fn names(alloc: Global, path: &[&str], left: &[&str], right: &[&str]) -> Result<Conflict, Memory> {
+fn conflict(alloc: Global, path: Texts, reason: Reason) -> Result<Conflict, Memory> {
     Ok(Conflict {
         path: path_of(alloc, path)?,
-        why: Why::Names {
-            left: NameSet::from_list(list_of(alloc, left)?)?,
-            right: NameSet::from_list(list_of(alloc, right)?)?,
-        },
+        why: why(alloc, reason)?,
     })
 }
 
-fn assert_report(
-    rt: &impl Abort,
-    alloc: Global,
-    conflicts: &[Conflict],
-    expected: &[u8],
-) -> Result<(), Memory> {
-    let report = write_report(alloc, conflicts)?;
-    assert_eq!(rt; report.as_slice(), expected);
+fn report_of(alloc: Global, conflicts: &[(Texts, Reason)]) -> Result<Vec<u8>, Memory> {
+    let mut made = Vec::new(alloc);
+    for (path, reason) in conflicts {
+        made.push(conflict(alloc, path, *reason)?)?;
+    }
+    write_report(alloc, &made)
+}
+
+fn expect_report(alloc: Global, conflicts: &[(Texts, Reason)], want: &str) -> Result<(), Fail> {
+    expect(
+        report_of(alloc, conflicts)?.as_slice() == want.as_bytes(),
+        want,
+    )
+}
+
+// A conflict, and its line.
+type Case = (Texts, Reason, &'static str);
+
+// The report of each conflict alone is its line and the last one.
+fn expect_lines(alloc: Global, cases: &[Case]) -> Result<(), Fail> {
+    for (path, reason, line) in cases {
+        let want = format!(in alloc; "{line}\nconflicts 1\n")?;
+        expect_report(alloc, &[(*path, *reason)], want.as_str())?;
+    }
     Ok(())
 }
 
-// The report of one conflict is this line and the last one.
-fn assert_line(
-    rt: &impl Abort,
-    alloc: Global,
-    conflict: Conflict,
-    line: &[u8],
-) -> Result<(), Memory> {
-    let mut conflicts = Vec::new(alloc);
-    conflicts.push(conflict)?;
-    let mut expected = Vec::new(alloc);
-    expected.extend_from_slice(line)?;
-    expected.extend_from_slice(b"conflicts 1\n")?;
-    assert_report(rt, alloc, &conflicts, &expected)
-}
+const EARLIER: &[Case] = &[
+    (&[], Reason::Earlier, "conflict / earlier"),
+    (
+        &["Ann", "phone"],
+        Reason::Earlier,
+        "conflict /\"Ann\"/\"phone\" earlier",
+    ),
+    (
+        &["", "a\"b", "c\\", "\t\x7f"],
+        Reason::Earlier,
+        "conflict /\"\"/\"a\\\"b\"/\"c\\\\\"/\"\\x09\\x7f\" earlier",
+    ),
+];
 
 #[test]
 fn an_earlier_conflict(rt: HostRuntime) -> Result<(), Fail> {
-    let alloc = rt.alloc();
-    assert_line(&rt, alloc, earlier(alloc, &[])?, b"conflict / earlier\n")?;
-    assert_line(
-        &rt,
-        alloc,
-        earlier(alloc, &["Ann", "phone"])?,
-        b"conflict /\"Ann\"/\"phone\" earlier\n",
-    )?;
-    assert_line(
-        &rt,
-        alloc,
-        earlier(alloc, &["", "a\"b", "c\\", "\t\x7f"])?,
-        b"conflict /\"\"/\"a\\\"b\"/\"c\\\\\"/\"\\x09\\x7f\" earlier\n",
-    )?;
-    Ok(())
+    expect_lines(rt.alloc(), EARLIER)
 }
+
+const LOST: &[Case] = &[
+    (&[], Reason::Lost(&["Bob"]), "conflict / lost /\"Bob\""),
+    (
+        &["Ann"],
+        Reason::Lost(&["Ann", "email", "ann@example.org"]),
+        "conflict /\"Ann\" lost /\"Ann\"/\"email\"/\"ann@example.org\"",
+    ),
+];
 
 #[test]
 fn what_would_be_lost(rt: HostRuntime) -> Result<(), Fail> {
-    let alloc = rt.alloc();
-    assert_line(
-        &rt,
-        alloc,
-        lost(alloc, &[], &["Bob"])?,
-        b"conflict / lost /\"Bob\"\n",
-    )?;
-    assert_line(
-        &rt,
-        alloc,
-        lost(alloc, &["Ann"], &["Ann", "email", "ann@example.org"])?,
-        b"conflict /\"Ann\" lost /\"Ann\"/\"email\"/\"ann@example.org\"\n",
-    )?;
-    Ok(())
+    expect_lines(rt.alloc(), LOST)
 }
+
+const NAMES: &[Case] = &[
+    (
+        &["Ann"],
+        Reason::Names(&["phone", "email", "phone"], &["birthday"]),
+        "conflict /\"Ann\" names {\"email\",\"phone\"} {\"birthday\"}",
+    ),
+    (
+        &[],
+        Reason::Names(&[], &["a", "", "\"", "\\", "\n"]),
+        "conflict / names {} {\"\",\"\\x0a\",\"\\\"\",\"\\\\\",\"a\"}",
+    ),
+    (
+        &["a"],
+        Reason::Names(&["\u{e9}"], &[]),
+        "conflict /\"a\" names {\"\u{e9}\"} {}",
+    ),
+];
 
 #[test]
 fn names_that_are_not_permitted(rt: HostRuntime) -> Result<(), Fail> {
-    let alloc = rt.alloc();
-    assert_line(
-        &rt,
-        alloc,
-        names(alloc, &["Ann"], &["phone", "email", "phone"], &["birthday"])?,
-        b"conflict /\"Ann\" names {\"email\",\"phone\"} {\"birthday\"}\n",
-    )?;
-    assert_line(
-        &rt,
-        alloc,
-        names(alloc, &[], &[], &["a", "", "\"", "\\", "\n"])?,
-        b"conflict / names {} {\"\",\"\\x0a\",\"\\\"\",\"\\\\\",\"a\"}\n",
-    )?;
-    assert_line(
-        &rt,
-        alloc,
-        names(alloc, &["a"], &["\u{e9}"], &[])?,
-        b"conflict /\"a\" names {\"\xc3\xa9\"} {}\n",
-    )?;
-    Ok(())
+    expect_lines(rt.alloc(), NAMES)
 }
+
+// A line twelve times, and the last one.
+fn twelve(alloc: Global) -> Result<String, Memory> {
+    let mut text = String::new(alloc);
+    for _ in 0..12 {
+        text.push_str("conflict /\"a\" earlier\n")?;
+    }
+    text.push_str("conflicts 12\n")?;
+    Ok(text)
+}
+
+const ONE: (Texts, Reason) = (&["a"], Reason::Earlier);
 
 #[test]
 fn the_last_line(rt: HostRuntime) -> Result<(), Fail> {
     let alloc = rt.alloc();
-    let mut conflicts = Vec::new(alloc);
-    assert_report(&rt, alloc, &conflicts, b"agreed\n")?;
-    let mut expected = Vec::new(alloc);
-    for _ in 0..12 {
-        conflicts.push(earlier(alloc, &["a"])?)?;
-        expected.extend_from_slice(b"conflict /\"a\" earlier\n")?;
-    }
-    expected.extend_from_slice(b"conflicts 12\n")?;
-    assert_report(&rt, alloc, &conflicts, &expected)?;
-    Ok(())
+    expect_report(alloc, &[], "agreed\n")?;
+    let want = twelve(alloc)?;
+    expect_report(alloc, &[ONE; 12], want.as_str())
 }
+
+const CONFLICTS: &[(Texts, Reason)] = &[
+    (&["a"], Reason::Names(&["x"], &["y"])),
+    (&["b"], Reason::Lost(&["b", "c"])),
+    (&["c", "d"], Reason::Earlier),
+];
+
+const LINES: &str =
+    "conflict /\"a\" names {\"x\"} {\"y\"}\nconflict /\"b\" lost /\"b\"/\"c\"\nconflict /\"c\"/\"d\" earlier\nconflicts 3\n";
 
 #[test]
 fn lines_stand_in_the_order_of_the_conflicts(rt: HostRuntime) -> Result<(), Fail> {
-    let alloc = rt.alloc();
-    let mut conflicts = Vec::new(alloc);
-    conflicts.push(names(alloc, &["a"], &["x"], &["y"])?)?;
-    conflicts.push(lost(alloc, &["b"], &["b", "c"])?)?;
-    conflicts.push(earlier(alloc, &["c", "d"])?)?;
-    let mut expected = Vec::new(alloc);
-    expected.extend_from_slice(b"conflict /\"a\" names {\"x\"} {\"y\"}\n")?;
-    expected.extend_from_slice(b"conflict /\"b\" lost /\"b\"/\"c\"\n")?;
-    expected.extend_from_slice(b"conflict /\"c\"/\"d\" earlier\n")?;
-    expected.extend_from_slice(b"conflicts 3\n")?;
-    assert_report(&rt, alloc, &conflicts, &expected)?;
-    Ok(())
+    expect_report(rt.alloc(), CONFLICTS, LINES)
 }

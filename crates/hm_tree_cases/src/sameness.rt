@@ -1,8 +1,7 @@
 //! Small schemas, spelled in more ways than one.
-use hm_schema::{NodeId, Schema};
-use hm_schema_text::{SchemaFault, read_schema};
+use crate::setting::{expect, schema_of};
+use hm_schema::NodeId;
 use hm_table::{Table, same};
-use hm_tree::Memory;
 use std::alloc::Global;
 use std::test::Fail;
 
@@ -28,14 +27,6 @@ const CLEAN: &str = "harmony schema 1\nroot Book\nnode Book\n  other clean Empty
 const FILLED: &str =
     "harmony schema 1\nroot Book\nnode Book\n  other filled Empty\n  shape + 0..\n";
 
-fn schema_of(alloc: Global, text: &str) -> Result<Schema, Fail> {
-    match read_schema(alloc, text.as_bytes()) {
-        Ok(schema) => Ok(schema),
-        Err(SchemaFault::Memory) => Err(Memory.into()),
-        Err(SchemaFault::BadSchema { .. }) => Err("a schema isn't read".into()),
-    }
-}
-
 // Whether the roots of two schemas are the same in a table of both.
 fn are_same(alloc: Global, one: &str, two: &str) -> Result<bool, Fail> {
     let one = schema_of(alloc, one)?;
@@ -48,28 +39,36 @@ fn are_same(alloc: Global, one: &str, two: &str) -> Result<bool, Fail> {
     Ok(same(&table, one.root(), root))
 }
 
-#[test]
-fn lists_are_the_same_however_they_are_unrolled(rt: HostRuntime) -> Result<(), Fail> {
-    let alloc = rt.alloc();
-    assert!(rt; are_same(alloc, LIST, LIST)?);
-    assert!(rt; are_same(alloc, LIST, UNROLLED)?);
-    assert!(rt; are_same(alloc, UNROLLED, LIST)?);
-    assert!(rt; !are_same(alloc, LIST, SOME)?);
+// Whether the schemas of each pair are the same.
+fn expect_pairs(alloc: Global, pairs: &[(&str, &str, bool)]) -> Result<(), Fail> {
+    for (one, two, are) in pairs {
+        expect(are_same(alloc, one, two)? == *are, two)?;
+    }
     Ok(())
 }
+
+const LISTS: &[(&str, &str, bool)] = &[
+    (LIST, LIST, true),
+    (LIST, UNROLLED, true),
+    (UNROLLED, LIST, true),
+    (LIST, SOME, false),
+];
+
+#[test]
+fn lists_are_the_same_however_they_are_unrolled(rt: HostRuntime) -> Result<(), Fail> {
+    expect_pairs(rt.alloc(), LISTS)
+}
+
+const SPARES: &[(&str, &str, bool)] = &[(PLAIN, SPARE, true), (PLAIN, LIST, false)];
 
 #[test]
 fn names_that_stand_in_no_shape_do_not_count(rt: HostRuntime) -> Result<(), Fail> {
-    let alloc = rt.alloc();
-    assert!(rt; are_same(alloc, PLAIN, SPARE)?);
-    assert!(rt; !are_same(alloc, PLAIN, LIST)?);
-    Ok(())
+    expect_pairs(rt.alloc(), SPARES)
 }
+
+const CLASSES: &[(&str, &str, bool)] = &[(CLEAN, CLEAN, true), (CLEAN, FILLED, false)];
 
 #[test]
 fn classes_count(rt: HostRuntime) -> Result<(), Fail> {
-    let alloc = rt.alloc();
-    assert!(rt; are_same(alloc, CLEAN, CLEAN)?);
-    assert!(rt; !are_same(alloc, CLEAN, FILLED)?);
-    Ok(())
+    expect_pairs(rt.alloc(), CLASSES)
 }

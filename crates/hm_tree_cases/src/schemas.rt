@@ -1,40 +1,26 @@
-//! Small schemas, made by hand.
-ghost use Rattle.std.specs.Prelude.{◌≡◌, ◌≤◌, IfOk, IfSome, IsSome, [], ◌∷◌};
+//! Small schemas, and what they permit.
+ghost use Rattle.std.specs.Prelude.{◌≤◌, IfOk, IfSome, IsSome};
 ghost use Rattle.hm_tree.specs.States.{Path as PathValue};
-ghost use Rattle.hm_schema.specs.Values.{node_value, reached};
+ghost use Rattle.hm_schema.specs.Values.{reached};
 ghost use Rattle.hm_schema.specs.Membership.{HasNoTwins};
-ghost use Rattle.std.specs.FinSet.{from_list};
 
+use crate::setting::{expect, path_of, schema_of, set_of, spelled, tree_of};
 use hm_schema::{Node, NodeId, Schema, Shape, label_numbers, same};
-use hm_tree::{Class, Memory, Name, NameSet, Path, Tree};
+use hm_tree::{Class, Memory, Name, NameSet, Tree};
 use std::alloc::Global;
-use std::process::Abort;
 use std::test::Fail;
 
-// A tree of edges to nothing.
-fn flat(alloc: Global, names: &[&str]) -> Result<Tree, Memory> {
-    let mut tree = Tree::empty(alloc);
-    for text in names {
-        tree = with(tree, Name::from_text(alloc, text)?, Tree::empty(alloc))?;
+// A tree with so many edges one below another.
+fn chain(alloc: Global, depth: usize) -> Result<Tree, Fail> {
+    let mut text = String::new(alloc);
+    for _ in 1..depth {
+        text.push_str("{\"a\":")?;
     }
-    Ok(tree)
-}
-
-// A tree with an edge more, where it has none of that name.
-fn with(mut tree: Tree, name: Name, child: Tree) -> Result<Tree, Memory> {
-    if tree.child(&name).is_none() {
-        tree.insert(name, child)?;
-    }
-    Ok(tree)
-}
-
-// So many edges one below another, of one name.
-fn chain(alloc: Global, text: &str, depth: usize) -> Result<Tree, Memory> {
-    let mut tree = Tree::empty(alloc);
+    text.push_str("{\"a\"")?;
     for _ in 0..depth {
-        tree = with(Tree::empty(alloc), Name::from_text(alloc, text)?, tree)?;
+        text.push_str("}")?;
     }
-    Ok(tree)
+    tree_of(alloc, text.as_str())
 }
 
 // Names that aren't listed alone, at each path, in any number within bounds.
@@ -66,214 +52,146 @@ fn unlisted_alone(
     Ok(Schema::new(nodes, root))
 }
 
-// A shape of two optional names, and no others.
-fn either(alloc: Global, one: &str, two: &str) -> Result<Shape, Memory>
-    ensures { IfOk result (λ shape. shape ≡ record { required = from_list []; optional = from_list (one.now ∷ two.now ∷ []); least = 0; most = Some 0 }) }
-{
-    let mut names = Vec::new(alloc);
-    names.push(Name::from_text(alloc, one)?)?;
-    names.push(Name::from_text(alloc, two)?)?;
-    Ok(Shape {
-        required: NameSet::from_list(Vec::new(alloc))?,
-        optional: NameSet::from_list(names)?,
-        least: 0,
-        most: Some(0),
-    })
-}
-
-// A node that permits no names.
-fn leaf(alloc: Global) -> Result<Node, Memory>
-    ensures { IfOk result (λ node. node_value node ≡ record { shapes = record { required = from_list []; optional = from_list []; least = 0; most = Some 0 } ∷ []; children = []; other = None; twins = [] }) }
-{
-    let mut shapes = Vec::new(alloc);
-    shapes.push(Shape {
-        required: NameSet::from_list(Vec::new(alloc))?,
-        optional: NameSet::from_list(Vec::new(alloc))?,
-        least: 0,
-        most: Some(0),
-    })?;
-    Ok(Node {
-        shapes,
-        children: Vec::new(alloc),
-        other: None,
-        twins: Vec::new(alloc),
-    })
-}
-
 // Of x, y and z any two or fewer, with nothing below them.
-fn two_of_three(alloc: Global) -> Result<Schema, Memory>
+const TWO_OF_THREE: &str =
+    "harmony schema 1\nroot R\nnode R\n  edge x Empty\n  edge y Empty\n  edge z Empty\n  shape ? x y\n  shape ? x z\n  shape ? y z\n";
+
+fn two_of_three(alloc: Global) -> Result<Schema, Fail>
     ensures { IfOk result HasNoTwins }
 {
-    let mut shapes = Vec::new(alloc);
-    shapes.push(either(alloc, "x", "y")?)?;
-    shapes.push(either(alloc, "x", "z")?)?;
-    shapes.push(either(alloc, "y", "z")?)?;
-    let below = NodeId { place: 1 };
-    let mut children = Vec::new(alloc);
-    children.push((Name::from_text(alloc, "x")?, below))?;
-    children.push((Name::from_text(alloc, "y")?, below))?;
-    children.push((Name::from_text(alloc, "z")?, below))?;
-    let mut nodes = Vec::new(alloc);
-    nodes.push(Node {
-        shapes,
-        children,
-        other: None,
-        twins: Vec::new(alloc),
-    })?;
-    nodes.push(leaf(alloc)?)?;
-    Ok(Schema::new(nodes, NodeId { place: 0 }))
+    schema_of(alloc, TWO_OF_THREE)
 }
 
-// The set of some names.
-fn set(alloc: Global, names: &[&str]) -> Result<NameSet, Memory> {
-    let mut list = Vec::new(alloc);
-    for text in names {
-        list.push(Name::from_text(alloc, text)?)?;
+// Of each tree, whether its names are permitted at the root.
+fn expect_permitted(alloc: Global, schema: &Schema, cases: &[(&str, bool)]) -> Result<(), Fail> {
+    for (text, are) in cases {
+        let tree = tree_of(alloc, text)?;
+        expect(schema.permits(schema.root(), &tree) == *are, text)?;
     }
-    NameSet::from_list(list)
+    Ok(())
 }
 
-// Which path is the first outside, as a text with a slash before each name.
-fn first_outside(alloc: Global, schema: &Schema, tree: &Tree) -> Result<Option<String>, Memory>
+// Of each tree, whether it is a member.
+fn expect_members(alloc: Global, schema: &Schema, cases: &[(&str, bool)]) -> Result<(), Fail> {
+    for (text, is) in cases {
+        expect(schema.member(&tree_of(alloc, text)?) == *is, text)?;
+    }
+    Ok(())
+}
+
+// Of each set of names, whether it is permitted at the root.
+fn expect_sets(alloc: Global, schema: &Schema, cases: &[(&[&str], bool)]) -> Result<(), Fail> {
+    for (texts, are) in cases {
+        let names = set_of(alloc, texts)?;
+        expect(schema.permits_names(schema.root(), &names) == *are, "a set")?;
+    }
+    Ok(())
+}
+
+// The first path outside, with a slash before each name; empty where the tree is a member.
+fn first_outside(alloc: Global, schema: &Schema, tree: &Tree) -> Result<String, Memory>
     requires { HasNoTwins schema.now }
 {
     match schema.first_outside(alloc, tree)? {
-        Some(path) => Ok(Some(spelled(alloc, &path)?)),
-        None => Ok(None),
+        Some(path) => spelled(alloc, &path.names),
+        None => Ok(String::new(alloc)),
     }
 }
 
-fn spelled(alloc: Global, path: &Path) -> Result<String, Memory> {
-    let mut text = String::new(alloc);
-    for name in &path.names {
-        text.push_str("/")?;
-        text.push_str(name.text())?;
-    }
-    Ok(text)
+// This path is the first outside, and the tree is a member where that is empty.
+fn expect_outside(alloc: Global, schema: &Schema, tree: &Tree, want: &str) -> Result<(), Fail>
+    requires { HasNoTwins schema.now }
+{
+    expect(schema.member(tree) == want.is_empty(), "a member")?;
+    expect(first_outside(alloc, schema, tree)?.as_str() == want, want)
 }
+
+const ANY: &[(&str, bool)] = &[("{}", true), ("{\"\",\"a\",\"b c\"}", true)];
 
 #[test]
 fn everything_is_a_member(rt: HostRuntime) -> Result<(), Fail> {
     let alloc = rt.alloc();
     let schema = unlisted_alone(alloc, Class::Any, 0, None)?;
-    assert!(rt; schema.member(&Tree::empty(alloc)));
-    assert!(rt; schema.member(&flat(alloc, &["", "a", "b c"])?));
-    assert!(rt; schema.member(&chain(alloc, "a", 1000)?));
-    assert!(rt; first_outside(alloc, &schema, &chain(alloc, "a", 1000)?)?.is_none());
-    Ok(())
+    expect_members(alloc, &schema, ANY)?;
+    expect_outside(alloc, &schema, &chain(alloc, 1000)?, "")
 }
+
+const LONE: &[(&str, bool)] = &[("{\"a\"}", true), ("{}", false), ("{\"a\",\"b\"}", false)];
 
 #[test]
 fn one_unlisted_name_is_permitted(rt: HostRuntime) -> Result<(), Fail> {
     let alloc = rt.alloc();
     let schema = unlisted_alone(alloc, Class::Any, 1, Some(1))?;
-    let root = schema.root();
-    assert!(rt; schema.permits(root, &flat(alloc, &["a"])?));
-    assert!(rt; !schema.permits(root, &flat(alloc, &[])?));
-    assert!(rt; !schema.permits(root, &flat(alloc, &["a", "b"])?));
-    assert!(rt; !schema.member(&chain(alloc, "a", 3)?));
-    assert_eq!(rt;
-        first_outside(alloc, &schema, &chain(alloc, "a", 3)?)?.as_deref(),
-        Some("/a/a/a")
-    );
-    Ok(())
+    expect_permitted(alloc, &schema, LONE)?;
+    expect_outside(alloc, &schema, &chain(alloc, 3)?, "/a/a/a")
 }
+
+const FOLDED: &[(&str, bool)] = &[("{\"a\",\"b\"}", true), ("{\"B\",\"a\"}", false)];
 
 #[test]
 fn unlisted_names_have_a_class(rt: HostRuntime) -> Result<(), Fail> {
     let alloc = rt.alloc();
     let schema = unlisted_alone(alloc, Class::Folded, 0, None)?;
-    assert!(rt; schema.member(&flat(alloc, &["a", "b"])?));
-    assert!(rt; !schema.member(&flat(alloc, &["a", "B"])?));
-    Ok(())
+    expect_members(alloc, &schema, FOLDED)
 }
+
+const TWO: &[(&str, bool)] = &[
+    ("{}", true),
+    ("{\"x\",\"z\"}", true),
+    ("{\"x\",\"y\",\"z\"}", false),
+    ("{\"w\"}", false),
+];
 
 #[test]
 fn two_of_three_are_permitted(rt: HostRuntime) -> Result<(), Fail> {
-    let alloc = rt.alloc();
-    let schema = two_of_three(alloc)?;
-    let table: [(&[&str], bool); 4] = [
-        (&[], true),
-        (&["x", "z"], true),
-        (&["x", "y", "z"], false),
-        (&["w"], false),
-    ];
-    for (names, are) in table {
-        assert_eq!(rt; schema.permits(schema.root(), &flat(alloc, names)?), are);
-    }
-    Ok(())
+    expect_permitted(rt.alloc(), &two_of_three(rt.alloc())?, TWO)
 }
 
 #[test]
 fn what_stands_below_is_no_member(rt: HostRuntime) -> Result<(), Fail> {
     let alloc = rt.alloc();
     let schema = two_of_three(alloc)?;
-    let tree = with(
-        flat(alloc, &["x"])?,
-        Name::from_text(alloc, "z")?,
-        flat(alloc, &["x"])?,
-    )?;
-    assert!(rt; schema.permits(schema.root(), &tree));
-    assert!(rt; !schema.member(&tree));
-    assert_eq!(rt;
-        first_outside(alloc, &schema, &tree)?.as_deref(),
-        Some("/z")
-    );
-    Ok(())
+    let tree = tree_of(alloc, "{\"x\",\"z\":{\"x\"}}")?;
+    expect(schema.permits(schema.root(), &tree), "its names")?;
+    expect_outside(alloc, &schema, &tree, "/z")
 }
 
-// These sets of names are permitted at the root, or aren't.
-fn expect_sets(
-    rt: &impl Abort,
-    alloc: Global,
-    schema: &Schema,
-    table: &[(&[&str], bool)],
-) -> Result<(), Fail> {
-    for (names, are) in table {
-        assert_eq!(rt;
-            schema.permits_names(schema.root(), &set(alloc, names)?),
-            *are
-        );
-    }
-    Ok(())
-}
+const LISTED_SETS: &[(&[&str], bool)] = &[
+    (&[], true),
+    (&["z", "x", "z"], true),
+    (&["z", "y", "x"], false),
+    (&["w"], false),
+];
 
 #[test]
-fn sets_of_names_are_permitted(rt: HostRuntime) -> Result<(), Fail> {
-    let alloc = rt.alloc();
-    let listed: [(&[&str], bool); 4] = [
-        (&[], true),
-        (&["z", "x", "z"], true),
-        (&["z", "y", "x"], false),
-        (&["w"], false),
-    ];
-    expect_sets(&rt, alloc, &two_of_three(alloc)?, &listed)?;
-    let unlisted: [(&[&str], bool); 4] = [
-        (&["b", "a"], true),
-        (&[], false),
-        (&["a", "B"], false),
-        (&["a", "b", "c"], false),
-    ];
-    expect_sets(
-        &rt,
-        alloc,
-        &unlisted_alone(alloc, Class::Folded, 1, Some(2))?,
-        &unlisted,
-    )
+fn sets_of_listed_names_are_permitted(rt: HostRuntime) -> Result<(), Fail> {
+    expect_sets(rt.alloc(), &two_of_three(rt.alloc())?, LISTED_SETS)
+}
+
+const UNLISTED_SETS: &[(&[&str], bool)] = &[
+    (&["b", "a"], true),
+    (&[], false),
+    (&["a", "B"], false),
+    (&["a", "b", "c"], false),
+];
+
+#[test]
+fn sets_of_unlisted_names_are_permitted(rt: HostRuntime) -> Result<(), Fail> {
+    let schema = unlisted_alone(rt.alloc(), Class::Folded, 1, Some(2))?;
+    expect_sets(rt.alloc(), &schema, UNLISTED_SETS)
+}
+
+// Whether a path leads to the root again.
+fn leads_to_root(alloc: Global, texts: &[&str]) -> Result<bool, Memory> {
+    let schema = unlisted_alone(alloc, Class::Any, 0, None)?;
+    let path = path_of(alloc, texts)?;
+    Ok(schema.at(&path) == schema.root())
 }
 
 #[test]
 fn a_path_has_a_node(rt: HostRuntime) -> Result<(), Fail> {
-    let alloc = rt.alloc();
-    let schema = unlisted_alone(alloc, Class::Any, 0, None)?;
-    let mut path = Path {
-        names: Vec::new(alloc),
-    };
-    assert_eq!(rt; schema.at(&path), schema.root());
-    path.names.push(Name::from_text(alloc, "a")?)?;
-    path.names.push(Name::from_text(alloc, "b")?)?;
-    assert_eq!(rt; schema.at(&path), schema.root());
-    Ok(())
+    expect(leads_to_root(rt.alloc(), &[])?, "no name")?;
+    expect(leads_to_root(rt.alloc(), &["a", "b"])?, "two names")
 }
 
 #[test]
@@ -281,72 +199,108 @@ fn a_copy_is_the_same(rt: HostRuntime) -> Result<(), Fail> {
     let alloc = rt.alloc();
     let schema = two_of_three(alloc)?;
     let copy = schema.copy(alloc)?;
-    assert!(rt; same(alloc, &schema, &copy)?);
-    let root = copy.root();
-    assert!(rt; copy.permits(root, &flat(alloc, &["x", "z"])?));
-    assert!(rt; !copy.permits(root, &flat(alloc, &["x", "y", "z"])?));
+    expect(same(alloc, &schema, &copy)?, "the copy")?;
+    expect_permitted(alloc, &copy, TWO)
+}
+
+// A class of names, and how many there are at the most.
+type Bound = (Class, Option<u64>);
+
+// Whether the schemas of two such are the same.
+fn are_same(alloc: Global, one: Bound, two: Bound) -> Result<bool, Memory> {
+    let one = unlisted_alone(alloc, one.0, 0, one.1)?;
+    let two = unlisted_alone(alloc, two.0, 0, two.1)?;
+    same(alloc, &one, &two)
+}
+
+const PAIRS: &[(Bound, Bound, bool)] = &[
+    ((Class::Clean, None), (Class::Clean, None), true),
+    ((Class::Clean, None), (Class::Any, None), false),
+    ((Class::Clean, None), (Class::Clean, Some(1)), false),
+    ((Class::Clean, Some(0)), (Class::Any, Some(0)), true),
+];
+
+#[test]
+fn classes_and_bounds_differ(rt: HostRuntime) -> Result<(), Fail> {
+    for (one, two, are) in PAIRS {
+        assert!(rt; are_same(rt.alloc(), *one, *two)? == *are);
+    }
     Ok(())
 }
 
 #[test]
-fn classes_and_bounds_differ(rt: HostRuntime) -> Result<(), Fail> {
+fn listed_and_unlisted_names_differ(rt: HostRuntime) -> Result<(), Fail> {
     let alloc = rt.alloc();
-    let clean = unlisted_alone(alloc, Class::Clean, 0, None)?;
-    assert!(rt;
-        same(
-            alloc,
-            &clean,
-            &unlisted_alone(alloc, Class::Clean, 0, None)?
-        )?
-    );
-    assert!(rt; !same(alloc, &clean, &unlisted_alone(alloc, Class::Any, 0, None)?)?);
-    assert!(rt;
-        !same(
-            alloc,
-            &clean,
-            &unlisted_alone(alloc, Class::Clean, 0, Some(1))?
-        )?
-    );
-    assert!(rt; !same(alloc, &clean, &two_of_three(alloc)?)?);
-    let none = unlisted_alone(alloc, Class::Clean, 0, Some(0))?;
-    assert!(rt;
-        same(
-            alloc,
-            &none,
-            &unlisted_alone(alloc, Class::Any, 0, Some(0))?
-        )?
-    );
-    Ok(())
+    let unlisted = unlisted_alone(alloc, Class::Clean, 0, None)?;
+    expect(!same(alloc, &unlisted, &two_of_three(alloc)?)?, "the same")
 }
 
-// A node of one shape, which has all its names, and twins.
+// All these names, and no others.
+fn all_of(alloc: Global, names: &[&str]) -> Result<Shape, Memory> {
+    Ok(Shape {
+        required: set_of(alloc, names)?,
+        optional: set_of(alloc, &[])?,
+        least: 0,
+        most: Some(0),
+    })
+}
+
+// A node that has no names or all its names, and twins.
 fn twinned(alloc: Global, names: &[&str], twins: &[(&str, &str)]) -> Result<Node, Memory> {
-    let mut node = leaf(alloc)?;
+    let shapes = vec![in alloc; all_of(alloc, &[])?, all_of(alloc, names)?]?;
+    Ok(Node {
+        shapes,
+        children: children(alloc, names)?,
+        other: None,
+        twins: pairs(alloc, twins)?,
+    })
+}
+
+fn children(alloc: Global, names: &[&str]) -> Result<Vec<(Name, NodeId)>, Memory> {
     let mut children = Vec::new(alloc);
     for name in names {
         children.push((Name::from_text(alloc, name)?, NodeId { place: 0 }))?;
     }
-    node.shapes.push(Shape {
-        required: set(alloc, names)?,
-        optional: set(alloc, &[])?,
-        least: 0,
-        most: Some(0),
-    })?;
-    node.children = children;
-    for (one, two) in twins {
-        node.twins.push((Name::from_text(alloc, one)?, Name::from_text(alloc, two)?))?;
-    }
-    Ok(node)
+    Ok(children)
 }
+
+fn pairs(alloc: Global, twins: &[(&str, &str)]) -> Result<Vec<(Name, Name)>, Memory> {
+    let mut pairs = Vec::new(alloc);
+    for (one, two) in twins {
+        pairs.push((Name::from_text(alloc, one)?, Name::from_text(alloc, two)?))?;
+    }
+    Ok(pairs)
+}
+
+// The names of a node and its twins.
+type Twins = (
+    &'static [&'static str],
+    &'static [(&'static str, &'static str)],
+);
+
+// The numbers of the nodes' labels.
+fn numbers(alloc: Global, nodes: &[Twins]) -> Result<Vec<u64>, Memory> {
+    let mut made = Vec::new(alloc);
+    for (names, twins) in nodes {
+        made.push(twinned(alloc, names, twins)?)?;
+    }
+    let nodes: Vec<&Node> = made.iter().collect(alloc)?;
+    label_numbers(alloc, &nodes)
+}
+
+const NODES: &[Twins] = &[
+    (&["a", "b"], &[("a", "b"), ("b", "a")]),
+    (&["a", "b"], &[("a", "b")]),
+    (&["a", "b"], &[("b", "a"), ("a", "b"), ("b", "a")]),
+    (&["a"], &[]),
+    (&["a", "b"], &[("a", "b"), ("b", "a")]),
+];
 
 #[test]
 fn labels_have_numbers(rt: HostRuntime) -> Result<(), Fail> {
-    let alloc = rt.alloc();
-    let one = twinned(alloc, &["a", "b"], &[("a", "b"), ("b", "a")])?;
-    let two = twinned(alloc, &["a", "b"], &[("b", "a"), ("a", "b"), ("b", "a")])?;
-    let three = twinned(alloc, &["a", "b"], &[("a", "b")])?;
-    let four = twinned(alloc, &["a"], &[])?;
-    let numbers = label_numbers(alloc, &[&one, &three, &two, &four, &one])?;
-    assert_eq!(rt; numbers.as_slice(), [0, 1, 0, 2, 0].as_slice());
-    Ok(())
+    let found = numbers(rt.alloc(), NODES)?;
+    expect(
+        found.as_slice() == [0, 1, 0, 2, 0].as_slice(),
+        "the numbers",
+    )
 }

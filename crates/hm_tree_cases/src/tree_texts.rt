@@ -1,177 +1,211 @@
 //! Texts, read and written back, and the places at which other bytes are no text.
-use hm_tree::State;
+use crate::setting::expect;
+use hm_tree::{Memory, State};
 use hm_tree_text::{TextFault, read_archive, read_tree, write_archive, write_tree};
 use std::alloc::Global;
 use std::process::Abort;
 use std::test::Fail;
 
-fn reads_back(rt: &impl Abort, alloc: Global, text: &[u8]) -> Result<(), Fail> {
+// What is written of the tree that is read.
+fn rewritten_tree(alloc: Global, text: &[u8]) -> Result<Vec<u8>, Fail> {
     let tree = read_tree(alloc, text)?;
-    let written = write_tree(alloc, &tree)?;
-    assert_eq!(rt; written.as_slice(), text);
-    archive_reads_back(rt, alloc, text)
+    Ok(write_tree(alloc, &tree)?)
 }
 
-fn archive_reads_back(rt: &impl Abort, alloc: Global, text: &[u8]) -> Result<(), Fail> {
+fn rewritten_archive(alloc: Global, text: &[u8]) -> Result<Vec<u8>, Fail> {
     let archive = read_archive(alloc, text)?;
-    let written = write_archive(alloc, &archive)?;
-    assert_eq!(rt; written.as_slice(), text);
-    Ok(())
+    Ok(write_archive(alloc, &archive)?)
+}
+
+fn tree_reads_back(alloc: Global, text: &[u8]) -> Result<bool, Fail> {
+    Ok(rewritten_tree(alloc, text)?.as_slice() == text)
+}
+
+fn archive_reads_back(alloc: Global, text: &[u8]) -> Result<bool, Fail> {
+    Ok(rewritten_archive(alloc, text)?.as_slice() == text)
+}
+
+fn tree_fault(alloc: Global, text: &[u8]) -> Option<TextFault> {
+    read_tree(alloc, text).err()
+}
+
+fn archive_fault(alloc: Global, text: &[u8]) -> Option<TextFault> {
+    read_archive(alloc, text).err()
 }
 
 fn is_bad_tree(alloc: Global, text: &[u8], place: usize) -> bool {
-    match read_tree(alloc, text) {
-        Err(TextFault::BadTree { at }) => at == place,
-        _ => false,
-    }
+    tree_fault(alloc, text) == Some(TextFault::BadTree { at: place })
 }
 
 fn is_bad_archive(alloc: Global, text: &[u8], place: usize) -> bool {
-    match read_archive(alloc, text) {
-        Err(TextFault::BadTree { at }) => at == place,
-        _ => false,
+    archive_fault(alloc, text) == Some(TextFault::BadTree { at: place })
+}
+
+// Each text is bad at its place, as a tree and as an archive.
+fn expect_bad(rt: &impl Abort, alloc: Global, cases: &[(&[u8], usize)]) {
+    for (text, place) in cases {
+        assert!(rt; is_bad_tree(alloc, text, *place) && is_bad_archive(alloc, text, *place));
     }
 }
 
-fn is_bad(alloc: Global, text: &[u8], place: usize) -> bool {
-    is_bad_tree(alloc, text, place) && is_bad_archive(alloc, text, place)
+// The beginning of the text of a tree of one path of this many edges.
+fn opened(alloc: Global, depth: usize) -> Result<Vec<u8>, Memory> {
+    let mut text = Vec::new(alloc);
+    for _ in 1..depth {
+        text.extend_from_slice(b"{\"a\":")?;
+    }
+    text.extend_from_slice(b"{\"a\"")?;
+    Ok(text)
 }
 
 // The text of a tree of one path of this many edges, without its line feed.
-fn chain(alloc: Global, depth: usize) -> Result<Vec<u8>, Fail> {
-    let mut text = Vec::new(alloc);
-    for level in 0..depth {
-        text.extend_from_slice(if level == 0 { b"{\"a\"" } else { b":{\"a\"" })?;
-    }
+fn chain(alloc: Global, depth: usize) -> Result<Vec<u8>, Memory> {
+    let mut text = opened(alloc, depth)?;
     for _ in 0..depth {
         text.push(b'}')?;
     }
     Ok(text)
 }
 
+const TREES: &[&[u8]] = &[
+    b"{}\n",
+    b"{\"\"}\n",
+    b"{\"\",\"\\x00\",\"A\"}\n",
+    b"{\"a\":{\"b\",\"c\":{\"d\"}},\"e\"}\n",
+    b"{\" !#[]~\",\"\\\"\",\"\\\\:\":{\"{:,}\",\"\\x7f\",\"\xC3\xA9\"}}\n",
+];
+
 #[test]
 fn texts_are_read_and_written_back(rt: HostRuntime) -> Result<(), Fail> {
-    let alloc = rt.alloc();
-    reads_back(&rt, alloc, b"{}\n")?;
-    reads_back(&rt, alloc, b"{\"\"}\n")?;
-    reads_back(&rt, alloc, b"{\"\",\"\\x00\",\"A\"}\n")?;
-    reads_back(&rt, alloc, b"{\"a\":{\"b\",\"c\":{\"d\"}},\"e\"}\n")?;
-    reads_back(
-        &rt,
-        alloc,
-        b"{\" !#[]~\",\"\\\"\",\"\\\\:\":{\"{:,}\",\"\\x7f\",\"\xC3\xA9\"}}\n",
-    )?;
-    archive_reads_back(&rt, alloc, b"")?;
-    archive_reads_back(&rt, alloc, b"!\n")?;
-    archive_reads_back(&rt, alloc, b"{\"a\":!,\"b\":{\"\":!},\"c\"}\n")?;
-    Ok(())
-}
-
-#[test]
-fn other_bytes_are_refused_at_their_place(rt: HostRuntime) -> Result<(), Fail> {
-    let alloc = rt.alloc();
-    let table: [(&[u8], usize); 21] = [
-        (b"{\"a\"}", 5),
-        (b"{\"b\",\"a\"}\n", 6),
-        (b"{\"\xC3(", 3),
-        (b"{\"`\",\"\\\\", 7),
-        (b"{\"`\",\"\\x7f\"}", 12),
-        (b"{\"a\",\"a\"}\n", 7),
-        (b"{\"a\",\"`\"}\n", 6),
-        (b"{\"\",\"\"}\n", 5),
-        (b"{\"a\":{}}\n", 6),
-        (b"{\"a\"}\n\n", 6),
-        (b"{\"a\"}}\n", 5),
-        (b"{\"\\x41\"}\n", 4),
-        (b"{\"\\x7e\"}\n", 5),
-        (b"{\"\\x1F\"}\n", 5),
-        (b"{\"\\q\"}\n", 3),
-        (b"{\"\x1f\"}\n", 2),
-        (b"{\"\x7f\"}\n", 2),
-        (b"{\"a\",}\n", 5),
-        (b"{ }\n", 1),
-        (b"{\"a\"\n", 4),
-        (b"\n", 0),
-    ];
-    for (bytes, place) in table {
-        assert!(rt; is_bad(alloc, bytes, place));
-    }
-    assert!(rt; is_bad_tree(alloc, b"", 0));
-    assert!(rt; is_bad_tree(alloc, b"!\n", 0));
-    assert!(rt; is_bad_tree(alloc, b"{\"a\":!}\n", 5));
-    assert!(rt; is_bad_archive(alloc, b"!", 1));
-    assert!(rt; is_bad_archive(alloc, b"!\n\n", 2));
-    assert!(rt; is_bad_archive(alloc, b"{!}\n", 1));
-    Ok(())
-}
-
-#[test]
-fn bytes_of_characters_are_refused_at_their_place(rt: HostRuntime) -> Result<(), Fail> {
-    let alloc = rt.alloc();
-    let table: [(&[u8], usize); 13] = [
-        (b"{\"\x80", 2),
-        (b"{\"\xC1\x80", 2),
-        (b"{\"\xE0\x9F", 3),
-        (b"{\"\xE0\xA0\x7F", 4),
-        (b"{\"\xED\xA0", 3),
-        (b"{\"\xF4\x90", 3),
-        (b"{\"\xF5\x80", 2),
-        (b"{\"\xF0\x90\x80\"", 5),
-        (b"{\"\xC3\xA9\",\"\\", 7),
-        (b"{\"\xC3\xA9\",\"\xC3\xA8", 8),
-        (b"{\"\xC3\xA9\",\"\xC3\xA9\"", 9),
-        (b"{\"\\x10\",\"\\x0", 11),
-        (b"{\"\\x10\",\"\\x10\"", 13),
-    ];
-    for (bytes, place) in table {
-        assert!(rt; is_bad(alloc, bytes, place));
+    for text in TREES {
+        assert!(rt; tree_reads_back(rt.alloc(), text)?);
+        assert!(rt; archive_reads_back(rt.alloc(), text)?);
     }
     Ok(())
 }
 
-// Each beginning of a text is bad at its end.
+const ARCHIVES: &[&[u8]] = &[b"", b"!\n", b"{\"a\":!,\"b\":{\"\":!},\"c\"}\n"];
+
+#[test]
+fn texts_of_archives_are_read_and_written_back(rt: HostRuntime) -> Result<(), Fail> {
+    for text in ARCHIVES {
+        assert!(rt; archive_reads_back(rt.alloc(), text)?);
+    }
+    Ok(())
+}
+
+const BAD: &[(&[u8], usize)] = &[
+    (b"{\"a\"}", 5),
+    (b"{\"b\",\"a\"}\n", 6),
+    (b"{\"\xC3(", 3),
+    (b"{\"`\",\"\\\\", 7),
+    (b"{\"`\",\"\\x7f\"}", 12),
+    (b"{\"a\",\"a\"}\n", 7),
+    (b"{\"a\",\"`\"}\n", 6),
+    (b"{\"\",\"\"}\n", 5),
+    (b"{\"a\":{}}\n", 6),
+    (b"{\"a\"}\n\n", 6),
+    (b"{\"a\"}}\n", 5),
+    (b"{\"\\x41\"}\n", 4),
+    (b"{\"\\x7e\"}\n", 5),
+    (b"{\"\\x1F\"}\n", 5),
+    (b"{\"\\q\"}\n", 3),
+    (b"{\"\x1f\"}\n", 2),
+    (b"{\"\x7f\"}\n", 2),
+    (b"{\"a\",}\n", 5),
+    (b"{ }\n", 1),
+    (b"{\"a\"\n", 4),
+    (b"\n", 0),
+];
+
+#[test]
+fn other_bytes_are_refused_at_their_place(rt: HostRuntime) {
+    expect_bad(&rt, rt.alloc(), BAD);
+}
+
+const NO_TREES: &[(&[u8], usize)] = &[(b"", 0), (b"!\n", 0), (b"{\"a\":!}\n", 5)];
+
+#[test]
+fn marks_stand_in_no_tree(rt: HostRuntime) {
+    for (bytes, place) in NO_TREES {
+        assert!(rt; is_bad_tree(rt.alloc(), bytes, *place));
+    }
+}
+
+const NO_ARCHIVES: &[(&[u8], usize)] = &[(b"!", 1), (b"!\n\n", 2), (b"{!}\n", 1)];
+
+#[test]
+fn other_marks_are_refused_at_their_place(rt: HostRuntime) {
+    for (bytes, place) in NO_ARCHIVES {
+        assert!(rt; is_bad_archive(rt.alloc(), bytes, *place));
+    }
+}
+
+const BAD_CHARACTERS: &[(&[u8], usize)] = &[
+    (b"{\"\x80", 2),
+    (b"{\"\xC1\x80", 2),
+    (b"{\"\xE0\x9F", 3),
+    (b"{\"\xE0\xA0\x7F", 4),
+    (b"{\"\xED\xA0", 3),
+    (b"{\"\xF4\x90", 3),
+    (b"{\"\xF5\x80", 2),
+    (b"{\"\xF0\x90\x80\"", 5),
+    (b"{\"\xC3\xA9\",\"\\", 7),
+    (b"{\"\xC3\xA9\",\"\xC3\xA8", 8),
+    (b"{\"\xC3\xA9\",\"\xC3\xA9\"", 9),
+    (b"{\"\\x10\",\"\\x0", 11),
+    (b"{\"\\x10\",\"\\x10\"", 13),
+];
+
+#[test]
+fn bytes_of_characters_are_refused_at_their_place(rt: HostRuntime) {
+    expect_bad(&rt, rt.alloc(), BAD_CHARACTERS);
+}
+
+// Each beginning of this text is bad at its end.
+const WHOLE: &[u8] = b"{\"a\":{\"b\\\"\",\"c\":!},\"d\"}\n";
+
 #[test]
 fn beginnings_are_refused_at_their_end(rt: HostRuntime) -> Result<(), Fail> {
-    let alloc = rt.alloc();
-    let text = b"{\"a\":{\"b\\\"\",\"c\":!},\"d\"}\n";
-    archive_reads_back(&rt, alloc, text)?;
-    for end in 1..text.len() {
-        assert!(rt; is_bad_archive(alloc, &text[..end], end));
+    assert!(rt; archive_reads_back(rt.alloc(), WHOLE)?);
+    for end in 1..WHOLE.len() {
+        assert!(rt; is_bad_archive(rt.alloc(), &WHOLE[..end], end));
     }
     Ok(())
 }
 
 #[test]
 fn a_thousand_levels_are_read(rt: HostRuntime) -> Result<(), Fail> {
-    let alloc = rt.alloc();
-    let mut text = chain(alloc, 1000)?;
+    let mut text = chain(rt.alloc(), 1000)?;
     text.push(b'\n')?;
-    reads_back(&rt, alloc, text.as_slice())?;
-    let text = chain(alloc, 1001)?;
-    assert!(rt; matches!(read_tree(alloc, text.as_slice()), Err(TextFault::TooDeep)));
-    assert!(rt;
-        matches!(
-            read_archive(alloc, text.as_slice()),
-            Err(TextFault::TooDeep)
-        )
-    );
-    let mut text = Vec::new(alloc);
-    for level in 0..1001 {
-        text.extend_from_slice(if level == 0 { b"{\"a\"" } else { b":{\"a\"" })?;
-    }
-    assert!(rt; matches!(read_tree(alloc, text.as_slice()), Err(TextFault::TooDeep)));
-    Ok(())
+    expect(tree_reads_back(rt.alloc(), &text)?, "as a tree")?;
+    expect(archive_reads_back(rt.alloc(), &text)?, "as an archive")
 }
 
 #[test]
-fn roots_of_archives(rt: HostRuntime) -> Result<(), Fail> {
+fn more_levels_are_too_deep(rt: HostRuntime) -> Result<(), Fail> {
     let alloc = rt.alloc();
-    let missing = read_archive(alloc, b"")?;
-    assert_eq!(rt; missing.root(), State::Missing);
-    let marked = read_archive(alloc, b"!\n")?;
-    assert_eq!(rt; marked.root(), State::Marked);
-    let present = read_archive(alloc, b"{}\n")?;
-    assert_eq!(rt; present.root(), State::Present);
+    let too_deep = Some(TextFault::TooDeep);
+    let text = chain(alloc, 1001)?;
+    expect(tree_fault(alloc, &text) == too_deep, "a tree")?;
+    expect(archive_fault(alloc, &text) == too_deep, "an archive")?;
+    expect(
+        tree_fault(alloc, &opened(alloc, 1001)?) == too_deep,
+        "a beginning",
+    )
+}
+
+const ROOTS: &[(&[u8], State)] = &[
+    (b"", State::Missing),
+    (b"!\n", State::Marked),
+    (b"{}\n", State::Present),
+];
+
+#[test]
+fn roots_of_archives(rt: HostRuntime) -> Result<(), Fail> {
+    for (text, root) in ROOTS {
+        assert!(rt; read_archive(rt.alloc(), text)?.root() == *root);
+    }
     Ok(())
 }
 

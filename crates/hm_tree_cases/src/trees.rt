@@ -1,10 +1,10 @@
 //! Names, their classes and spellings, sets and paths, with expected values by hand.
+use crate::setting::{expect, path_of, set_of, spelled, tree_of};
 use hm_spelling::{append_path, spell_name, unspell_name};
-use hm_tree::{Archive, Class, Memory, Name, NameSet, Path, State, Tree, take_under};
+use hm_tree::{Archive, Class, Memory, Name, NameSet, State, Tree, take_under};
 use std::alloc::Global;
 use std::collections::{BTreeMap, VecDeque};
 use std::mem::size_of;
-use std::process::Abort;
 use std::test::Fail;
 
 // Whether a text is in each class, in the order in which they are declared.
@@ -29,54 +29,55 @@ const TRIMMED: [bool; 5] = [true, true, true, true, false];
 
 const FOLDED: [bool; 5] = [true, true, true, true, true];
 
-#[test]
-fn classes_of_ascii(rt: HostRuntime) -> Result<(), Fail> {
-    let alloc = rt.alloc();
-    for (text, classes) in [
-        ("", CLEAN),
-        ("  ", CLEAN),
-        (" a", FILLED),
-        ("a ", FILLED),
-        ("a", FOLDED),
-        ("a b", FOLDED),
-        ("aB", TRIMMED),
-    ] {
-        assert_eq!(rt; classes_of(alloc, text)?, classes);
+fn expect_classes(alloc: Global, cases: &[(&str, [bool; 5])]) -> Result<(), Fail> {
+    for (text, classes) in cases {
+        expect(classes_of(alloc, text)? == *classes, text)?;
     }
     Ok(())
 }
+
+const ASCII: &[(&str, [bool; 5])] = &[
+    ("", CLEAN),
+    ("  ", CLEAN),
+    (" a", FILLED),
+    ("a ", FILLED),
+    ("a", FOLDED),
+    ("a b", FOLDED),
+    ("aB", TRIMMED),
+];
+
+#[test]
+fn classes_of_ascii(rt: HostRuntime) -> Result<(), Fail> {
+    expect_classes(rt.alloc(), ASCII)
+}
+
+const CONTROLS: &[(&str, [bool; 5])] = &[
+    ("a\tb", FOLDED),
+    ("a\nb", FOLDED),
+    ("a\rb", ANY),
+    ("\x01", ANY),
+    ("a\x7f", ANY),
+];
 
 #[test]
 fn classes_of_controls(rt: HostRuntime) -> Result<(), Fail> {
-    let alloc = rt.alloc();
-    for (text, classes) in [
-        ("a\tb", FOLDED),
-        ("a\nb", FOLDED),
-        ("a\rb", ANY),
-        ("\x01", ANY),
-        ("a\x7f", ANY),
-    ] {
-        assert_eq!(rt; classes_of(alloc, text)?, classes);
-    }
-    Ok(())
+    expect_classes(rt.alloc(), CONTROLS)
 }
 
 // \u{df} folds to ss, \u{c9} to \u{e9}, and \u{e9} to itself.
+const LETTERS: &[(&str, [bool; 5])] = &[
+    ("\u{df}", TRIMMED),
+    ("ss", FOLDED),
+    ("\u{e9}", FOLDED),
+    ("\u{c9}", TRIMMED),
+    ("a\u{e9}", FOLDED),
+    ("\u{e9}B", TRIMMED),
+    ("\u{e9}\u{1f80}", TRIMMED),
+];
+
 #[test]
 fn classes_of_letters(rt: HostRuntime) -> Result<(), Fail> {
-    let alloc = rt.alloc();
-    for (text, classes) in [
-        ("\u{df}", TRIMMED),
-        ("ss", FOLDED),
-        ("\u{e9}", FOLDED),
-        ("\u{c9}", TRIMMED),
-        ("a\u{e9}", FOLDED),
-        ("\u{e9}B", TRIMMED),
-        ("\u{e9}\u{1f80}", TRIMMED),
-    ] {
-        assert_eq!(rt; classes_of(alloc, text)?, classes);
-    }
-    Ok(())
+    expect_classes(rt.alloc(), LETTERS)
 }
 
 // Each edge of a tree has a name in it, so what a name takes is what a tree takes.
@@ -85,217 +86,246 @@ fn room_of_a_name(rt: HostRuntime) {
     assert!(rt; size_of::<Name>() <= 32);
 }
 
+// Whether a name of a text and its copy have that text.
+fn is_copied(alloc: Global, text: &str) -> Result<bool, Memory> {
+    let name = Name::from_text(alloc, text)?;
+    let copy = name.copy()?;
+    Ok(name.text() == text && copy.text() == text)
+}
+
+// Whether a name of a string is that of its text.
+fn is_made(alloc: Global, text: &str) -> Result<bool, Memory> {
+    let made = Name::from_string(alloc, String::from_str(alloc, text)?)?;
+    let name = Name::from_text(alloc, text)?;
+    Ok(made.same(&name))
+}
+
+// Whether a name is less than another one, and another one.
+fn is_less(alloc: Global, one: &str, two: &str) -> Result<bool, Memory> {
+    let one = Name::from_text(alloc, one)?;
+    let two = Name::from_text(alloc, two)?;
+    Ok(one.order(&two).is_lt() && !one.same(&two))
+}
+
 // Of 16 bytes a name still lies in the value, of 17 no more.
+const SHORT: &str = "abcdefghijklmnop";
+
+const LONG: &str = "abcdefghijklmnopq";
+
 #[test]
 fn short_and_long_names(rt: HostRuntime) -> Result<(), Fail> {
     let alloc = rt.alloc();
-    for text in ["abcdefghijklmnop", "abcdefghijklmnopq"] {
-        let name = Name::from_text(alloc, text)?;
-        assert_eq!(rt; name.text(), text);
-        assert_eq!(rt; name.copy()?.text(), text);
-        assert!(rt; Name::from_string(alloc, String::from_str(alloc, text)?)?.same(&name));
+    for text in [SHORT, LONG] {
+        expect(is_copied(alloc, text)?, text)?;
+        expect(is_made(alloc, text)?, text)?;
     }
-    let short = Name::from_text(alloc, "abcdefghijklmnop")?;
-    let long = Name::from_text(alloc, "abcdefghijklmnopq")?;
-    assert!(rt; short.order(&long).is_lt());
-    assert!(rt; !short.same(&long));
-    Ok(())
+    expect(is_less(alloc, SHORT, LONG)?, "the order")
 }
 
-fn assert_cleaned(rt: &impl Abort, alloc: Global, text: &str, left: &str) -> Result<(), Memory> {
-    let name = Name::cleaned(alloc, text)?;
-    assert_eq!(rt; name.text(), left);
-    Ok(())
+fn is_cleaned(alloc: Global, text: &str, left: &str) -> Result<bool, Memory> {
+    Ok(Name::cleaned(alloc, text)?.text() == left)
 }
+
+// Each text, and what is left of it.
+const CLEANED: &[(&str, &str)] = &[
+    ("", ""),
+    ("a b", "a b"),
+    ("a\r\nb\rc\x01", "a\nb\nc"),
+    ("\r\r\n\n", "\n\n\n"),
+    ("\t\x7f\u{e9}\x1f", "\t\u{e9}"),
+];
 
 #[test]
 fn cleaning(rt: HostRuntime) -> Result<(), Fail> {
-    let alloc = rt.alloc();
-    for (text, left) in [
-        ("", ""),
-        ("a b", "a b"),
-        ("a\r\nb\rc\x01", "a\nb\nc"),
-        ("\r\r\n\n", "\n\n\n"),
-        ("\t\x7f\u{e9}\x1f", "\t\u{e9}"),
-    ] {
-        assert_cleaned(&rt, alloc, text, left)?;
+    for (text, left) in CLEANED {
+        expect(is_cleaned(rt.alloc(), text, left)?, text)?;
     }
     Ok(())
 }
 
-// A text is spelled so, and that is read back, whatever follows.
-fn assert_spelled(
-    rt: &impl Abort,
-    alloc: Global,
-    text: &str,
-    spelled: &[u8],
-) -> Result<(), Memory> {
-    let name = Name::from_text(alloc, text)?;
-    let mut bytes = spell_name(alloc, &name)?;
-    assert_eq!(rt; bytes.as_slice(), spelled);
-    bytes.extend_from_slice(b"\"b\"")?;
-    match unspell_name(alloc, &bytes)? {
-        Some((read, length)) => {
-            assert_eq!(rt; read.text(), text);
-            assert_eq!(rt; length, spelled.len());
-        }
-        None => assert!(rt; false),
+// Whether some bytes begin with the spelling of a text, of so many bytes.
+fn begins(alloc: Global, bytes: &[u8], text: &str, length: usize) -> Result<bool, Memory> {
+    match unspell_name(alloc, bytes)? {
+        Some((name, end)) => Ok(name.text() == text && end == length),
+        None => Ok(false),
     }
-    Ok(())
 }
+
+// Whether a text is spelled so, and that is read back, whatever follows.
+fn is_spelled(alloc: Global, text: &str, spelled: &[u8]) -> Result<bool, Memory> {
+    let mut bytes = spell_name(alloc, &Name::from_text(alloc, text)?)?;
+    let is = bytes.as_slice() == spelled;
+    bytes.extend_from_slice(b"\"b\"")?;
+    Ok(is && begins(alloc, &bytes, text, spelled.len())?)
+}
+
+const SPELLINGS: &[(&str, &[u8])] = &[
+    ("", b"\"\""),
+    ("abc", b"\"abc\""),
+    ("abcdefghijklmnopqrs", b"\"abcdefghijklmnopqrs\""),
+    ("a\"b\\c", b"\"a\\\"b\\\\c\""),
+    ("\x00\t\n\x1f\x7f", b"\"\\x00\\x09\\x0a\\x1f\\x7f\""),
+    ("\u{e9} b", b"\"\xc3\xa9 b\""),
+];
 
 #[test]
 fn spellings(rt: HostRuntime) -> Result<(), Fail> {
-    let alloc = rt.alloc();
-    let table: [(&str, &[u8]); 6] = [
-        ("", b"\"\""),
-        ("abc", b"\"abc\""),
-        ("abcdefghijklmnopqrs", b"\"abcdefghijklmnopqrs\""),
-        ("a\"b\\c", b"\"a\\\"b\\\\c\""),
-        ("\x00\t\n\x1f\x7f", b"\"\\x00\\x09\\x0a\\x1f\\x7f\""),
-        ("\u{e9} b", b"\"\xc3\xa9 b\""),
-    ];
-    for (text, spelled) in table {
-        assert_spelled(&rt, alloc, text, spelled)?;
+    for (text, spelled) in SPELLINGS {
+        expect(is_spelled(rt.alloc(), text, spelled)?, text)?;
     }
     Ok(())
 }
 
+const NO_SPELLINGS: &[&[u8]] = &[
+    b"",
+    b"a\"\"",
+    b"\"a",
+    b"\"a\\\"",
+    b"\"\\q\"",
+    b"\"\\x1\"",
+    b"\"\\x41\"",
+    b"\"\\x1F\"",
+    b"\"a\nb\"",
+    b"\"\x7f\"",
+    b"\"\xc3\"",
+];
+
 #[test]
 fn no_spellings(rt: HostRuntime) -> Result<(), Fail> {
-    let alloc = rt.alloc();
-    let table: [&[u8]; 11] = [
-        b"",
-        b"a\"\"",
-        b"\"a",
-        b"\"a\\\"",
-        b"\"\\q\"",
-        b"\"\\x1\"",
-        b"\"\\x41\"",
-        b"\"\\x1F\"",
-        b"\"a\nb\"",
-        b"\"\x7f\"",
-        b"\"\xc3\"",
-    ];
-    for bytes in table {
-        assert!(rt; unspell_name(alloc, bytes)?.is_none());
+    for bytes in NO_SPELLINGS {
+        assert!(rt; unspell_name(rt.alloc(), bytes)?.is_none());
     }
     Ok(())
+}
+
+fn is_in(alloc: Global, set: &NameSet, text: &str) -> Result<bool, Memory> {
+    Ok(set.has(&Name::from_text(alloc, text)?))
 }
 
 #[test]
 fn sets(rt: HostRuntime) -> Result<(), Fail> {
     let alloc = rt.alloc();
-    let mut names = Vec::new(alloc);
-    for text in ["b", "a", "b", "c", "a"] {
-        names.push(Name::from_text(alloc, text)?)?;
-    }
-    let set = NameSet::from_list(names)?;
-    let kept = set.names();
-    assert_eq!(rt; kept.len(), 3);
-    assert_eq!(rt; kept[0].text(), "a");
-    assert_eq!(rt; kept[1].text(), "b");
-    assert_eq!(rt; kept[2].text(), "c");
-    assert!(rt; set.has(&Name::from_text(alloc, "b")?));
-    assert!(rt; !set.has(&Name::from_text(alloc, "bb")?));
-    Ok(())
+    let set = set_of(alloc, &["b", "a", "b", "c", "a"])?;
+    expect(spelled(alloc, set.names())?.as_str() == "/a/b/c", "all")?;
+    expect(is_in(alloc, &set, "b")?, "b")?;
+    expect(!is_in(alloc, &set, "bb")?, "bb")
 }
 
-fn path_of(alloc: Global, texts: &[&str]) -> Result<Path, Memory> {
-    let mut names = Vec::new(alloc);
-    for text in texts {
-        names.push(Name::from_text(alloc, text)?)?;
-    }
-    Ok(Path { names })
-}
-
-// A path is spelled so.
-fn assert_path_spelled(
-    rt: &impl Abort,
-    alloc: Global,
-    texts: &[&str],
-    spelled: &[u8],
-) -> Result<(), Memory> {
+fn is_path_spelled(alloc: Global, texts: &[&str], spelled: &str) -> Result<bool, Memory> {
     let mut bytes = Vec::new(alloc);
     append_path(&path_of(alloc, texts)?, &mut bytes)?;
-    assert_eq!(rt; bytes.as_slice(), spelled);
-    Ok(())
+    Ok(bytes.as_slice() == spelled.as_bytes())
 }
+
+const PATHS: &[(&[&str], &str)] = &[
+    (&[], "/"),
+    (&[""], "/\"\""),
+    (&["a", "b/c"], "/\"a\"/\"b/c\""),
+    (&["a\"", "\t"], "/\"a\\\"\"/\"\\x09\""),
+];
 
 #[test]
 fn spellings_of_paths(rt: HostRuntime) -> Result<(), Fail> {
-    let alloc = rt.alloc();
-    let table: [(&[&str], &[u8]); 4] = [
-        (&[], b"/"),
-        (&[""], b"/\"\""),
-        (&["a", "b/c"], b"/\"a\"/\"b/c\""),
-        (&["a\"", "\t"], b"/\"a\\\"\"/\"\\x09\""),
-    ];
-    for (texts, spelled) in table {
-        assert_path_spelled(&rt, alloc, texts, spelled)?;
+    for (texts, spelled) in PATHS {
+        expect(is_path_spelled(rt.alloc(), texts, spelled)?, spelled)?;
     }
     Ok(())
 }
 
-// The tree of the one edge.
-fn edge_to(alloc: Global, text: &str, child: Tree) -> Result<Tree, Memory> {
-    let mut tree = Tree::empty(alloc);
+fn has(alloc: Global, tree: &Tree, texts: &[&str]) -> Result<bool, Memory> {
+    Ok(tree.has(&path_of(alloc, texts)?))
+}
+
+// Whether a path is in the tree of an edge below another one.
+const PATHS_OF_TWO: &[(&[&str], bool)] = &[
+    (&[], true),
+    (&["a", "b"], true),
+    (&["b"], false),
+    (&["a", "a"], false),
+    (&["a", "b", "c"], false),
+];
+
+#[test]
+fn paths_of_a_tree(rt: HostRuntime) -> Result<(), Fail> {
+    let tree = tree_of(rt.alloc(), "{\"a\":{\"b\"}}")?;
+    for (texts, there) in PATHS_OF_TWO {
+        expect(has(rt.alloc(), &tree, texts)? == *there, "a path")?;
+    }
+    Ok(())
+}
+
+// How many edges stand below a name.
+fn count_below(alloc: Global, tree: &Tree, text: &str) -> Result<Option<usize>, Memory> {
+    let name = Name::from_text(alloc, text)?;
+    Ok(tree.child(&name).map(|child| child.count()))
+}
+
+#[test]
+fn children_of_a_tree(rt: HostRuntime) -> Result<(), Fail> {
+    let alloc = rt.alloc();
+    let tree = tree_of(alloc, "{\"a\":{\"b\"}}")?;
+    expect(count_below(alloc, &tree, "a")? == Some(1), "a")?;
+    expect(count_below(alloc, &tree, "b")?.is_none(), "b")
+}
+
+// Adds an edge, where a tree has none of that name.
+fn add(alloc: Global, tree: &mut Tree, text: &str, child: Tree) -> Result<(), Memory> {
     let name = Name::from_text(alloc, text)?;
     if tree.child(&name).is_none() {
         tree.insert(name, child)?;
     }
-    Ok(tree)
-}
-
-#[test]
-fn paths_of_a_tree(rt: HostRuntime) -> Result<(), Fail> {
-    let alloc = rt.alloc();
-    let tree = edge_to(alloc, "a", edge_to(alloc, "b", Tree::empty(alloc))?)?;
-    let table: [(&[&str], bool); 5] = [
-        (&[], true),
-        (&["a", "b"], true),
-        (&["b"], false),
-        (&["a", "a"], false),
-        (&["a", "b", "c"], false),
-    ];
-    for (path, there) in table {
-        assert_eq!(rt; tree.has(&path_of(alloc, path)?), there);
-    }
-    for (name, count) in [("a", Some(1)), ("b", None)] {
-        let child = tree.child(&Name::from_text(alloc, name)?);
-        assert_eq!(rt; child.map(|child| child.count()), count);
-    }
     Ok(())
 }
 
+fn expect_tree(alloc: Global, tree: &Tree, text: &str) -> Result<(), Fail> {
+    expect(tree.same(&tree_of(alloc, text)?), text)
+}
+
+fn add_leaf(alloc: Global, tree: &mut Tree, text: &str) -> Result<(), Memory> {
+    add(alloc, tree, text, Tree::empty(alloc))
+}
+
 #[test]
-fn room_is_not_seen(rt: HostRuntime) -> Result<(), Fail> {
+fn edges_are_added_in_any_order(rt: HostRuntime) -> Result<(), Fail> {
+    let alloc = rt.alloc();
+    let mut tree = Tree::empty(alloc);
+    add_leaf(alloc, &mut tree, "d")?;
+    add(alloc, &mut tree, "a", tree_of(alloc, "{\"b\"}")?)?;
+    add_leaf(alloc, &mut tree, "c")?;
+    add_leaf(alloc, &mut tree, "b")?;
+    expect(tree.depth() == 2, "the depth")?;
+    expect_tree(alloc, &tree, "{\"a\":{\"b\"},\"b\",\"c\",\"d\"}")
+}
+
+#[test]
+fn room_in_a_tree_is_not_seen(rt: HostRuntime) -> Result<(), Fail> {
     let alloc = rt.alloc();
     let mut tree = Tree::with_capacity(alloc, 3)?;
-    assert!(rt; tree.same(&Tree::empty(alloc)));
-    let name = Name::from_text(alloc, "a")?;
-    if tree.child(&name).is_none() {
-        tree.insert(name, Tree::empty(alloc))?;
-    }
-    assert!(rt; tree.same(&edge_to(alloc, "a", Tree::empty(alloc))?));
-    let archive = Archive::present_with_capacity(alloc, 3)?;
-    assert!(rt; archive.records(&Tree::empty(alloc)));
-    Ok(())
+    expect_tree(alloc, &tree, "{}")?;
+    add_leaf(alloc, &mut tree, "a")?;
+    expect_tree(alloc, &tree, "{\"a\"}")
+}
+
+#[test]
+fn room_in_an_archive_is_not_seen(rt: HostRuntime) -> Result<(), Fail> {
+    let archive = Archive::present_with_capacity(rt.alloc(), 3)?;
+    expect(archive.records(&Tree::empty(rt.alloc())), "nothing")
 }
 
 #[test]
 #[tactic(auto, using(hm_tree::specs::NodeLaws::edges_are))]
 fn edges_taken_apart_and_put_together(rt: HostRuntime) -> Result<(), Fail> {
-    let alloc = rt.alloc();
-    let tree = edge_to(alloc, "a", edge_to(alloc, "b", Tree::empty(alloc))?)?;
+    let tree = tree_of(rt.alloc(), "{\"a\":{\"b\"}}")?;
     let again = Tree::of_edges(tree.into_edges())?;
-    assert_eq!(rt; again.count(), 1);
-    assert_eq!(rt; again.depth(), 2);
-    Ok(())
+    expect(
+        again.count() == 1 && again.depth() == 2,
+        "one below another",
+    )
 }
 
-// An archive with a mark at a name where it had nothing.
-fn with_mark(alloc: Global, mut archive: Archive, text: &str) -> Result<Archive, Memory> {
+// The archive of a tree, with a mark at a name where it had nothing.
+fn with_mark(alloc: Global, tree: &Tree, text: &str) -> Result<Archive, Memory> {
+    let mut archive = Archive::of_tree(tree)?;
     let name = Name::from_text(alloc, text)?;
     if archive.root() == State::Present && archive.child(&name).is_none() {
         archive.insert(name, Archive::marked(alloc))?;
@@ -303,125 +333,149 @@ fn with_mark(alloc: Global, mut archive: Archive, text: &str) -> Result<Archive,
     Ok(archive)
 }
 
+fn state_at(alloc: Global, archive: &Archive, texts: &[&str]) -> Result<State, Memory> {
+    Ok(archive.state(&path_of(alloc, texts)?))
+}
+
+// The states of what holds a and has a mark at b.
+const STATES: &[(&[&str], State)] = &[
+    (&[], State::Present),
+    (&["a"], State::Present),
+    (&["a", "b"], State::Missing),
+    (&["b"], State::Marked),
+    (&["b", "c"], State::Marked),
+    (&["c"], State::Missing),
+];
+
 #[test]
 fn states_of_an_archive(rt: HostRuntime) -> Result<(), Fail> {
     let alloc = rt.alloc();
-    let archive = with_mark(
-        alloc,
-        Archive::of_tree(&edge_to(alloc, "a", Tree::empty(alloc))?)?,
-        "b",
-    )?;
-    let table: [(&[&str], State); 6] = [
-        (&[], State::Present),
-        (&["a"], State::Present),
-        (&["a", "b"], State::Missing),
-        (&["b"], State::Marked),
-        (&["b", "c"], State::Marked),
-        (&["c"], State::Missing),
-    ];
-    for (path, state) in table {
-        assert_eq!(rt; archive.state(&path_of(alloc, path)?), state);
+    let archive = with_mark(alloc, &tree_of(alloc, "{\"a\"}")?, "b")?;
+    for (texts, state) in STATES {
+        expect(state_at(alloc, &archive, texts)? == *state, "a state")?;
     }
-    assert_eq!(rt;
-        Archive::missing(alloc).state(&path_of(alloc, &[])?),
-        State::Missing
-    );
-    assert!(rt; archive.child(&Name::from_text(alloc, "c")?).is_none());
     Ok(())
 }
+
+#[test]
+fn what_is_missing_has_no_child(rt: HostRuntime) -> Result<(), Fail> {
+    let alloc = rt.alloc();
+    let archive = with_mark(alloc, &tree_of(alloc, "{\"a\"}")?, "b")?;
+    let name = Name::from_text(alloc, "c")?;
+    expect(archive.child(&name).is_none(), "c")?;
+    let state = state_at(alloc, &Archive::missing(alloc), &[])?;
+    expect(state == State::Missing, "the root")
+}
+
+// Whether each tree is within an archive.
+fn expect_within(alloc: Global, archive: &Archive, cases: &[(&str, bool)]) -> Result<(), Fail> {
+    for (text, is) in cases {
+        expect(tree_of(alloc, text)?.within(archive) == *is, text)?;
+    }
+    Ok(())
+}
+
+const WITHIN: &[(&str, bool)] = &[
+    ("{\"b\":{\"c\"}}", true),
+    ("{}", true),
+    ("{\"a\"}", false),
+    ("{\"c\"}", false),
+    ("{\"b\":{\"d\"}}", false),
+];
 
 #[test]
 fn trees_within_an_archive(rt: HostRuntime) -> Result<(), Fail> {
     let alloc = rt.alloc();
-    let tree = edge_to(alloc, "b", edge_to(alloc, "c", Tree::empty(alloc))?)?;
-    let archive = with_mark(alloc, Archive::of_tree(&tree)?, "a")?;
-    assert!(rt; tree.within(&archive));
-    assert!(rt; Tree::empty(alloc).within(&archive));
-    for name in ["a", "c"] {
-        assert!(rt; !edge_to(alloc, name, Tree::empty(alloc))?.within(&archive));
-    }
-    assert!(rt; !edge_to(alloc, "b", edge_to(alloc, "d", Tree::empty(alloc))?)?.within(&archive));
-    assert!(rt; !Tree::empty(alloc).within(&Archive::marked(alloc)));
-    assert!(rt; !Tree::empty(alloc).within(&Archive::missing(alloc)));
-    Ok(())
+    let archive = with_mark(alloc, &tree_of(alloc, "{\"b\":{\"c\"}}")?, "a")?;
+    expect_within(alloc, &archive, WITHIN)
 }
+
+#[test]
+fn no_tree_is_within_nothing(rt: HostRuntime) -> Result<(), Fail> {
+    let alloc = rt.alloc();
+    expect_within(alloc, &Archive::marked(alloc), &[("{}", false)])?;
+    expect_within(alloc, &Archive::missing(alloc), &[("{}", false)])
+}
+
+// The depth of what stood under a name, then how many edges are left and how deep.
+type Taken = (Option<usize>, usize, usize);
+
+fn taken(alloc: Global, tree: &mut Tree, text: &str) -> Result<Taken, Memory> {
+    let name = Name::from_text(alloc, text)?;
+    let depth = tree.without(&name).map(|child| child.depth());
+    Ok((depth, tree.count(), tree.depth()))
+}
+
+const TAKEN: &[(&str, Taken)] = &[
+    ("a", (Some(1), 1, 1)),
+    ("a", (None, 1, 1)),
+    ("c", (Some(0), 0, 0)),
+];
 
 #[test]
 fn edges_taken_out(rt: HostRuntime) -> Result<(), Fail> {
-    let alloc = rt.alloc();
-    let mut tree = edge_to(alloc, "a", edge_to(alloc, "b", Tree::empty(alloc))?)?;
-    let name = Name::from_text(alloc, "c")?;
-    if tree.child(&name).is_none() {
-        tree.insert(name, Tree::empty(alloc))?;
+    let mut tree = tree_of(rt.alloc(), "{\"a\":{\"b\"},\"c\"}")?;
+    for (text, want) in TAKEN {
+        expect(taken(rt.alloc(), &mut tree, text)? == *want, text)?;
     }
-    let first = Name::from_text(alloc, "a")?;
-    match tree.without(&first) {
-        Some(child) => assert_eq!(rt; child.depth(), 1),
-        None => assert!(rt; false),
-    }
-    assert_eq!(rt; tree.count(), 1);
-    assert_eq!(rt; tree.depth(), 1);
-    assert!(rt; tree.without(&first).is_none());
-    assert!(rt; tree.without(&Name::from_text(alloc, "c")?).is_some());
-    assert_eq!(rt; tree.count(), 0);
-    assert_eq!(rt; tree.depth(), 0);
     Ok(())
 }
 
+type Counts = BTreeMap<Name, u64>;
+
 // Names are keys in the order of their bytes: \u{e9} is greater than z.
+fn counts(alloc: Global) -> Result<Counts, Memory> {
+    let mut counts = BTreeMap::new(alloc);
+    counts.insert(Name::from_text(alloc, "\u{e9}")?, 1)?;
+    counts.insert(Name::from_text(alloc, "z")?, 2)?;
+    counts.insert(Name::from_text(alloc, "\u{e9}")?, 3)?;
+    Ok(counts)
+}
+
+fn count_at(alloc: Global, counts: &Counts, text: &str) -> Result<Option<u64>, Memory> {
+    Ok(counts.get(&Name::from_text(alloc, text)?).copied())
+}
+
 #[test]
 fn names_as_keys(rt: HostRuntime) -> Result<(), Fail> {
     let alloc = rt.alloc();
-    let mut counts = BTreeMap::new(alloc);
-    counts.insert(Name::from_text(alloc, "\u{e9}")?, 1u64)?;
-    counts.insert(Name::from_text(alloc, "z")?, 2u64)?;
-    counts.insert(Name::from_text(alloc, "\u{e9}")?, 3u64)?;
-    assert_eq!(rt; counts.len(), 2);
-    assert_eq!(rt; counts.get(&Name::from_text(alloc, "\u{e9}")?), Some(&3u64));
-    assert_eq!(rt; counts.get(&Name::from_text(alloc, "e")?), None);
-    assert_eq!(rt; counts.first_key_value().map(|first| *first.1), Some(2u64));
-    Ok(())
+    let counts = counts(alloc)?;
+    let first = counts.first_key_value().map(|first| *first.1);
+    expect(counts.len() == 2 && first == Some(2), "z")?;
+    expect(count_at(alloc, &counts, "\u{e9}")? == Some(3), "\u{e9}")?;
+    expect(count_at(alloc, &counts, "e")?.is_none(), "e")
 }
 
-// A tree with these names.
-fn leaves(alloc: Global, texts: &[&str]) -> Result<Tree, Memory> {
-    let mut tree = Tree::empty(alloc);
-    for text in texts {
-        let name = Name::from_text(alloc, text)?;
-        if tree.child(&name).is_none() {
-            tree.insert(name, Tree::empty(alloc))?;
-        }
-    }
-    Ok(tree)
-}
+const TREE: &str = "{\"a\",\"b\",\"c\",\"d\"}";
+
+const NAMES: [&str; 4] = ["e", "b", "d", "aa"];
 
 #[test]
 #[tactic(auto, using(hm_tree::proofs::Parted::parts_apart))]
 fn parts_of_a_tree(rt: HostRuntime) -> Result<(), Fail> {
     let alloc = rt.alloc();
-    let tree = leaves(alloc, &["d", "a", "c", "b"])?;
-    let mut names = Vec::new(alloc);
-    for text in ["e", "b", "d", "aa"] {
-        names.push(Name::from_text(alloc, text)?)?;
-    }
-    let names = NameSet::from_list(names)?;
-    let (inside, outside) = tree.split(&names)?;
-    assert!(rt; inside.same(&leaves(alloc, &["b", "d"])?));
-    assert!(rt; outside.same(&leaves(alloc, &["a", "c"])?));
-    assert!(rt; Tree::join(inside, outside)?.same(&tree));
-    let (inside, outside) = tree.into_parts(&names)?;
-    assert_eq!(rt; (inside.count(), outside.count()), (2, 2));
-    Ok(())
+    let tree = tree_of(alloc, TREE)?;
+    let (inside, outside) = tree.split(&set_of(alloc, &NAMES)?)?;
+    expect_tree(alloc, &inside, "{\"b\",\"d\"}")?;
+    expect_tree(alloc, &outside, "{\"a\",\"c\"}")?;
+    expect(Tree::join(inside, outside)?.same(&tree), "both parts")
+}
+
+#[test]
+fn parts_of_a_tree_that_is_given(rt: HostRuntime) -> Result<(), Fail> {
+    let alloc = rt.alloc();
+    let (inside, outside) = tree_of(alloc, TREE)?.into_parts(&set_of(alloc, &NAMES)?)?;
+    expect(inside.count() == 2 && outside.count() == 2, "two and two")
 }
 
 #[test]
 #[tactic(auto, using(hm_tree::specs::NodeLaws::edges_sorted))]
 fn edges_taken_on_a_walk(rt: HostRuntime) -> Result<(), Fail> {
     let alloc = rt.alloc();
-    let mut rest = VecDeque::from(leaves(alloc, &["a", "c", "d"])?.into_edges());
-    assert!(rt; take_under(&mut rest, &Name::from_text(alloc, "b")?).is_none());
-    assert_eq!(rt; rest.len(), 2);
-    assert!(rt; take_under(&mut rest, &Name::from_text(alloc, "c")?).is_some());
-    assert_eq!(rt; rest.len(), 1);
-    Ok(())
+    let missing = Name::from_text(alloc, "b")?;
+    let there = Name::from_text(alloc, "c")?;
+    let mut rest = VecDeque::from(tree_of(alloc, "{\"a\",\"c\",\"d\"}")?.into_edges());
+    let first = (take_under(&mut rest, &missing).is_some(), rest.len());
+    let second = (take_under(&mut rest, &there).is_some(), rest.len());
+    expect(first == (false, 2) && second == (true, 1), "b and c")
 }
