@@ -16,7 +16,6 @@ use hm_tree::{Memory, Tree};
 use hm_tree_text::{TextFault, read_tree, write_tree};
 use hm_types::{TypeFault, Typed, check};
 use std::alloc::Global;
-use std::process::Abort;
 use std::test::Fail;
 
 /// Any tree: the node `R`.
@@ -114,45 +113,40 @@ fn words(alloc: Global, fault: TypeFault) -> Result<String, Fail> {
     }
 }
 
-/// Compares what a check without text lenses answers; `typed` where the lens file is accepted.
-pub fn expect_answer(
-    rt: &impl Abort,
+// What a check answers, in words; `typed` where the lens file is accepted.
+fn answer(
     alloc: Global,
+    texts: &[Box<dyn TextLens>],
     nodes: &str,
     lines: &str,
-    want: &str,
-) -> Result<(), Fail> {
+) -> Result<String, Fail> {
+    match checked(alloc, texts, nodes, lines)? {
+        Ok(_) => Ok(String::from_str(alloc, "typed")?),
+        Err(fault) => words(alloc, fault),
+    }
+}
+
+/// Compares what a check without text lenses answers; `typed` where the lens file is accepted.
+pub fn expect_answer(alloc: Global, nodes: &str, lines: &str, want: &str) -> Result<(), Fail> {
     let texts: Vec<Box<dyn TextLens>> = Vec::new(alloc);
-    expect_answer_with(rt, alloc, &texts, nodes, lines, want)
+    expect_answer_with(alloc, &texts, nodes, lines, want)
 }
 
 /// The same with some text lenses.
 pub fn expect_answer_with(
-    rt: &impl Abort,
     alloc: Global,
     texts: &[Box<dyn TextLens>],
     nodes: &str,
     lines: &str,
     want: &str,
 ) -> Result<(), Fail> {
-    let found = match checked(alloc, texts, nodes, lines)? {
-        Ok(_) => String::from_str(alloc, "typed")?,
-        Err(fault) => words(alloc, fault)?,
-    };
-    assert_eq!(rt; found.as_str(), want, "{lines}");
-    Ok(())
+    expect(answer(alloc, texts, nodes, lines)?.as_str() == want, lines)
 }
 
 /// The same of a file that has a main lens alone.
-pub fn expect_main(
-    rt: &impl Abort,
-    alloc: Global,
-    nodes: &str,
-    main: &str,
-    want: &str,
-) -> Result<(), Fail> {
+pub fn expect_main(alloc: Global, nodes: &str, main: &str, want: &str) -> Result<(), Fail> {
     let lines = format!(in alloc; "format tree\nmain = {main}")?;
-    expect_answer(rt, alloc, nodes, lines.as_str(), want)
+    expect_answer(alloc, nodes, lines.as_str(), want)
 }
 
 fn source_tree(alloc: Global, typed: &Typed, text: &str) -> Result<Tree, Fail>
@@ -176,16 +170,14 @@ fn view_tree(alloc: Global, typed: &Typed, text: &str) -> Result<Tree, Fail>
 }
 
 // Compares a tree with the text that it is to have.
-fn expect_tree(rt: &impl Abort, alloc: Global, tree: &Tree, want: &str) -> Result<(), Fail> {
+fn expect_tree(alloc: Global, tree: &Tree, want: &str) -> Result<(), Fail> {
     let text = write_tree(alloc, tree)?;
     let line = format!(in alloc; "{want}\n")?;
-    assert_eq!(rt; text.as_slice(), line.as_bytes(), "{want}");
-    Ok(())
+    expect(text.as_slice() == line.as_bytes(), want)
 }
 
 /// Compares what is shown of a tree.
 pub fn expect_shown(
-    rt: &impl Abort,
     alloc: Global,
     texts: &[Box<dyn TextLens>],
     typed: &Typed,
@@ -196,12 +188,11 @@ pub fn expect_shown(
 {
     let tree = source_tree(alloc, typed, tree)?;
     let shown = get(&typed.program, texts, &tree)?;
-    expect_tree(rt, alloc, &shown, view)
+    expect_tree(alloc, &shown, view)
 }
 
 /// Compares what is put of a view with the tree from before.
 pub fn expect_put(
-    rt: &impl Abort,
     alloc: Global,
     texts: &[Box<dyn TextLens>],
     typed: &Typed,
@@ -214,12 +205,11 @@ pub fn expect_put(
     let view = view_tree(alloc, typed, view)?;
     let before = source_tree(alloc, typed, before)?;
     let tree = put(&typed.program, texts, &view, Some(&before))?;
-    expect_tree(rt, alloc, &tree, want)
+    expect_tree(alloc, &tree, want)
 }
 
 /// Compares what is put of a view where it isn't the one that is shown of the tree from before.
 pub fn expect_changed(
-    rt: &impl Abort,
     alloc: Global,
     texts: &[Box<dyn TextLens>],
     typed: &Typed,
@@ -233,12 +223,11 @@ pub fn expect_changed(
     let before = source_tree(alloc, typed, before)?;
     let old = get(&typed.program, texts, &before)?;
     let tree = put_changes(&typed.program, texts, view, before, old)?;
-    expect_tree(rt, alloc, &tree, want)
+    expect_tree(alloc, &tree, want)
 }
 
 /// Compares what is put of a view with no tree from before.
 pub fn expect_made(
-    rt: &impl Abort,
     alloc: Global,
     texts: &[Box<dyn TextLens>],
     typed: &Typed,
@@ -249,17 +238,24 @@ pub fn expect_made(
 {
     let view = view_tree(alloc, typed, view)?;
     let tree = put(&typed.program, texts, &view, None)?;
-    expect_tree(rt, alloc, &tree, want)
+    expect_tree(alloc, &tree, want)
 }
 
-/// Compares the answers to main lenses: each case has the nodes of the schema, the lens and the answer.
-pub fn expect_mains(
-    rt: &impl Abort,
-    alloc: Global,
-    cases: &[(&str, &str, &str)],
-) -> Result<(), Fail> {
-    for case in cases {
-        expect_main(rt, alloc, case.0, case.1, case.2)?;
+/// The nodes of a schema, a main lens and what is answered.
+pub type Main = (&'static str, &'static str, &'static str);
+
+/// Compares the answers to main lenses.
+pub fn expect_mains(alloc: Global, cases: &[Main]) -> Result<(), Fail> {
+    for (nodes, main, want) in cases {
+        expect_main(alloc, nodes, main, want)?;
     }
     Ok(())
+}
+
+/// An error that tells the case, where it isn't as it should be.
+pub fn expect(is: bool, case: &str) -> Result<(), Fail> {
+    if is {
+        return Ok(());
+    }
+    Err(Fail::new(format_args!("otherwise: {case}")))
 }

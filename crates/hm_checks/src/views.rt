@@ -1,43 +1,48 @@
 //! The nodes of views, as they are numbered.
-use crate::setting::typed;
+use crate::setting::{expect, typed};
 use hm_node_writer::append_nodes;
+use hm_schema::Node;
 use hm_text_lens::TextLens;
 use hm_tree::Name;
 use std::alloc::Global;
-use std::process::Abort;
 use std::test::Fail;
 
-// Compares the lines of the view's nodes, under the names `N0`, `N1` and so on.
-fn expect(
-    rt: &impl Abort,
-    alloc: Global,
-    nodes: &str,
-    lines: &str,
-    want: &str,
-) -> Result<(), Fail> {
-    let texts: Vec<Box<dyn TextLens>> = Vec::new(alloc);
-    let typed = typed(alloc, &texts, nodes, lines)?;
-    let nodes = typed.view.nodes();
+// The names `N0`, `N1` and so on.
+fn numbers(alloc: Global, count: usize) -> Result<Vec<Name>, Fail> {
     let mut names = Vec::new(alloc);
-    for place in 0..nodes.len() {
+    for place in 0..count {
         let name = format!(in alloc; "N{place}")?;
         names.push(Name::from_text(alloc, name.as_str())?)?;
     }
+    Ok(names)
+}
+
+// The lines of nodes under such names.
+fn lines_of(alloc: Global, nodes: &[Node]) -> Result<Vec<u8>, Fail> {
+    let names = numbers(alloc, nodes.len())?;
     if names.len() != nodes.len() {
         return Err("a node has no name".into());
     }
     let mut text = Vec::new(alloc);
     append_nodes(&mut text, &names, nodes)?;
-    assert_eq!(rt; typed.view.root().place, 0);
-    assert_eq!(rt; text.as_slice(), want.as_bytes());
-    Ok(())
+    Ok(text)
+}
+
+// Compares the lines of the view's nodes.
+fn expect_nodes(alloc: Global, nodes: &str, lines: &str, want: &str) -> Result<(), Fail> {
+    let texts: Vec<Box<dyn TextLens>> = Vec::new(alloc);
+    let typed = typed(alloc, &texts, nodes, lines)?;
+    expect(typed.view.root().place == 0, "the root")?;
+    expect(
+        lines_of(alloc, typed.view.nodes())?.as_slice() == want.as_bytes(),
+        want,
+    )
 }
 
 // Each node comes where it is first met, names in ascending order and the unlisted ones behind them.
 #[test]
 fn a_book_of_cards(rt: HostRuntime) -> Result<(), Fail> {
-    expect(
-        &rt,
+    expect_nodes(
         rt.alloc(),
         "node Texts\n  other filled Empty\n  shape + 1..\nnode Card\n  edge TEL Texts\n  shape ? TEL\nnode More\n  edge *h Card\n  edge *t More\n  shape\n  shape *h *t\nnode Cards\n  edge *h Card\n  edge *t More\n  shape *h *t\nnode R\n  other filled Cards\n  shape + 0..\n",
         "format vcard show=TEL\nmain = id",
@@ -48,8 +53,7 @@ fn a_book_of_cards(rt: HostRuntime) -> Result<(), Fail> {
 // Both names have the same below them, and the name from before is listed no more.
 #[test]
 fn one_name_under_another(rt: HostRuntime) -> Result<(), Fail> {
-    expect(
-        &rt,
+    expect_nodes(
         rt.alloc(),
         "node R\n  edge a V\n  edge c W\n  shape a c\nnode W\n  other any Empty\n  shape + 1..1\n",
         "format tree\nmain = rename(a,d)",
@@ -59,8 +63,7 @@ fn one_name_under_another(rt: HostRuntime) -> Result<(), Fail> {
 
 #[test]
 fn a_list_of_such(rt: HostRuntime) -> Result<(), Fail> {
-    expect(
-        &rt,
+    expect_nodes(
         rt.alloc(),
         "node R\n  edge *h Item\n  edge *t R\n  shape\n  shape *h *t\nnode Item\n  edge a V\n  shape a\n",
         "format tree\nmain = list(rename(a,b))",
@@ -71,8 +74,7 @@ fn a_list_of_such(rt: HostRuntime) -> Result<(), Fail> {
 // A constant's nodes have one shape each.
 #[test]
 fn a_constant(rt: HostRuntime) -> Result<(), Fail> {
-    expect(
-        &rt,
+    expect_nodes(
         rt.alloc(),
         "node R\n  edge a V\n  shape a\n",
         "format tree\nmain = const({\"x\":{\"z\"},\"y\"},{\"a\":{\"1\"}})",
@@ -83,8 +85,7 @@ fn a_constant(rt: HostRuntime) -> Result<(), Fail> {
 // A name that the view of each side has, in the one only by the other name.
 #[test]
 fn two_sides_that_are_told_apart(rt: HostRuntime) -> Result<(), Fail> {
-    expect(
-        &rt,
+    expect_nodes(
         rt.alloc(),
         "node R\n  edge a V\n  edge c V\n  shape ? a c\n",
         "format tree\nmain = acond(a,b,rename(a,b),id)",
