@@ -31,8 +31,8 @@ pub fn fault_line(alloc: Global, fault: TypeFault) -> Result<String, Memory> {
     }
 }
 
-/// That a program is typed, and whether its lens kept the laws on so many trees.
-pub fn laws_line(alloc: Global, trees: usize, lawful: bool) -> Result<String, Memory> {
-    let word = if lawful { "lawful" } else { "unlawful" };
+/// That a program is typed, and how far its lens was run on so many trees, or that it broke a law.
+pub fn trees_line(alloc: Global, step: &str, trees: usize, lawful: bool) -> Result<String, Memory> {
+    let word = if lawful { step } else { "unlawful" };
     Ok(format!(in alloc; "typed\n{word} {trees}\n")?)
 }

@@ -1,5 +1,7 @@
-//! Checks the program of a lens file over a schema, and runs its main lens on trees: says in a line that it is typed or what is
-//! wrong with it, and in a second one on how many of the trees it was run and whether it kept the laws.
+//! Checks the program of a lens file over a schema, and runs its main lens on trees, as far as its first word says: `read` reads the
+//! schema and the lens file, `check` checks the program, `trees` reads the trees and takes those that are members of the schema,
+//! `get` shows each, `put` puts back what is shown, and `laws` tries all laws. Says in a line that the program is typed or what is
+//! wrong with it, and in a second one how far it went, on how many trees, or that they were handled unlawfully.
 #![tactic(auto)]
 
 ghost use Rattle.std.specs.Prelude.{◌≤◌, length, map};
@@ -12,7 +14,7 @@ mod lines;
 mod members;
 mod trials;
 
-use crate::lines::{fault_line, laws_line, line_of};
+use crate::lines::{fault_line, line_of, trees_line};
 use crate::members::{load, members};
 use crate::trials::are_lawful;
 use hm_focal::{LensFault, read_lens};
@@ -40,18 +42,22 @@ fn words_of(alloc: Global, rt: &HostRuntime) -> Result<Vec<Name>, Memory> {
 }
 
 // The two lines on a program that is typed.
-fn try_laws<S: Store>(
+fn try_trees<S: Store>(
     alloc: Global,
     store: &mut S,
     texts: &[Box<dyn TextLens>],
     typed: &Typed,
+    step: &str,
     words: &[Name],
 ) -> Result<String, Memory>
     requires { FitsTrees (map (λ b. meaning b) texts.now) typed.now }
 {
+    if step == "check" {
+        return Ok(String::from_str(alloc, "typed\n")?);
+    }
     let trees = members(alloc, store, &typed.source, words)?;
-    let lawful = are_lawful(texts, typed, &trees)?;
-    Ok(laws_line(alloc, trees.len(), lawful)?)
+    let lawful = are_lawful(texts, typed, &trees, step)?;
+    Ok(trees_line(alloc, step, trees.len(), lawful)?)
 }
 
 // What is said of a program over these text lenses.
@@ -61,19 +67,28 @@ fn try_program<S: Store>(
     program: Program,
     source: &Schema,
     texts: &[Box<dyn TextLens>],
+    step: &str,
     words: &[Name],
 ) -> Result<String, Memory>
     requires program { IsWellFormed (program_value program) }
     requires source { HasNoTwins source.now }
 {
+    if step == "read" {
+        return Ok(String::from_str(alloc, "read\n")?);
+    }
     match check(alloc, program, source, texts) {
-        Ok(typed) => Ok(try_laws(alloc, store, texts, &typed, words)?),
+        Ok(typed) => Ok(try_trees(alloc, store, texts, &typed, step, words)?),
         Err(fault) => Ok(fault_line(alloc, fault)?),
     }
 }
 
-// What is said of the files of these words: a schema, a lens file, and trees.
-fn try_files<S: Store>(alloc: Global, store: &mut S, words: &[Name]) -> Result<String, Memory>
+// What is said of the files of these words behind a step: a schema, a lens file, and trees.
+fn try_files<S: Store>(
+    alloc: Global,
+    store: &mut S,
+    step: &str,
+    words: &[Name],
+) -> Result<String, Memory>
     requires { 2 ≤ length words.now }
 {
     let bytes = load(store, &words[0])?;
@@ -85,7 +100,10 @@ fn try_files<S: Store>(alloc: Global, store: &mut S, words: &[Name]) -> Result<S
     let bytes = load(store, &words[1])?;
     let texts: Vec<Box<dyn TextLens>> = Vec::new(alloc);
     match read_lens(alloc, &bytes) {
-        Ok(program) => Ok(try_program(alloc, store, program, &source, &texts, &words[2..])?),
+        Ok(program) => {
+            let trees = &words[2..];
+            Ok(try_program(alloc, store, program, &source, &texts, step, trees)?)
+        }
         Err(LensFault::BadLens { line }) => Ok(line_of(alloc, "BadLens", line)?),
         Err(LensFault::Memory) => Err(Memory),
     }
@@ -96,12 +114,12 @@ fn main(rt: HostRuntime) -> ExitCode {
     let Ok(words) = words_of(alloc, &rt) else {
         return ExitCode::from(5);
     };
-    if words.len() < 2 {
+    if words.len() < 3 {
         return ExitCode::from(2);
     }
     let mut out = StdSink::new(alloc, rt.stdout());
     let mut store = FileStore::new(alloc, &rt);
-    match try_files(alloc, &mut store, &words) {
+    match try_files(alloc, &mut store, words[0].text(), &words[1..]) {
         Ok(text) => match out.put(text.as_bytes()) {
             Put::Done => ExitCode::from(0),
             _ => ExitCode::from(6),

@@ -1,4 +1,4 @@
-//! The laws, tried on trees.
+//! Trees shown and put back, and the laws tried on them.
 ghost use Rattle.std.specs.Prelude.{◌≡◌, IfOk, All, true, map};
 ghost use Rattle.hm_types.specs.Checks.{Trees};
 ghost use Rattle.lens_trials.specs.Trials.{FitsTrees};
@@ -8,26 +8,69 @@ use hm_text_lens::TextLens;
 use hm_tree::{Memory, Tree};
 use hm_types::Typed;
 
-/// Whether the lens keeps the laws on trees of its source, with each of them before each other one.
+/// Whether the lens keeps the laws on trees of its source, as far as a step goes.
 pub fn are_lawful(
     texts: &[Box<dyn TextLens>],
     typed: &Typed,
     trees: &[Tree],
+    step: &str,
 ) -> Result<bool, Memory>
     requires fits { FitsTrees (map (λ b. meaning b) texts.now) typed.now }
     requires members { All (Trees typed.now.source) trees.now }
     ensures { IfOk result (λ lawful. lawful ≡ true) }
 {
     for tree in trees {
-        if !is_lawful(texts, typed, tree, trees)? {
+        if !is_lawful(texts, typed, tree, trees, step)? {
             return Ok(false);
         }
     }
     Ok(true)
 }
 
-// Whether it does with one tree.
+// Whether it does with one tree, before which each other one stands where all laws are tried.
 fn is_lawful(
+    texts: &[Box<dyn TextLens>],
+    typed: &Typed,
+    tree: &Tree,
+    trees: &[Tree],
+    step: &str,
+) -> Result<bool, Memory>
+    requires fits { FitsTrees (map (λ b. meaning b) texts.now) typed.now }
+    requires tree { Trees typed.now.source tree.now }
+    requires members { All (Trees typed.now.source) trees.now }
+    ensures { IfOk result (λ lawful. lawful ≡ true) }
+{
+    match step {
+        "trees" => Ok(true),
+        "get" => is_shown(texts, typed, tree),
+        "put" => is_put_back(texts, typed, tree),
+        _ => keeps_all(texts, typed, tree, trees),
+    }
+}
+
+// A tree is shown.
+fn is_shown(texts: &[Box<dyn TextLens>], typed: &Typed, tree: &Tree) -> Result<bool, Memory>
+    requires fits { FitsTrees (map (λ b. meaning b) texts.now) typed.now }
+    requires tree { Trees typed.now.source tree.now }
+    ensures { IfOk result (λ shown. shown ≡ true) }
+{
+    get(&typed.program, texts, tree)?;
+    Ok(true)
+}
+
+// What is shown of a tree, put back, is the tree.
+fn is_put_back(texts: &[Box<dyn TextLens>], typed: &Typed, tree: &Tree) -> Result<bool, Memory>
+    requires fits { FitsTrees (map (λ b. meaning b) texts.now) typed.now }
+    requires tree { Trees typed.now.source tree.now }
+    ensures { IfOk result (λ same. same ≡ true) }
+{
+    let shown = get(&typed.program, texts, tree)?;
+    let back = put(&typed.program, texts, &shown, Some(tree))?;
+    Ok(back.same(tree))
+}
+
+// Whether the lens keeps all laws.
+fn keeps_all(
     texts: &[Box<dyn TextLens>],
     typed: &Typed,
     tree: &Tree,
@@ -38,7 +81,7 @@ fn is_lawful(
     requires members { All (Trees typed.now.source) trees.now }
     ensures { IfOk result (λ lawful. lawful ≡ true) }
 {
-    if !comes_back(texts, typed, tree)? {
+    if !is_in_view(texts, typed, tree)? || !is_put_back(texts, typed, tree)? {
         return Ok(false);
     }
     if !shows_anew(texts, typed, tree)? {
@@ -47,18 +90,14 @@ fn is_lawful(
     Ok(all_show_again(texts, typed, tree, trees)?)
 }
 
-// What is shown of a tree is a member of the view, and put back it is the tree.
-fn comes_back(texts: &[Box<dyn TextLens>], typed: &Typed, tree: &Tree) -> Result<bool, Memory>
+// What is shown of a tree is a member of the view.
+fn is_in_view(texts: &[Box<dyn TextLens>], typed: &Typed, tree: &Tree) -> Result<bool, Memory>
     requires fits { FitsTrees (map (λ b. meaning b) texts.now) typed.now }
     requires tree { Trees typed.now.source tree.now }
-    ensures { IfOk result (λ same. same ≡ true) }
+    ensures { IfOk result (λ inside. inside ≡ true) }
 {
     let shown = get(&typed.program, texts, tree)?;
-    if !typed.view.member(&shown) {
-        return Ok(false);
-    }
-    let back = put(&typed.program, texts, &shown, Some(tree))?;
-    Ok(back.same(tree))
+    Ok(typed.view.member(&shown))
 }
 
 // What is shown of a tree, put with no tree from before, is a member of the source and shows the same.

@@ -1,4 +1,0 @@
-mod Contacts
-mod Others
-mod Judging
-mod Running

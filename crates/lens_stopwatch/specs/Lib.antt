@@ -1,3 +1,0 @@
-pub mod Contacts
-pub mod Others
-pub mod Running
