@@ -1,4 +1,5 @@
 mod SameNames
 mod Rows
+mod OnePiece
 pub mod FieldLaws
 pub mod Laws

@@ -1,6 +1,8 @@
 //! Single fields.
-ghost use Rattle.std.specs.Prelude.{◌≡◌, false, IsUtf8, IfOk};
+ghost use Rattle.std.specs.Prelude.{◌≡◌, ◌||◌, true, false, not, IsUtf8, IfOk};
+ghost use Rattle.std.specs.List.{list_any};
 ghost use Rattle.hm_tree.specs.Sets.{ascending};
+ghost use Rattle.hm_pieces.specs.Pieces.{is_special};
 ghost use Rattle.hm_columns.specs.Fields as spec;
 
 use hm_pieces::{is_text, text_of, texts};
@@ -12,9 +14,32 @@ pub fn texts_shown(alloc: Global, many: bool, field: &[u8]) -> Result<NameSet, M
     requires { IsUtf8 field.now }
     ensures { IfOk result (λ set. set ≡ spec.texts_shown many field.now) }
 {
-    if !many {
+    if is_one_piece(many, field) {
         return one_text(alloc, field);
     }
+    texts_of_pieces(alloc, field)
+}
+
+/// Whether a field is one piece, so that it shows one text at the most. Most fields are, also where a column may show many
+/// texts.
+pub(crate) fn is_one_piece(many: bool, field: &[u8]) -> bool
+    ensures { result ≡ (not many || not (list_any is_special field.now)) }
+{
+    !many || !has_special(field)
+}
+
+// Whether there is a `|` or a `\` in some bytes.
+fn has_special(bytes: &[u8]) -> bool
+    ensures { result ≡ list_any is_special bytes.now }
+{
+    bytes.iter().any(|byte| *byte == b'|' || *byte == b'\\')
+}
+
+// The texts of the pieces of a field.
+fn texts_of_pieces(alloc: Global, field: &[u8]) -> Result<NameSet, Memory>
+    requires { IsUtf8 field.now }
+    ensures { IfOk result (λ set. set ≡ spec.texts_shown true field.now) }
+{
     match std::str::from_utf8(field) {
         Ok(field) => texts(alloc, field),
         Err(_) => unreachable!(),

@@ -4,7 +4,7 @@ ghost use Rattle.hm_tree.specs.Sets.{ascending};
 ghost use Rattle.hm_pieces.specs.Texts.{is_text};
 ghost use Rattle.hm_columns.specs.Fields as spec;
 
-use crate::field::texts_shown;
+use crate::field::{is_one_piece, texts_shown};
 use hm_pieces::{is_text, text_of};
 use hm_tree::{Memory, Name, Tree};
 use std::alloc::Global;
@@ -20,10 +20,10 @@ pub fn shows_names(
     requires { IsUtf8 field.now }
     ensures { IfOk result (λ same. same ≡ spec.same_names (ascending (spec.texts_shown many field.now)) (map (λ e. e.0) edges.now)) }
 {
-    if many {
-        shows_many(alloc, field, edges)
-    } else {
+    if is_one_piece(many, field) {
         shows_one(alloc, field, edges)
+    } else {
+        shows_many(alloc, field, edges)
     }
 }
 
@@ -36,7 +36,7 @@ fn shows_many(alloc: Global, field: &[u8], edges: &[(Name, Tree)]) -> Result<boo
     Ok(same_names(texts.names(), edges))
 }
 
-// The same of a field of one text at the most, without a set.
+// The same of a field of one piece, without a set.
 fn shows_one(alloc: Global, field: &[u8], edges: &[(Name, Tree)]) -> Result<bool, Memory>
     requires { IsUtf8 field.now }
     ensures { IfOk result (λ same. same ≡ spec.same_names (ascending (spec.texts_shown false field.now)) (map (λ e. e.0) edges.now)) }
