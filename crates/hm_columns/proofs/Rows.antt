@@ -1,13 +1,20 @@
 -- Records, field by field.
-use Rattle.std.proofs.Common.{◌≡◌, ℕ, zero, suc, ◌+◌, ◌<◌, ◌&&◌, cond, T, List, [], ◌∷◌, ◌++◌, length, get_or, map, take, Option, refl, sym, ap, ◌∙◌, subst, arith}
+use Rattle.std.proofs.Common.{◌≡◌, ℕ, zero, suc, ◌+◌, ◌<◌, Bool, true, ◌&&◌, cond, T, List, [], ◌∷◌, ◌++◌, length, get_or, map, take, Option, Some, None, refl, sym, ap, ◌∙◌, subst, arith}
+use Rattle.std.specs.Prelude.{MatchOption}
 use Rattle.std.specs.Bool.{◌==◌}
+use Rattle.std.specs.Borrow.{Bor}
+use Rattle.std.specs.Option.{option_map}
 use Rattle.std.specs.Ordering.{is_lt}
 use Rattle.std.specs.FinMap.{is_sorted}
 use Rattle.std.specs.FinMap.Entries.{below_all}
 use Rattle.std.specs.List.{range_with_len}
 use Rattle.std.proofs.lemmas.List.{take_more, length-take-le, map-append}
+use Rattle.csv.specs.Records.{Row, fields_of, field_count}
+use Rattle.csv.proofs.RecordFacts.{cut-length}
 use Rattle.hm_tree.specs.Names.{Name, name_cmp}
 use Rattle.hm_tree.specs.Nodes.{Tree, are_edges, edges_rise}
+use Rattle.hm_cards.specs.Cards.{texts_at}
+use Rattle.hm_columns.specs.Fields.{texts_shown, same_texts, made}
 use Rattle.hm_columns.specs.Records.{Fields, shown_by, texts_by, column_at, field_in, rewritten_from, rewritten, blank}
 use Rattle.hm_columns.specs.declared.column.Column.{Column}
 
@@ -42,6 +49,25 @@ field_more columns card row place column field new more lt before is at pushed =
     ∙ ap (λ j. rewritten columns card (take place row) ++ field_in (column_at columns j) card (get_or row place []) ∷ []) here
     ∙ sym (push_from columns card 0 (take place row) (get_or row place []))
     ∙ ap (rewritten columns card) (sym (take_more row place [] lt))
+
+-- one field more that stays
+pub stays_more : (columns : List Column) (card : Tree) (row : Fields) (place : ℕ) (column : Option Column) (field : List ℕ) → place < length row
+    → rewritten columns card (take place row) ≡ take place row → column ≡ column_at columns place → field ≡ get_or row place []
+    → field_in column card field ≡ field → rewritten columns card (take (place + 1) row) ≡ take (place + 1) row
+stays_more columns card row place column field lt before is at stays =
+    sym (field_more columns card row place column field (take place row) (take (place + 1) row) lt (sym before) is at
+    (take_more row place [] lt ∙ ap (λ (f : List ℕ). take place row ++ f ∷ []) (sym at ∙ sym stays)))
+
+-- a field stays where its texts do
+pub stays_here : (column : Option (Bor Column)) (card : Tree) (field : List ℕ) (kept : Bool)
+    → MatchOption column (kept ≡ true) (λ c. kept ≡ same_texts (texts_shown c.now.many field) (texts_at c.now.name card)) → kept ≡ true
+    → field_in (option_map (λ c. c.now) column) card field ≡ field
+stays_here None card field kept is e = refl
+stays_here (Some c) card field kept is e = ap (λ b. cond b field (made c.now.many field (texts_at c.now.name card))) (sym is ∙ e)
+
+-- a record that is cut off has no field that isn't ended
+pub cut_whole : (row : Row) (place : ℕ) → place < length (fields_of row) → place < field_count row
+cut_whole row place lt = let e = cut-length 0 row.ends row.bytes in omega (arith, lt, e)
 
 -- one field more of a blank record
 range_more : (a n : ℕ) → range_with_len a (n + 1) ≡ range_with_len a n ++ (a + n) ∷ []

@@ -1,5 +1,5 @@
 //! Records that are to show other cards.
-ghost use Rattle.std.specs.Prelude.{◌≡◌, ◌<◌, ◌++◌, ◌∷◌, [], None, Option, IsUtf8, All, IfOk, OnOk, cond, option_and_then, length, get_or, slice_get, map};
+ghost use Rattle.std.specs.Prelude.{◌≡◌, ◌<◌, ◌++◌, ◌∷◌, [], true, None, Option, IsUtf8, All, IfOk, OnOk, MatchOption, cond, option_and_then, length, get_or, slice_get, map, take};
 ghost use Rattle.csv.specs.Records.{fields_of, partial_of};
 ghost use Rattle.std.specs.Bool.{◌==◌};
 ghost use Rattle.std.specs.Option.{option_map};
@@ -23,19 +23,43 @@ pub struct Table {
     pub signs: Vec<Option<usize>>,
 }
 
-/// The record that is to show a card: a field that is in no column, and one whose texts stay, is left alone.
+/// The record that is to show a card, or none where it is the record itself: a field that is in no column, and one whose texts
+/// stay, is left alone.
 pub fn rewrite(
     alloc: Global,
     table: &Table,
     row: &ByteRecord,
     card: &Tree,
+) -> Result<Option<ByteRecord>, Memory>
+    requires signs { spec.AreSigns table.now.columns.items table.now.signs.items (length (fields_of row.now)) }
+    requires text { All IsUtf8 (fields_of row.now) }
+    ensures { IfOk result (λ new. MatchOption new (spec.rewritten table.now.columns.items card.now (fields_of row.now) ≡ fields_of row.now) (λ r. fields_of r ≡ spec.rewritten table.now.columns.items card.now (fields_of row.now))) }
+{
+    for place in 0..row.len() {
+        if !stays(alloc, column_at(table, place), field(row, place), card)? {
+            return Ok(Some(rewrite_from(alloc, table, row, card, place)?));
+        }
+    }
+    Ok(None)
+}
+
+// The same where the fields before a place stay, so that they are copied at once.
+fn rewrite_from(
+    alloc: Global,
+    table: &Table,
+    row: &ByteRecord,
+    card: &Tree,
+    from: usize,
 ) -> Result<ByteRecord, Memory>
     requires signs { spec.AreSigns table.now.columns.items table.now.signs.items (length (fields_of row.now)) }
     requires text { All IsUtf8 (fields_of row.now) }
+    requires inside { from < length (fields_of row.now) }
+    requires before { spec.rewritten table.now.columns.items card.now (take from (fields_of row.now)) ≡ take from (fields_of row.now) }
     ensures { IfOk result (λ new. fields_of new ≡ spec.rewritten table.now.columns.items card.now (fields_of row.now)) }
 {
-    let mut new = ByteRecord::new(alloc);
-    for place in 0..row.len() {
+    let mut new = row.clone()?;
+    new.truncate(from);
+    for place in from..row.len() {
         push_for(
             alloc,
             &mut new,
@@ -54,6 +78,17 @@ fn column_at(table: &Table, place: usize) -> Option<&Column>
 {
     let index = table.signs[place]?;
     table.columns.get(index)
+}
+
+// Whether a field stays where it is to show a card: it's in no column, or its texts stay.
+fn stays(alloc: Global, column: Option<&Column>, field: &[u8], card: &Tree) -> Result<bool, Memory>
+    requires text { IsUtf8 field.now }
+    ensures { IfOk result (λ yes. MatchOption column.entry (yes ≡ true) (λ c. yes ≡ fields.same_texts (fields.texts_shown c.now.many field.now) (cards.texts_at c.now.name card.now))) }
+{
+    let Some(column) = column else {
+        return Ok(true);
+    };
+    shows_names(alloc, column.many, field, edges_at(card, &column.name))
 }
 
 // Puts the field that is to show a card behind those of a record.

@@ -1,5 +1,5 @@
 -- The format of comma-separated values meets the laws.
-use Rattle.std.proofs.Common.{◌≡◌, length, None, sym, subst}
+use Rattle.std.proofs.Common.{◌≡◌, length, sym, subst}
 use Rattle.hm_tree.specs.Nodes.{Tree}
 use Rattle.hm_schema.specs.Values.{OptionsValue, SchemaValue}
 use Rattle.hm_schema.specs.Membership.{HasNoTwins}

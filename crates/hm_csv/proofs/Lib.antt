@@ -8,6 +8,7 @@ mod RowLaws
 mod ReadOnce
 mod FileLaws
 mod Slots
+mod Appended
 mod Prefixes
 mod Planned
 pub mod Laws

@@ -1,6 +1,6 @@
 -- The records that are written for slots, one by one.
 use Rattle.std.proofs.Common.{◌≡◌, ℕ, zero, suc, ◌+◌, ◌<◌, ◌≤◌, List, [], ◌∷◌, ◌++◌, length, get_or, map, take, drop, Option, Some, None, refl, sym, ap, ◌∙◌, subst, arith}
-use Rattle.std.specs.Prelude.{All, IsUtf8, IfOk, Result}
+use Rattle.std.specs.Prelude.{All, IsUtf8}
 use Rattle.std.specs.Option.{option_map}
 use Rattle.std.proofs.lemmas.List.{take_more, length-take-le, map-append, get_or-map}
 use Rattle.csv.specs.Records.{Row, fields_of}
@@ -23,11 +23,8 @@ text_at rows all i row d lt is = subst (λ (r : Row). All IsUtf8 (fields_of r)) 
 pub header_is : (w : Opened) (row d : Row) → 0 < length w.rows.items → row ≡ get_or w.rows.items 0 d → header_in w ≡ fields_of row
 header_is w row d some is = get_or-map fields_of w.rows.items 0 d [] some ∙ ap fields_of (sym is)
 
-pub other_at : (rows : List Row) (i : ℕ) (d : Row) → i + 1 < length rows → get_or (drop 1 (map fields_of rows)) i [] ≡ fields_of (get_or rows (i + 1) d)
-other_at [] i d lt = absurd (omega (arith, lt))
-other_at (row ∷ rows) i d lt =
-    let e : i + 1 ≡ suc i = omega arith in
-    get_or-map fields_of rows i d [] (omega (arith, lt)) ∙ ap (λ j. fields_of (get_or (row ∷ rows) j d)) (sym e)
+pub row_at : (rows : List Row) (i : ℕ) (row d : Row) → i < length rows → row ≡ get_or rows i d → get_or (map fields_of rows) i [] ≡ fields_of row
+row_at rows i row d lt is = get_or-map fields_of rows i d [] lt ∙ ap fields_of (sym is)
 
 mapped : {X Y : Type 0} (f : X → Y) (xs : List X) → length (map f xs) ≡ length xs
 mapped f [] = refl
@@ -73,33 +70,35 @@ signs_for columns signs n m e h = subst (AreSigns columns signs) e h
 -- ---- the record of a slot
 
 -- the record of a new item
-pub new_is : {E : Type 0} (w : Opened) (key : Name) (card : Tree) (row d : Row) (made : Fields) (count : ℕ) (result : Result Row E) → 0 < length w.rows.items
+pub new_is : (w : Opened) (key : Name) (card : Tree) (row d : Row) (made new : Fields) (count : ℕ) → 0 < length w.rows.items
     → row ≡ get_or w.rows.items 0 d → count ≡ length (fields_of row) → made ≡ blank w.key key count
-    → IfOk result (λ new. fields_of new ≡ rewritten w.table.columns.items card made) → IfOk result (λ new. fields_of new ≡ row_in w (key, None, card))
-new_is w key card row d made count result some is long blank_is h =
+    → new ≡ rewritten w.table.columns.items card made → new ≡ row_in w (key, None, card)
+new_is w key card row d made new count some is long blank_is h =
     let same : made ≡ blank w.key key (length (header_in w)) = blank_is ∙ ap (blank w.key key) (long ∙ sym (ap length (header_is w row d some is))) in
-    subst (λ (m : Fields). IfOk result (λ new. fields_of new ≡ rewritten w.table.columns.items card m)) same h
+    h ∙ ap (rewritten w.table.columns.items card) same
 
 -- what a slot says, by the list and the card at its place
 pub slot_parts : (w : Opened) (lists : Lists) (s : Slot) (key : Name) (card : Tree) → key ≡ (list_at lists s.edge).0 → card ≡ get_or (list_at lists s.edge).1 s.place empty
     → slot_in w lists s ≡ (key, option_map (λ i. get_or (others_in w) i []) s.from, card)
 slot_parts w lists s key card here there = λ i. (sym here i, option_map (λ j. get_or (others_in w) j []) s.from, sym there i)
 
-pub old_is : {E : Type 0} (w : Opened) (lists : Lists) (s : Slot) (key : Name) (card : Tree) (item : ℕ) (row : Fields) (result : Result Row E)
-    → slot_in w lists s ≡ (key, option_map (λ i. get_or (others_in w) i []) s.from, card) → s.from ≡ Some item → get_or (others_in w) item [] ≡ row
-    → IfOk result (λ new. fields_of new ≡ rewritten w.table.columns.items card row) → IfOk result (λ new. fields_of new ≡ row_in w (slot_in w lists s))
-old_is w lists s key card item row result parts from at h =
-    let same : row_in w (slot_in w lists s) ≡ rewritten w.table.columns.items card row =
-    ap (row_in w) parts ∙ ap (λ o. row_in w (key, option_map (λ i. get_or (others_in w) i []) o, card)) from ∙ ap (rewritten w.table.columns.items card) at in
-    subst (λ (f : Fields). IfOk result (λ new. fields_of new ≡ f)) (sym same) h
+behind_first : {X : Type 0} (xs : List X) (i : ℕ) (d : X) → get_or (drop 1 xs) i d ≡ get_or xs (i + 1) d
+behind_first [] zero d = refl
+behind_first [] (suc i) d = refl
+behind_first (x ∷ xs) i d = let e : suc i ≡ i + 1 = omega arith in ap (λ j. get_or (x ∷ xs) j d) e
 
-pub fresh_is : {E : Type 0} (w : Opened) (lists : Lists) (s : Slot) (key : Name) (card : Tree) (result : Result Row E)
-    → slot_in w lists s ≡ (key, option_map (λ i. get_or (others_in w) i []) s.from, card) → s.from ≡ None
-    → IfOk result (λ new. fields_of new ≡ row_in w (key, None, card)) → IfOk result (λ new. fields_of new ≡ row_in w (slot_in w lists s))
-fresh_is w lists s key card result parts from h =
-    let same : row_in w (slot_in w lists s) ≡ row_in w (key, None, card) =
-    ap (row_in w) parts ∙ ap (λ o. row_in w (key, option_map (λ i. get_or (others_in w) i []) o, card)) from in
-    subst (λ (f : Fields). IfOk result (λ new. fields_of new ≡ f)) (sym same) h
+-- the record of a slot that comes from one from before, and of one that doesn't
+pub old_is : (w : Opened) (lists : Lists) (s : Slot) (key : Name) (card : Tree) (item : ℕ)
+    → slot_in w lists s ≡ (key, option_map (λ i. get_or (others_in w) i []) s.from, card) → s.from ≡ Some item
+    → rewritten w.table.columns.items card (get_or (rows_in w) (item + 1) []) ≡ row_in w (slot_in w lists s)
+old_is w lists s key card item parts from =
+    sym (ap (row_in w) parts ∙ ap (λ o. row_in w (key, option_map (λ i. get_or (others_in w) i []) o, card)) from
+    ∙ ap (rewritten w.table.columns.items card) (behind_first (rows_in w) item []))
+
+pub fresh_is : (w : Opened) (lists : Lists) (s : Slot) (key : Name) (card : Tree)
+    → slot_in w lists s ≡ (key, option_map (λ i. get_or (others_in w) i []) s.from, card) → s.from ≡ None → row_in w (key, None, card) ≡ row_in w (slot_in w lists s)
+fresh_is w lists s key card parts from =
+    sym (ap (row_in w) parts ∙ ap (λ o. row_in w (key, option_map (λ i. get_or (others_in w) i []) o, card)) from)
 
 module _ (w : Opened) (lists : List LentList) (s : Slot) (inside : IsInside w (lent_lists lists) s) (l : LentList) (is : l ≡ get_or lists s.edge l) where
   list_is : list_at (lent_lists lists) s.edge ≡ lent_list l

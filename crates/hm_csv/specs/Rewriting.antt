@@ -1,5 +1,5 @@
 -- The records of an opened file that are written for the slots of a plan.
-use Rattle.std.specs.Prelude.{◌≡◌, ◌≢◌, ◌<◌, ℕ, List, [], ◌∷◌, map, length, get_or, drop, All, IsUtf8, Option, Some, None, MatchOption, Vec}
+use Rattle.std.specs.Prelude.{◌≡◌, ◌≢◌, ◌<◌, ◌↔◌, ℕ, Bool, List, [], ◌∷◌, ◌++◌, map, length, get_or, slice_get, drop, All, IsUtf8, IsTrue, Option, Some, None, MatchOption, Vec}
 use Rattle.std.specs.declared.alloc.Global.{Global}
 use Rattle.std.specs.Option.{option_map}
 use Rattle.csv.specs.Records.{fields_of}
@@ -9,7 +9,8 @@ use Rattle.hm_tree.specs.Nodes.{Tree, empty}
 use Rattle.hm_items.specs.declared.planned.Slot.{Slot}
 use Rattle.hm_items.specs.Items.{IsRewritten}
 use Rattle.hm_records.specs.Rows.{Fields}
-use Rattle.hm_records.specs.Written.{written}
+use Rattle.hm_records.specs.Written.{written, HasWritten}
+use Rattle.hm_records.specs.declared.writer.RecordsWriter.{RecordsWriter}
 use Rattle.hm_columns.specs.Records.{AreSigns, rewritten, blank}
 use Rattle.hm_csv.specs.declared.opening.Opened.{Opened}
 use Rattle.hm_csv.specs.Writing.{Slots}
@@ -70,6 +71,11 @@ pub record IsInside (w : Opened) (lists : Lists) (s : Slot) : Type 0 where
   pub edge : s.edge < length lists
   pub place : s.place < length (list_at lists s.edge).1
   pub from : (i : ℕ) → s.from ≡ Some i → i < length (others_in w)
+
+-- a record was written behind others, and it's told whether it stands at a place of some
+pub record IsAppended (rows : List Fields) (at : ℕ) (old new : RecordsWriter) (row : Fields) (stands : Bool) : Type 0 where
+  pub written_is : (mark : Bool) (before : List Fields) → HasWritten old mark before → HasWritten new mark (before ++ row ∷ [])
+  pub told : IsTrue stands ↔ (slice_get rows at ≡ Some row)
 
 -- ---- all records
 

@@ -1,5 +1,5 @@
 //! Writing a tree behind a file from before.
-ghost use Rattle.std.specs.Prelude.{◌≡◌, ◌<◌, ◌∷◌, ◌&&◌, ◌↔◌, T, All, IsUtf8, IsTrue, IfOk, MatchOption, false, None, Some, length, map, drop, slice_get};
+ghost use Rattle.std.specs.Prelude.{◌≡◌, ◌<◌, ◌∷◌, ◌&&◌, ◌↔◌, [], T, All, IsUtf8, IsTrue, IfOk, MatchOption, false, None, Some, length, map, drop, get_or, slice_get};
 ghost use Rattle.std.specs.FinMap.{is_sorted};
 ghost use Rattle.csv.specs.Records.{fields_of};
 ghost use Rattle.hm_tree.specs.Names.{name_cmp};
@@ -7,6 +7,7 @@ ghost use Rattle.hm_schema.specs.Values.{options_value};
 ghost use Rattle.hm_items.specs.Lent.{lent_counts};
 ghost use Rattle.hm_item_trees.specs.Lent.{lent_lists};
 ghost use Rattle.hm_records.specs.Written.{written};
+ghost use Rattle.hm_columns.specs.Records.{rewritten};
 ghost use Rattle.hm_format.specs.Formats.{MayWrite, depth_over};
 ghost use Rattle.hm_format.specs.Answers.{Writes};
 ghost use Rattle.hm_csv.specs.Writing.{csv, CsvWrites};
@@ -116,9 +117,8 @@ fn rewrite_all<'a>(
     writer.append_record(&opened.rows[0])?;
     let mut same = true;
     for at in 0..slots.len() {
-        let row = record_of(alloc, opened, lists, &slots[at])?;
-        same = both(same, is_record(&opened.rows, at + 1, &row));
-        writer.append_record(&row)?;
+        let stands = append_slot(alloc, &mut writer, opened, lists, &slots[at], at + 1)?;
+        same = both(same, stands);
     }
     let whole = slots.len() + 1 == opened.rows.len();
     Ok((writer.finish()?, both(same, whole)))
@@ -128,6 +128,100 @@ fn both(one: bool, other: bool) -> bool
     ensures { result ≡ (one && other) }
 {
     one && other
+}
+
+// Appends the record of a slot, and tells whether it stands at a place of those from before.
+fn append_slot<'a>(
+    alloc: Global,
+    writer: &mut RecordsWriter,
+    opened: &Opened,
+    lists: &[(&'a Name, Vec<&'a Tree>)],
+    slot: &Slot,
+    at: usize,
+) -> Result<bool, Memory>
+    requires even { spec.IsEven opened.now }
+    requires inside { spec.IsInside opened.now (lent_lists lists.now) slot.now }
+    ensures { IfOk result (spec.IsAppended (spec.rows_in opened.now) at writer.old writer.new (spec.row_in opened.now (spec.slot_in opened.now (lent_lists lists.now) slot.now))) }
+{
+    let (key, cards) = &lists[slot.edge];
+    let card = cards[slot.place];
+    match slot.from {
+        Some(item) => append_rewritten(alloc, writer, opened, item + 1, card, at),
+        None => append_new(alloc, writer, opened, key, card, at),
+    }
+}
+
+// The same of the record of a new item.
+fn append_new(
+    alloc: Global,
+    writer: &mut RecordsWriter,
+    opened: &Opened,
+    key: &Name,
+    card: &Tree,
+    at: usize,
+) -> Result<bool, Memory>
+    requires { spec.IsEven opened.now }
+    ensures { IfOk result (spec.IsAppended (spec.rows_in opened.now) at writer.old writer.new (spec.row_in opened.now (key.now, None, card.now))) }
+{
+    let new = new_record(alloc, opened, key, card)?;
+    append(writer, &opened.rows, &new, at)
+}
+
+// The same of a record from before that is to show a card. Where it shows that card already it isn't copied.
+fn append_rewritten(
+    alloc: Global,
+    writer: &mut RecordsWriter,
+    opened: &Opened,
+    from: usize,
+    card: &Tree,
+    at: usize,
+) -> Result<bool, Memory>
+    requires even { spec.IsEven opened.now }
+    requires inside { from < length opened.now.rows.items }
+    ensures { IfOk result (spec.IsAppended (spec.rows_in opened.now) at writer.old writer.new (rewritten opened.now.table.columns.items card.now (get_or (spec.rows_in opened.now) from []))) }
+{
+    match rewrite(alloc, &opened.table, &opened.rows[from], card)? {
+        Some(new) => append(writer, &opened.rows, &new, at),
+        None => append_from(writer, &opened.rows, from, at),
+    }
+}
+
+// Appends a record, and tells whether it stands at a place of some.
+fn append(
+    writer: &mut RecordsWriter,
+    rows: &[ByteRecord],
+    row: &ByteRecord,
+    at: usize,
+) -> Result<bool, Memory>
+    ensures { IfOk result (spec.IsAppended (map fields_of rows.now) at writer.old writer.new (fields_of row.now)) }
+{
+    writer.append_record(row)?;
+    Ok(is_record(rows, at, row))
+}
+
+// The same of one of them.
+fn append_from(
+    writer: &mut RecordsWriter,
+    rows: &[ByteRecord],
+    from: usize,
+    at: usize,
+) -> Result<bool, Memory>
+    requires { from < length rows.now }
+    ensures { IfOk result (spec.IsAppended (map fields_of rows.now) at writer.old writer.new (get_or (map fields_of rows.now) from [])) }
+{
+    writer.append_record(&rows[from])?;
+    Ok(stands(rows, from, at))
+}
+
+// Whether one of some records stands at a place. At its own it does, and isn't compared.
+fn stands(rows: &[ByteRecord], from: usize, at: usize) -> bool
+    requires { from < length rows.now }
+    ensures { IsTrue result ↔ (slice_get (map fields_of rows.now) at ≡ Some (get_or (map fields_of rows.now) from [])) }
+{
+    if from == at {
+        return true;
+    }
+    is_record(rows, at, &rows[from])
 }
 
 // Whether a record stands at a place.
@@ -140,25 +234,6 @@ fn is_record(rows: &[ByteRecord], at: usize, row: &ByteRecord) -> bool
     }
 }
 
-// The record of a slot.
-fn record_of<'a>(
-    alloc: Global,
-    opened: &Opened,
-    lists: &[(&'a Name, Vec<&'a Tree>)],
-    slot: &Slot,
-) -> Result<ByteRecord, Memory>
-    requires even { spec.IsEven opened.now }
-    requires inside { spec.IsInside opened.now (lent_lists lists.now) slot.now }
-    ensures { IfOk result (λ new. fields_of new ≡ spec.row_in opened.now (spec.slot_in opened.now (lent_lists lists.now) slot.now)) }
-{
-    let (key, cards) = &lists[slot.edge];
-    let card = cards[slot.place];
-    match slot.from {
-        Some(item) => rewrite(alloc, &opened.table, &opened.rows[item + 1], card),
-        None => new_record(alloc, opened, key, card),
-    }
-}
-
 // The record of a new item.
 fn new_record(alloc: Global, opened: &Opened, key: &Name, card: &Tree) -> Result<ByteRecord, Memory>
     requires { spec.IsEven opened.now }
@@ -167,7 +242,10 @@ fn new_record(alloc: Global, opened: &Opened, key: &Name, card: &Tree) -> Result
     let _text = key.text();
     let count = opened.rows[0].len();
     let blank = blank(alloc, opened.key, key, count)?;
-    rewrite(alloc, &opened.table, &blank, card)
+    match rewrite(alloc, &opened.table, &blank, card)? {
+        Some(new) => Ok(new),
+        None => Ok(blank),
+    }
 }
 
 // Whether two records have the same fields.

@@ -16,7 +16,14 @@ rewrite-requires-clause-text c =
     subst (All IsUtf8) (sym c.in_ok-blank.ensures)
     (blank_text c.args.opened.now.key c.args.key.now c.len-count.result (subst IsUtf8 c.text-text.ensures.value c.text-text.utf8))
 
-pub returns : goal.returns
-returns c =
-    new_is c.args.opened.now c.args.key.now c.args.card.now c.index.result.now c.index.result.now (fields_of c.in_ok-blank.blank) c.len-count.result c.rewrite.result
-    c.requires.some c.index.ensures c.len-count.ensures c.in_ok-blank.ensures c.rewrite.ensures
+pub returns-in-Some : goal.returns-in-Some
+returns-in-Some c =
+    let new = rw c.in-Some.is at c.in_ok-new.ensures in
+    new_is c.args.opened.now c.args.key.now c.args.card.now c.index.result.now c.index.result.now (fields_of c.in_ok-blank.blank) (fields_of c.in-Some.new) c.len-count.result
+    c.requires.some c.index.ensures c.len-count.ensures c.in_ok-blank.ensures new
+
+pub returns-in-None : goal.returns-in-None
+returns-in-None c =
+    let stays = rw c.in-None.is at c.in_ok-new.ensures in
+    new_is c.args.opened.now c.args.key.now c.args.card.now c.index.result.now c.index.result.now (fields_of c.in_ok-blank.blank) (fields_of c.in_ok-blank.blank) c.len-count.result
+    c.requires.some c.index.ensures c.len-count.ensures c.in_ok-blank.ensures (sym stays)

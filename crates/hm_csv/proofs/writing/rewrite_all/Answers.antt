@@ -1,15 +1,15 @@
 use Rattle.std.proofs.lemmas.List.{take_all}
 use Rattle.std.proofs.Math.Dec.{eqb}
-use Rattle.std.proofs.Common.{rules, arith, map, slice_get, Some, ◌+◌, ◌≡◌, ◌∙◌, ◌∷◌, [], List, Bool, ℕ, take, length, sym, refl, subst}
+use Rattle.std.proofs.Common.{rules, arith, ◌+◌, ◌≡◌, ◌∙◌, ◌∷◌, [], List, Bool, ℕ, take, length, sym, refl, subst}
 use Rattle.std.specs.Prelude.{IsTrue, ◌↔◌}
-use Rattle.csv.specs.Records.{Row, fields_of}
 use Rattle.hm_items.specs.declared.planned.Slot.{Slot}
 use Rattle.hm_item_trees.specs.Lent.{lent_lists}
 use Rattle.hm_records.specs.Rows.{Fields}
 use Rattle.hm_records.specs.Written.{HasWritten}
 use Rattle.hm_csv.specs.Rewriting.{header_in, others_in, rows_in, slot_rows}
-use Rattle.hm_csv.proofs.Slots.{header_is, rows_more, rows_so_many, all_rows, rows_long, others_long}
-use Rattle.hm_csv.proofs.Prefixes.{same_on, same_end, numbers}
+use Rattle.hm_csv.proofs.Slots.{header_is, all_rows, rows_long, others_long}
+use Rattle.hm_csv.proofs.Appended.{slot_more}
+use Rattle.hm_csv.proofs.Prefixes.{same_end, numbers}
 use Rattle.hm_csv.proofs.writing.rewrite_all.Goals as goal
 
 pub loop-at-init : goal.loop-at-init
@@ -25,15 +25,10 @@ pub loop-at-preserved : goal.loop-at-preserved
 loop-at-preserved c =
     let w = c.args.opened.now in
     let lists = lent_lists c.args.lists.now in
-    let made = slot_rows w lists (take c.loop-at.at c.args.slots.now) in
-    let more = rows_more w lists c.args.slots.now c.loop-at.at c.loop-at-test.true _ (fields_of c.in_ok-row.row) c.in_ok-row.ensures in
-    let many = rows_so_many w lists c.args.slots.now c.loop-at.at c.loop-at-test.true _ (fields_of c.in_ok-row.row) c.in_ok-row.ensures in (
-      subst (λ (rows : List Fields). HasWritten c.append_record-in-loop-at.new.self w.mark (header_in w ∷ rows)) (sym more)
-          (c.in_ok-append_record-2.ensures w.mark (header_in w ∷ made) c.loop-at.invariant.0),
-      (let on = same_on c.loop-at.same c.is_record.result made (rows_in w) (fields_of c.in_ok-row.row) c.loop-at.at many c.loop-at.invariant.1 (λ e.
-          subst (λ (rows : List Row). IsTrue c.is_record.result ↔ (slice_get (map fields_of rows) (c.loop-at.at + 1) ≡ Some (fields_of c.in_ok-row.row))) c.deref.ensures.value c.is_record.ensures) in
-          subst (λ (b : Bool). IsTrue b ↔ (slot_rows w lists (take (c.loop-at.at + 1) c.args.slots.now) ≡ take (c.loop-at.at + 1) (others_in w))) (sym c.both-same.ensures)
-          ((λ t. more ∙ on.0 t), (λ e. on.1 (sym more ∙ e)))),
+    let more = slot_more w lists c.args.slots.now c.loop-at.at c.loop-at-test.true _ c.loop-at.writer c.append_slot.new.writer c.loop-at.same c.in_ok-stands.stands
+    c.loop-at.invariant.0 c.loop-at.invariant.1 c.in_ok-stands.ensures in (
+      more.0,
+      subst (λ (b : Bool). IsTrue b ↔ (slot_rows w lists (take (c.loop-at.at + 1) c.args.slots.now) ≡ take (c.loop-at.at + 1) (others_in w))) (sym c.both-same.ensures) more.1,
       (let t = c.loop-at-test.true in omega (arith, t)),
     )
 
