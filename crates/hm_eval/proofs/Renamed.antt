@@ -1,4 +1,4 @@
--- What a lens that puts a name in place of another shows: the tree with the edge under that name instead.
+-- What a lens that puts a name in place of another shows, and puts: the tree with the edge under that name instead.
 use Rattle.std.proofs.Common.{◌≡◌, Bool, true, false, cond, not, IsSome, is_some, Option, Some, None, inl, inr, refl, sym, ap, subst, ◌∙◌}
 use Rattle.std.specs.Prelude.{IsUtf8}
 use Rattle.std.specs.FinMap.{find}
@@ -16,12 +16,13 @@ use Rattle.hm_schema.specs.Values.{Names}
 use Rattle.hm_terms.specs.Lenses.{Lens, identity, sequence, hoist, plunge, fork, Setting}
 use Rattle.hm_terms.specs.Parts.{IsEdge}
 use Rattle.hm_terms.specs.Shown.{Shows, by_identity, by_sequence, by_hoist, by_plunge, by_fork}
+use Rattle.hm_terms.specs.Put.{Puts, put_identity, put_sequence, put_hoist, put_plunge, put_fork}
 use Rattle.hm_terms.proofs.Maps.{same_children, below-part}
 use Rattle.std.proofs.Common.{Box}
 use Rattle.std.specs.declared.alloc.Global.{Global}
 use Rattle.hm_terms.specs.declared.term.Term.{Term, Id, Seq, Hoist, Plunge, Fork}
 use Rattle.hm_terms.specs.Programs.{lens_of}
-use Rattle.hm_eval.specs.Conditions.{IsShown}
+use Rattle.hm_eval.specs.Conditions.{IsShown, IsPut}
 use Rattle.hm_eval.specs.Renaming.{IsRenaming, IsRenamed}
 
 pub renaming_is : {t a b l k : Term} {P Q : Names} {p q r s : Box Term Global} {m n : Name} → t ≡ Fork P Q p q → a ≡ p.value → b ≡ q.value
@@ -39,7 +40,7 @@ module _ (P : Names) (m n : Name) (c : Tree) where
   abbrev pub outside : Tree
   outside = part (λ k. not (contains P k)) c
 
-  -- what the lens shows, by its two parts
+  -- what the lens shows, or puts, by its two parts
   pub record Taken : Type 0 where
     pub child : Tree
     pub shown : Tree
@@ -116,3 +117,23 @@ module _ (S : Setting) (l : Lens) (m n : Name) (c : Tree) (is : IsRenaming l m n
       let t = taken h.tree h.is in
       let same : t.0.child ≡ made.child = same_Some t.0.child made.child (sym (there is.part m n c t.0) ∙ made.there) in
       subst (Shows S l c) (sym t.1 ∙ view_is is.part m n c t.0 made.text ∙ ap (λ x. with_edge n x (without_edge m c)) same ∙ sym made.is) h.is
+
+module _ (S : Setting) (l : Lens) (m n : Name) (a : Tree) (b : Option Tree) (is : IsRenaming l m n) (h : IsPut S l a b) where
+  taken_back : (c : Tree) → Puts S l a b c → (t : Taken is.shown n m a) × (t.view ≡ c)
+  taken_back c puts = go (subst (λ l. Puts S l a b c) is.is puts)
+    where
+      go : Puts S (fork is.part is.shown (sequence (hoist m) (plunge n)) identity) a b c → (t : Taken is.shown n m a) × (t.view ≡ c)
+      go (put_fork (put_sequence before (put_plunge old) (put_hoist new)) put_identity joins) =
+          (record { child = _; shown = _; view = c; old = old; new = new; joins = joins }, refl)
+
+  pub back_there : IsSome (below n a)
+  back_there = ap is_some (there is.shown n m a (taken_back h.tree h.is).0)
+
+  pub back_free : below m (without_edge n a) ≡ None
+  back_free = free is.shown n m a (taken_back h.tree h.is).0
+
+  pub renamed_puts : (r : Tree) → IsRenamed n m a r → Puts S l a b r
+  renamed_puts r made =
+      let t = taken_back h.tree h.is in
+      let same : t.0.child ≡ made.child = same_Some t.0.child made.child (sym (there is.shown n m a t.0) ∙ made.there) in
+      subst (Puts S l a b) (sym t.1 ∙ view_is is.shown n m a t.0 made.text ∙ ap (λ x. with_edge m x (without_edge n a)) same ∙ sym made.is) h.is

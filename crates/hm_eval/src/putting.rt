@@ -8,6 +8,7 @@ ghost use Rattle.hm_eval.specs.Terms.{setting_in, IsIndex};
 use crate::before::{before_else, before_where, edges_before, item_before, parts_before};
 use crate::bodies::{bodies_of, body};
 use crate::children::{children, chosen, has};
+use crate::renaming::{renamed, renaming};
 use crate::run::Run;
 use crate::stages::stages_before;
 use crate::texts::put_text;
@@ -63,6 +64,9 @@ pub fn put_by(
 {
     if levels == 0 {
         return Err(Memory);
+    }
+    if let Some((from, to)) = renaming(term) {
+        return renamed(shown, to, from);
     }
     match term {
         Term::Id => Ok(shown),

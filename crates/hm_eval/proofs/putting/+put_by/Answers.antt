@@ -9,9 +9,21 @@ use Rattle.hm_eval.proofs.ShowSteps.{fewer}
 use Rattle.hm_eval.proofs.PutSteps.{same_put, row_puts, lent_put, lent_puts, same_puts, hoist_puts, had_both, merge_puts, inside_put, outside_put, apart_put, fork_puts, concrete_put, concrete_puts, view_put, view_puts, called_put, call_puts}
 use Rattle.hm_eval.proofs.PutItems.{items_list, none_put, old_list, item_put, one_put_more, items_puts}
 use Rattle.hm_eval.proofs.PutChildren.{none_put as none_under, more_put, next_before, child_put, put_edges, children_put, put_by_lens, put_by_none}
+use Rattle.hm_eval.proofs.Renamed.{back_there, back_free, renamed_puts}
 use Rattle.hm_eval.proofs.StageSteps.{here_put, one_back, back_done, seq_puts}
 use Rattle.hm_eval.proofs.putting.+put_by.Goals.{in-Some-lens+in_ok-tree-in-Some-lens, in-None-lens}
 use Rattle.hm_eval.proofs.putting.+put_by.Goals as goal
+
+-- ---- another name in place of one
+
+pub renamed-requires-clause-there : goal.renamed-requires-clause-there
+renamed-requires-clause-there g t c = back_there _ _ _ _ _ _ c.in-Some.ensures c.requires.put
+
+pub renamed-requires-clause-free : goal.renamed-requires-clause-free
+renamed-requires-clause-free g t c = back_free _ _ _ _ _ _ c.in-Some.ensures c.requires.put
+
+pub returns-in-Some : goal.returns-in-Some
+returns-in-Some g t c = IfOk-weaker _ _ _ (renamed_puts _ _ _ _ _ _ c.in-Some.ensures c.requires.put) c.renamed.ensures
 
 -- ---- lenses without lenses inside, and calls
 
@@ -39,22 +51,22 @@ returns-in-Call g t c = IfOk-weaker _ _ _ (λ v. call_puts _ _ _ _ _ _ v (ap len
 
 -- ---- sequence
 
-pub put_by-requires-in-Some : goal.put_by-requires-in-Some
-put_by-requires-in-Some g t c = (
+pub put_by-requires-in-Some-pop : goal.put_by-requires-in-Some-pop
+put_by-requires-in-Some-pop g t c = (
   fewer c.args.levels t c.decreases c.if-levels-eq0.false,
-  (c.requires.index, here_put _ _ _ _ _ _ _ (c.loop-stage.invariant c.requires.put.tree c.requires.put.is) c.in-Some.ensures.items),
+  (c.requires.index, here_put _ _ _ _ _ _ _ (c.loop-stage.invariant c.requires.put.tree c.requires.put.is) c.in-Some-pop.ensures.items),
 )
 
 pub loop-stage-init : goal.loop-stage-init
 loop-stage-init g t c = λ w p. c.in_ok-stages-in-Seq.ensures _ w p
 
 pub loop-stage-preserved : goal.loop-stage-preserved
-loop-stage-preserved g t c = λ w p. one_back _ _ _ _ _ _ _ _ (c.loop-stage.invariant w p) c.in-Some.ensures.items c.in_ok-made-in-Seq.ensures
+loop-stage-preserved g t c = λ w p. one_back _ _ _ _ _ _ _ _ (c.loop-stage.invariant w p) c.in-Some-pop.ensures.items c.in_ok-made-in-Seq.ensures
 
-pub returns-in_default : goal.returns-in_default
-returns-in_default g t c =
+pub returns-in_default-pop : goal.returns-in_default-pop
+returns-in_default-pop g t c =
     seq_puts _ _ _ _ _ _ c.requires.put.is
-    (back_done _ _ _ _ (c.loop-stage.invariant c.requires.put.tree c.requires.put.is) (omega (arith, c.loop-stage.stages.ok, c.in_default.ensures.cases.0)))
+    (back_done _ _ _ _ (c.loop-stage.invariant c.requires.put.tree c.requires.put.is) (omega (arith, c.loop-stage.stages.ok, c.in_default-pop.ensures.cases.0)))
 
 -- ---- fork
 
