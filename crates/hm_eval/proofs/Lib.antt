@@ -11,4 +11,5 @@ mod StageSteps
 mod Indexing
 mod Giving
 mod ValueSteps
+pub mod WithoutBefore
 pub mod Fits

@@ -4,3 +4,4 @@ pub mod Children
 pub mod Stages
 pub mod Texts
 pub mod Renaming
+pub mod Oblivious

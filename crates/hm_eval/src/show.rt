@@ -20,13 +20,25 @@ pub fn get(program: &Program, texts: &[Box<dyn TextLens>], concrete: &Tree) -> R
     requires { IsShown (setting_of (map (λ b. meaning b) texts.now) (program_value program.now)) (program_value program.now).main concrete.now }
     ensures { IfOk result (Shows (setting_of (map (λ b. meaning b) texts.now) (program_value program.now)) (program_value program.now).main concrete.now) }
 {
+    get_owned(program, texts, concrete.copy()?)
+}
+
+/// The same of a tree that is handed over.
+pub fn get_owned(
+    program: &Program,
+    texts: &[Box<dyn TextLens>],
+    concrete: Tree,
+) -> Result<Tree, Memory>
+    requires { IsShown (setting_of (map (λ b. meaning b) texts.now) (program_value program.now)) (program_value program.now).main concrete }
+    ensures { IfOk result (Shows (setting_of (map (λ b. meaning b) texts.now) (program_value program.now)) (program_value program.now).main concrete) }
+{
     let bodies = bodies_of(concrete.allocator(), &program.definitions)?;
     let run = Run {
         definitions: &program.definitions,
         bodies: &bodies,
         texts,
     };
-    show(u64::MAX, &run, &program.main, concrete.copy()?)
+    show(u64::MAX, &run, &program.main, concrete)
 }
 
 /// What a lens shows of a tree, by so many levels of recursion at most. Each kind of lens has its steps here, since
