@@ -1,6 +1,6 @@
 -- A file that is read through a format and a program of lenses, and what is written back of it (TOPLAS 2007, section 3, of
 -- a format and a lens together).
-use Rattle.std.specs.Prelude.{◌≡◌, ℕ, List, Some, None, Result, Ok, Err, Vec}
+use Rattle.std.specs.Prelude.{◌≡◌, ℕ, List, Option, Some, None, Result, Ok, Err, Vec, cond}
 use Rattle.std.specs.declared.alloc.Global.{Global}
 use Rattle.hm_tree.specs.Nodes.{Tree}
 use Rattle.hm_schema.specs.Values.{OptionsValue, SchemaValue}
@@ -8,9 +8,10 @@ use Rattle.hm_text_lens.specs.Meanings.{TextMeaning}
 use Rattle.hm_terms.specs.Lenses.{Lens, Setting}
 use Rattle.hm_terms.specs.Programs.{ProgramValue, program_value, setting_of}
 use Rattle.hm_terms.specs.Shown.{Shows}
-use Rattle.hm_terms.specs.Put.{Puts, before_or}
+use Rattle.hm_terms.specs.Put.{Puts}
 use Rattle.hm_terms.specs.Kept.{Keeps}
 use Rattle.hm_terms.specs.Fitting.{Fits}
+use Rattle.hm_eval.specs.Oblivious.{oblivious}
 use Rattle.hm_types.specs.declared.typed.Typed.{Typed}
 use Rattle.hm_types.specs.Checks.{Trees}
 use Rattle.hm_format.specs.declared.fault.FormatFault.{FormatFault}
@@ -19,15 +20,14 @@ use Rattle.hm_format.specs.Options.{AreSound}
 use Rattle.hm_format.specs.Formats.{FormatMeaning, HasSchema}
 use Rattle.hm_replica.specs.declared.replica.Replica.{Replica}
 
--- the bytes, the tree that they are read as, and what is shown of it
+-- the bytes, the tree that they are read as if it is kept, and what is shown of it
 pub record ReplicaValue : Type 0 where
   pub bytes : List ℕ
-  pub concrete : Tree
+  pub concrete : Option Tree
   pub view : Tree
 
--- the tree of a replica, which is its view where it isn't there by itself
 abbrev pub replica_value : Replica → ReplicaValue
-replica_value r = record { bytes = r.bytes.items; concrete = before_or r.view r.concrete; view = r.view }
+replica_value r = record { bytes = r.bytes.items; concrete = r.concrete; view = r.view }
 
 -- a program, the schema of the trees that it shows, and that of their views
 pub record TypedValue : Type 0 where
@@ -54,10 +54,16 @@ pub record IsTyped (m : FormatMeaning) (texts : List TextMeaning) (t : TypedValu
   pub schema : HasSchema m (options_in t) t.source
   pub fits : Fits (setting_in texts t) (main_in t) (Trees t.source) (Trees t.view)
 
--- the bytes are read as the tree, of which the program shows the view
+-- the tree that is kept of a replica: an oblivious lens puts without it
+abbrev pub kept_by : Lens → Tree → Option Tree
+kept_by l tree = cond (oblivious l) None (Some tree)
+
+-- the bytes are read as a tree, of which the program shows the view
 pub record IsReplica (m : FormatMeaning) (texts : List TextMeaning) (t : TypedValue) (r : ReplicaValue) : Type 0 where
-  pub read : m.reads (options_in t) r.bytes (Ok r.concrete)
-  pub shown : Shows (setting_in texts t) (main_in t) r.concrete r.view
+  pub tree : Tree
+  pub read : m.reads (options_in t) r.bytes (Ok tree)
+  pub shown : Shows (setting_in texts t) (main_in t) tree r.view
+  pub kept : r.concrete ≡ kept_by (main_in t) tree
 
 -- the replica of these bytes, a member of the view's schema, or why they aren't read
 abbrev pub Opens : FormatMeaning → List TextMeaning → TypedValue → List ℕ → Result Replica FormatFault → Type 0
@@ -70,26 +76,28 @@ Opens m texts t bytes (Err (TooDeep depth)) = m.reads (options_in t) bytes (Err 
 Opens m texts t bytes (Err (Outside path)) = m.reads (options_in t) bytes (Err (Outside path))
 Opens m texts t bytes (Err Memory) = Unit {0}
 
--- the tree that is put of a view
-abbrev pub IsPut : List TextMeaning → TypedValue → ReplicaValue → Tree → Tree → Type 0
-IsPut texts t r shown tree = Puts (setting_in texts t) (main_in t) shown (Some r.concrete) tree
+-- the tree that is put of a view over the one that a file is read as
+pub record IsPut (m : FormatMeaning) (texts : List TextMeaning) (t : TypedValue) (bytes : List ℕ) (shown tree : Tree) : Type 0 where
+  pub before : Tree
+  pub read : m.reads (options_in t) bytes (Ok before)
+  pub puts : Puts (setting_in texts t) (main_in t) shown (Some before) tree
 
 -- bytes that are written of a view: those of the tree that is put, which is within the limit; they are a replica of the
 -- view; what the lens and what the format don't show is kept; and where the view is that of the replica, so are the bytes
 pub record IsClosed (m : FormatMeaning) (texts : List TextMeaning) (t : TypedValue) (r : ReplicaValue) (shown : Tree) (bytes : List ℕ) : Type 0 where
   pub tree : Tree
-  pub put : IsPut texts t r shown tree
+  pub put : IsPut m texts t r.bytes shown tree
   pub within : m.over tree ≡ None
   pub written : m.writes (options_in t) tree r.bytes bytes
-  pub replica : IsReplica m texts t (record { bytes = bytes; concrete = tree; view = shown })
-  pub lens_keeps : Keeps (setting_in texts t) (main_in t) r.concrete tree
+  pub replica : IsReplica m texts t (record { bytes = bytes; concrete = kept_by (main_in t) tree; view = shown })
+  pub lens_keeps : Keeps (setting_in texts t) (main_in t) put.before tree
   pub format_keeps : m.keeps (options_in t) r.bytes bytes
   pub unchanged : shown ≡ r.view → bytes ≡ r.bytes
 
 -- the tree that is put is over the limit
 pub record IsTooDeep (m : FormatMeaning) (texts : List TextMeaning) (t : TypedValue) (r : ReplicaValue) (shown : Tree) (depth : ℕ) : Type 0 where
   pub tree : Tree
-  pub put : IsPut texts t r shown tree
+  pub put : IsPut m texts t r.bytes shown tree
   pub over : m.over tree ≡ Some depth
 
 abbrev pub Closes : FormatMeaning → List TextMeaning → TypedValue → ReplicaValue → Tree → Result (Vec ℕ Global) FormatFault → Type 0

@@ -1,12 +1,13 @@
 //! What a new view of a replica is put over.
 ghost use Rattle.std.specs.Prelude.{◌≡◌, IsTrue, IfOk, IfSome, MatchOption, Some, map};
+ghost use Rattle.std.specs.Option.{option_map};
 ghost use Rattle.hm_terms.specs.Put.{Puts};
 ghost use Rattle.hm_eval.specs.Conditions.{IsPut};
 ghost use Rattle.hm_types.specs.Checks.{Trees};
 ghost use Rattle.hm_replica.specs.Replicas.{ReplicaValue, main_in, setting_in, typed_value, IsTyped, IsReplica, Closes};
 
 use crate::boxed::{laws, write};
-use hm_eval::put_changes;
+use hm_eval::{put_changes, put_owned};
 use hm_format::{Format, FormatFault};
 use hm_text_lens::TextLens;
 use hm_tree::{Memory, Tree};
@@ -17,7 +18,7 @@ use std::alloc::Global;
 #[derive(Drop)]
 pub struct Base {
     pub bytes: Vec<u8>,
-    /// The tree, and what is shown of it; none where a program shows each tree as it is, which needs neither.
+    /// The tree, and what is shown of it; none where the program's lens is oblivious, which needs neither.
     pub kept: Option<(Tree, Tree)>,
 }
 
@@ -35,9 +36,9 @@ impl Base {
         shown: Tree,
     ) -> Result<Vec<u8>, FormatFault>
         requires typed { IsTyped (means format.now) (map (λ b. meaning b) texts.now) (typed_value typed.now) }
-        requires replica { (r : ReplicaValue) × IsBase (main_in (typed_value typed.now)) r self × IsReplica (means format.now) (map (λ b. meaning b) texts.now) (typed_value typed.now) r }
+        requires replica { (r : ReplicaValue) × IsBase r self × IsReplica (means format.now) (map (λ b. meaning b) texts.now) (typed_value typed.now) r }
         requires member { Trees typed.now.view shown }
-        ensures { (r : ReplicaValue) → IsBase (main_in (typed_value typed.now)) r self → IsReplica (means format.now) (map (λ b. meaning b) texts.now) (typed_value typed.now) r → Closes (means format.now) (map (λ b. meaning b) texts.now) (typed_value typed.now) r shown result }
+        ensures { (r : ReplicaValue) → IsBase r self → IsReplica (means format.now) (map (λ b. meaning b) texts.now) (typed_value typed.now) r → Closes (means format.now) (map (λ b. meaning b) texts.now) (typed_value typed.now) r shown result }
     {
         laws(format);
         let Base { bytes, kept } = self;
@@ -59,19 +60,19 @@ fn is_kept(kept: &Option<(Tree, Tree)>, shown: &Tree) -> bool
     }
 }
 
-// The tree that is put of a view over the one that is kept; where none is, this is the view.
+// The tree that is put of a view over the one that is kept; where none is, the lens needs none.
 fn put_back(
     typed: &Typed,
     texts: &[Box<dyn TextLens>],
     shown: Tree,
     kept: Option<(Tree, Tree)>,
 ) -> Result<Tree, Memory>
-    requires put { IfSome kept (λ k. IsPut (setting_in (map (λ b. meaning b) texts.now) (typed_value typed.now)) (main_in (typed_value typed.now)) shown (Some k.0)) }
+    requires put { IsPut (setting_in (map (λ b. meaning b) texts.now) (typed_value typed.now)) (main_in (typed_value typed.now)) shown (option_map (λ k. k.0) kept) }
     requires back { IfSome kept (λ k. Puts (setting_in (map (λ b. meaning b) texts.now) (typed_value typed.now)) (main_in (typed_value typed.now)) k.1 (Some k.0) k.0) }
-    ensures { IfOk result (λ tree. MatchOption kept (tree ≡ shown) (λ k. Puts (setting_in (map (λ b. meaning b) texts.now) (typed_value typed.now)) (main_in (typed_value typed.now)) shown (Some k.0) tree)) }
+    ensures { IfOk result (Puts (setting_in (map (λ b. meaning b) texts.now) (typed_value typed.now)) (main_in (typed_value typed.now)) shown (option_map (λ k. k.0) kept)) }
 {
     match kept {
         Some((concrete, view)) => put_changes(&typed.program, texts, shown, concrete, view),
-        None => Ok(shown),
+        None => put_owned(&typed.program, texts, shown, None),
     }
 }

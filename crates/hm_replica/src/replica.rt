@@ -1,16 +1,12 @@
 //! Replicas.
-ghost use Rattle.std.specs.Prelude.{◌≡◌, ◌↔◌, IsTrue, IfOk, map};
-ghost use Rattle.hm_terms.specs.Lenses.{identity};
-ghost use Rattle.hm_terms.specs.Programs.{lens_of};
-ghost use Rattle.hm_terms.specs.Put.{before_or};
+ghost use Rattle.std.specs.Prelude.{◌≡◌, IfOk, map};
 ghost use Rattle.hm_types.specs.Checks.{Trees};
-ghost use Rattle.hm_replica.specs.Replicas.{main_in, replica_value, typed_value, IsTyped, IsReplica, Opens, Closes};
+ghost use Rattle.hm_replica.specs.Replicas.{replica_value, typed_value, IsTyped, IsReplica, Opens, Closes};
 
 use crate::base::Base;
 use crate::boxed::{laws, read};
-use hm_eval::get;
+use hm_eval::{get, get_owned, is_oblivious};
 use hm_format::{Format, FormatFault};
-use hm_terms::Term;
 use hm_text_lens::TextLens;
 use hm_tree::{Memory, Tree};
 use hm_types::Typed;
@@ -20,7 +16,7 @@ use std::alloc::Global;
 #[derive(Drop)]
 pub struct Replica {
     pub bytes: Vec<u8>,
-    /// None where it is the view, so that a program which shows each tree as it is needs no copies.
+    /// None where the program's lens is oblivious: it puts a view without the tree from before, so no tree is copied.
     pub concrete: Option<Tree>,
     pub view: Tree,
 }
@@ -41,11 +37,12 @@ impl Replica {
     {
         laws(format);
         let concrete = read(format, alloc, &typed.program.options, &bytes)?;
-        if is_identity(&typed.program.main) {
+        if is_oblivious(&typed.program.main) {
+            let view = get_owned(&typed.program, texts, concrete)?;
             return Ok(Replica {
                 bytes,
                 concrete: None,
-                view: concrete,
+                view,
             });
         }
         let view = get(&typed.program, texts, &concrete)?;
@@ -57,35 +54,42 @@ impl Replica {
     }
 
     /// What a new view is put over. The view of the replica is let go where that needs none.
-    pub fn into_base(self, typed: &Typed) -> Result<Base, Memory>
-        ensures { IfOk result (IsBase (main_in (typed_value typed.now)) (replica_value self)) }
+    pub fn into_base(self) -> Base
+        ensures { IsBase (replica_value self) result }
     {
         let Replica {
             bytes,
             concrete,
             view,
         } = self;
-        if is_identity(&typed.program.main) {
-            return Ok(Base { bytes, kept: None });
-        }
-        let concrete = tree_or_copy(concrete, &view)?;
-        Ok(Base {
-            bytes,
-            kept: Some((concrete, view)),
-        })
+        let kept = match concrete {
+            Some(tree) => Some((tree, view)),
+            None => None,
+        };
+        Base { bytes, kept }
     }
 
     /// The view, and what a new one is put over. The view is copied where that needs it.
-    pub fn parted(self, typed: &Typed) -> Result<(Tree, Base), Memory>
+    pub fn parted(self) -> Result<(Tree, Base), Memory>
         ensures view { IfOk result (λ parts. parts.0 ≡ self.view) }
-        ensures base { IfOk result (λ parts. IsBase (main_in (typed_value typed.now)) (replica_value self) parts.1) }
+        ensures base { IfOk result (λ parts. IsBase (replica_value self) parts.1) }
     {
-        if is_identity(&typed.program.main) {
-            let Replica { bytes, view, .. } = self;
+        let Replica {
+            bytes,
+            concrete,
+            view,
+        } = self;
+        let Some(tree) = concrete else {
             return Ok((view, Base { bytes, kept: None }));
-        }
-        let view = self.view.copy()?;
-        Ok((view, self.into_base(typed)?))
+        };
+        let shown = view.copy()?;
+        Ok((
+            shown,
+            Base {
+                bytes,
+                kept: Some((tree, view)),
+            },
+        ))
     }
 
     /// The bytes of a view, behind those of the replica, which are handed on where the view is that of the replica.
@@ -105,27 +109,9 @@ impl Replica {
     {
         laws(format);
         // A base that keeps a view is compared with when it is closed.
-        if is_identity(&typed.program.main) && shown.same(&self.view) {
+        if self.concrete.is_none() && shown.same(&self.view) {
             return Ok(self.bytes);
         }
-        self.into_base(typed)?
-            .close(alloc, format, typed, texts, shown)
+        self.into_base().close(alloc, format, typed, texts, shown)
     }
-}
-
-// The tree of a replica, which is its view where it isn't there by itself.
-fn tree_or_copy(concrete: Option<Tree>, view: &Tree) -> Result<Tree, Memory>
-    ensures { IfOk result (λ tree. tree ≡ before_or view.now concrete) }
-{
-    match concrete {
-        Some(tree) => Ok(tree),
-        None => view.copy(),
-    }
-}
-
-// Whether a lens is the one that shows each tree as it is.
-fn is_identity(lens: &Term) -> bool
-    ensures { IsTrue result ↔ (lens_of lens.now ≡ identity) }
-{
-    matches!(lens, Term::Id)
 }

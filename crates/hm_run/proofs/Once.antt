@@ -61,9 +61,9 @@ module _ (h : Handed) (before : Before) (of : AreOpened h before) (after : Synce
   closed_once : FindsOne (Closes h before.sides before.replicas after)
   unfolding Closes
   closed_once =
-      then_once _ _ (closes_once h.means_of h.formats h.texts before.sides.left of.serves_left.is_side before.replicas.left of.left after.left
+      then_once _ _ (closes_once h.means_of h.formats h.texts before.sides.left of.serves_left.is_side before.replicas.left after.left
       (of.serves_left.members.into after.left becomes.safe.members.left) slot.A) (λ left.
-      then_once _ _ (closes_once h.means_of h.formats h.texts before.sides.right of.serves_right.is_side before.replicas.right of.right after.right
+      then_once _ _ (closes_once h.means_of h.formats h.texts before.sides.right of.serves_right.is_side before.replicas.right after.right
       (of.serves_right.members.into after.right becomes.safe.members.right) slot.B) (λ right.
       then_once _ _ (equals_once _) (λ fits. equals_once _)))
 

@@ -38,8 +38,8 @@ module _ (h : Handed) where
   module _ (side : SideValue) (is : IsSide h.means_of h.formats h.texts side) where
     shown : (r : ReplicaValue) → IsReplica (h.means_of is.format) h.texts side.typed r → Trees side.typed.view r.view
     shown r replica =
-        let member = is.lawful.members (options_in side.typed) side.typed.source r.bytes r.concrete is.typed.sound is.typed.schema replica.read in
-        let one = is.typed.fits.shows r.concrete member in
+        let member = is.lawful.members (options_in side.typed) side.typed.source r.bytes replica.tree is.typed.sound is.typed.schema replica.read in
+        let one = is.typed.fits.shows replica.tree member in
         subst (Trees side.typed.view) (sym (one.only r.view replica.shown)) one.inside
 
     pub view_member : (at : Slot) (bytes : List ℕ) (r : ReplicaValue) → OpensOn h.means_of h.formats h.texts side at bytes (Ok r)

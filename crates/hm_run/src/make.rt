@@ -5,7 +5,7 @@ ghost use Rattle.hm_schema.specs.Membership.{HasNoTwins};
 ghost use Rattle.hm_outcome.specs.Trios.{given, views, AreMembers};
 ghost use Rattle.hm_reconcile.specs.Reconciled.{IsReconciled};
 ghost use Rattle.hm_replica.specs.Bases.{IsBase};
-ghost use Rattle.hm_replica.specs.Replicas.{main_in, typed_value, replica_value};
+ghost use Rattle.hm_replica.specs.Replicas.{replica_value};
 ghost use Rattle.hm_files.specs.Steps.{Computes};
 ghost use Rattle.hm_files.specs.Files.{all_bytes, new_of};
 ghost use Rattle.hm_command.specs.Words.{names};
@@ -38,18 +38,17 @@ fn deeper(left: &Tree, right: &Tree) -> usize
 fn reconcile(
     alloc: Global,
     schema: &Schema,
-    sides: &SidePair,
     archive: Archive,
     replicas: ReplicaPair,
 ) -> Result<(Outcome, BasePair), Memory>
     requires no_twins { HasNoTwins schema.now }
     requires members { AreMembers schema.now schema.now.root (views (given archive replicas.left.view replicas.right.view)) }
     ensures outcome { IfOk result (λ r. IsReconciled schema.now (given archive replicas.left.view replicas.right.view) r.0) }
-    ensures left { IfOk result (λ r. IsBase (main_in (typed_value sides.now.left.typed)) (replica_value replicas.left) r.1.left) }
-    ensures right { IfOk result (λ r. IsBase (main_in (typed_value sides.now.right.typed)) (replica_value replicas.right) r.1.right) }
+    ensures left { IfOk result (λ r. IsBase (replica_value replicas.left) r.1.left) }
+    ensures right { IfOk result (λ r. IsBase (replica_value replicas.right) r.1.right) }
 {
-    let (left_view, left) = replicas.left.parted(&sides.left.typed)?;
-    let (right_view, right) = replicas.right.parted(&sides.right.typed)?;
+    let (left_view, left) = replicas.left.parted()?;
+    let (right_view, right) = replicas.right.parted()?;
     let outcome = reconcile_owned(alloc, schema, archive, left_view, right_view)?;
     Ok((outcome, BasePair { left, right }))
 }
@@ -68,7 +67,7 @@ fn make_both(
     ensures { Computes (MakesTexts (handed (λ b. means b) formats.now (map (λ b. meaning b) texts.now)) (before_with schema.now sides.now archive replicas)) result }
 {
     let bound = deeper(&replicas.left.view, &replicas.right.view);
-    let (outcome, bases) = reconcile(alloc, schema, sides, archive, replicas)?;
+    let (outcome, bases) = reconcile(alloc, schema, archive, replicas)?;
     close(alloc, formats, texts, sides, bases, outcome, bound)
 }
 

@@ -4,12 +4,13 @@ use Rattle.std.proofs.lemmas.Option.{same_Some, slice_get_read}
 use Rattle.hm_tree.specs.Nodes.{Tree}
 use Rattle.hm_text_lens.specs.Meanings.{TextMeaning}
 use Rattle.hm_terms.specs.Shown.{Shows}
+use Rattle.hm_terms.specs.Put.{Puts}
 use Rattle.hm_types.specs.Checks.{Trees}
 use Rattle.hm_format.specs.declared.fault.FormatFault.{FormatFault}
 use Rattle.hm_format.specs.declared.fault.FormatFault.TheVariants as format
 use Rattle.hm_format.specs.Formats.{FormatMeaning, IsLawful}
 use Rattle.hm_replica.specs.declared.replica.Replica.{Replica}
-use Rattle.hm_replica.specs.Replicas.{ReplicaValue, TypedValue, replica_value, options_in, main_in, setting_in, IsTyped, IsReplica, IsPut, Closes}
+use Rattle.hm_replica.specs.Replicas.{ReplicaValue, TypedValue, replica_value, options_in, main_in, setting_in, kept_by, IsTyped, IsReplica, IsPut, Closes}
 use Rattle.hm_replica.proofs.Laws.{stays}
 use Rattle.hm_files.specs.declared.slot.Slot.{Slot}
 use Rattle.hm_files.specs.declared.stop.FileFault.TheVariants.{Unwritable}
@@ -49,29 +50,32 @@ module _ (m : FormatMeaning) (texts : List TextMeaning) (t : TypedValue) (at : S
     -- of one file there is one replica
     same_replica : (r q : ReplicaValue) → r.bytes ≡ q.bytes → IsReplica m texts t r → IsReplica m texts t q → r ≡ q
     same_replica r q bytes h k =
-        let concrete : r.concrete ≡ q.concrete =
-        same_tree r.bytes r.concrete q.concrete h.read (subst (λ b. m.reads (options_in t) b (Ok q.concrete)) (sym bytes) k.read) in
-        let one = typed.fits.shows q.concrete (member q.bytes q.concrete k.read) in
+        let tree : h.tree ≡ k.tree =
+        same_tree r.bytes h.tree k.tree h.read (subst (λ b. m.reads (options_in t) b (Ok k.tree)) (sym bytes) k.read) in
+        let concrete : r.concrete ≡ q.concrete = h.kept ∙ ap (kept_by (main_in t)) tree ∙ sym k.kept in
+        let one = typed.fits.shows k.tree (member q.bytes k.tree k.read) in
         let view : r.view ≡ q.view =
-        one.only r.view (subst (λ c. Shows (setting_in texts t) (main_in t) c r.view) concrete h.shown) ∙ sym (one.only q.view k.shown) in
+        one.only r.view (subst (λ c. Shows (setting_in texts t) (main_in t) c r.view) tree h.shown) ∙ sym (one.only q.view k.shown) in
         λ i. record { bytes = bytes i; concrete = concrete i; view = view i }
 
     replica_once : (bytes : List ℕ) → FindsOne (OpensReplica m texts t at bytes)
     replica_once bytes = sides_once (OpensReplica m texts t at bytes)
         (λ r q h k. same_replica r q (h.0 ∙ sym k.0) h.1 k.1)
         (λ r f h k.
-        let e : ◌≡◌ {A = Result Tree FormatFault} (Ok r.concrete) (Err k.0) =
-        laws.read_once (options_in t) bytes (Ok r.concrete) (Err k.0) (subst (λ b. m.reads (options_in t) b (Ok r.concrete)) h.0 h.1.read) k.1 in
+        let e : ◌≡◌ {A = Result Tree FormatFault} (Ok h.1.tree) (Err k.0) =
+        laws.read_once (options_in t) bytes (Ok h.1.tree) (Err k.0) (subst (λ b. m.reads (options_in t) b (Ok h.1.tree)) h.0 h.1.read) k.1 in
         let no : ⊥ = cc in no)
         (λ f g h k.
         let e : ◌≡◌ {A = Result Tree FormatFault} (Err h.0) (Err k.0) = laws.read_once (options_in t) bytes (Err h.0) (Err k.0) h.1 k.1 in
         let same : h.0 ≡ k.0 = cc in
         let told : Refused f ≡ Refused g = sym h.2 ∙ ap (format_stop at) same ∙ k.2 in cc)
 
-    module _ (r : ReplicaValue) (replica : IsReplica m texts t r) (shown : Tree) (there : Trees t.view shown) where
-      same_put : (c d : Tree) → IsPut texts t r shown c → IsPut texts t r shown d → c ≡ d
+    module _ (r : ReplicaValue) (shown : Tree) (there : Trees t.view shown) where
+      same_put : (c d : Tree) → IsPut m texts t r.bytes shown c → IsPut m texts t r.bytes shown d → c ≡ d
       same_put c d h k =
-          let one = typed.fits.puts shown (Some r.concrete) there (member r.bytes r.concrete replica.read) in one.only c h ∙ sym (one.only d k)
+          let before : k.before ≡ h.before = same_tree r.bytes k.before h.before k.read h.read in
+          let one = typed.fits.puts shown (Some h.before) there (member r.bytes h.before h.read) in
+          one.only c h.puts ∙ sym (one.only d (subst (λ b. Puts (setting_in texts t) (main_in t) shown (Some b) d) before k.puts))
 
       closed_once : FindsOne (ClosesReplica m texts t r shown at)
       closed_once = sides_once (ClosesReplica m texts t r shown at)
@@ -122,10 +126,10 @@ module _ {B : Type 0} (means_of : B → FormatMeaning) (formats : List B) (texts
   pub opens_once : (at : Slot) (bytes : List ℕ) → FindsOne (OpensOn means_of formats texts side at bytes)
   opens_once at bytes r q h k = replica_once (means_of s.format) texts side.typed at s.lawful s.typed bytes r q (here h) (here k)
 
-  pub closes_once : (replica : ReplicaValue) → IsReplicaOn means_of formats texts side replica → (shown : Tree) → Trees side.typed.view shown
+  pub closes_once : (replica : ReplicaValue) (shown : Tree) → Trees side.typed.view shown
       → (at : Slot) → FindsOne (ClosesOn means_of formats texts side replica shown at)
-  closes_once replica on shown there at r q h k =
-      closed_once (means_of s.format) texts side.typed at s.lawful s.typed replica (here on) shown there r q (here h) (here k)
+  closes_once replica shown there at r q h k =
+      closed_once (means_of s.format) texts side.typed at s.lawful s.typed replica shown there r q (here h) (here k)
 
   -- where the view is that of the replica, its own bytes are those that are written
   pub stays_on : (replica : ReplicaValue) → IsReplicaOn means_of formats texts side replica → Trees side.typed.view replica.view → (at : Slot)

@@ -6,7 +6,7 @@ use Rattle.hm_format.specs.declared.fault.FormatFault.{FormatFault}
 use Rattle.hm_format.specs.Formats.{FormatMeaning}
 use Rattle.hm_replica.specs.declared.base.Base.{Base}
 use Rattle.hm_replica.specs.Bases.{IsBase}
-use Rattle.hm_replica.specs.Replicas.{ReplicaValue, TypedValue, options_in, main_in, IsReplica, IsClosed, IsTooDeep}
+use Rattle.hm_replica.specs.Replicas.{ReplicaValue, TypedValue, options_in, IsReplica, IsClosed, IsTooDeep}
 use Rattle.hm_files.specs.declared.slot.Slot.{Slot}
 use Rattle.hm_files.specs.declared.stop.FileFault.TheVariants.{Unwritable}
 use Rattle.hm_files.specs.declared.stop.Refusal.{Refusal}
@@ -42,5 +42,5 @@ IsReplicaOn means_of formats texts side r = HasFormat means_of formats side.plac
 
 -- a replica on a side, and what a new view of it is put over
 pub record IsBaseOn {B : Type 0} (means_of : B → FormatMeaning) (formats : List B) (texts : List TextMeaning) (side : SideValue) (r : ReplicaValue) (b : Base) : Type 0 where
-  pub base : IsBase (main_in side.typed) r b
+  pub base : IsBase r b
   pub on_side : IsReplicaOn means_of formats texts side r

@@ -2,7 +2,7 @@
 ghost use Rattle.std.specs.Prelude.{IfOk, map};
 ghost use Rattle.hm_types.specs.Checks.{Trees};
 ghost use Rattle.hm_replica.specs.Bases.{IsBase};
-ghost use Rattle.hm_replica.specs.Replicas.{ReplicaValue, main_in, typed_value, replica_value, IsTyped, IsReplica};
+ghost use Rattle.hm_replica.specs.Replicas.{ReplicaValue, typed_value, replica_value, IsTyped, IsReplica};
 ghost use Rattle.hm_files.specs.Steps.{Computes};
 ghost use Rattle.hm_files.specs.Files.{bytes_of};
 ghost use Rattle.hm_sides.specs.Sides.{seen, side_value, IsSide};
@@ -139,9 +139,9 @@ fn close_base_by(
     view: Tree,
 ) -> Result<Vec<u8>, Stop>
     requires typed { IsTyped (means format.now) (map (λ b. meaning b) texts.now) (typed_value typed.now) }
-    requires replica { (r : ReplicaValue) × IsBase (main_in (typed_value typed.now)) r base × IsReplica (means format.now) (map (λ b. meaning b) texts.now) (typed_value typed.now) r }
+    requires replica { (r : ReplicaValue) × IsBase r base × IsReplica (means format.now) (map (λ b. meaning b) texts.now) (typed_value typed.now) r }
     requires member { Trees typed.now.view view }
-    ensures { (r : ReplicaValue) → IsBase (main_in (typed_value typed.now)) r base → IsReplica (means format.now) (map (λ b. meaning b) texts.now) (typed_value typed.now) r → Computes (ClosesReplica (means format.now) (map (λ b. meaning b) texts.now) (typed_value typed.now) r view slot) (seen bytes_of result) }
+    ensures { (r : ReplicaValue) → IsBase r base → IsReplica (means format.now) (map (λ b. meaning b) texts.now) (typed_value typed.now) r → Computes (ClosesReplica (means format.now) (map (λ b. meaning b) texts.now) (typed_value typed.now) r view slot) (seen bytes_of result) }
 {
     match base.close(alloc, format, typed, texts, view) {
         Ok(bytes) => Ok(bytes),

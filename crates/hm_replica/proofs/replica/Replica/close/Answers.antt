@@ -4,10 +4,10 @@ use Rattle.hm_replica.proofs.Closing.{stays}
 use Rattle.hm_replica.proofs.replica.Replica.close.Goals as goal
 
 pub close-requires-clause-replica : goal.close-requires-clause-replica
-close-requires-clause-replica g c = (replica_value c.args.self, c.in_ok-into_base.ensures, c.requires.replica)
+close-requires-clause-replica g c = (replica_value c.args.self, c.into_base.ensures, c.requires.replica)
 
 pub returns : goal.returns
-returns g c = c.close.ensures (replica_value c.args.self) c.in_ok-into_base.ensures c.requires.replica
+returns g c = c.close.ensures (replica_value c.args.self) c.into_base.ensures c.requires.replica
 
 pub returns-then-same : goal.returns-then-same
 returns-then-same g c =
