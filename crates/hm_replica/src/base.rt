@@ -7,6 +7,7 @@ ghost use Rattle.hm_types.specs.Checks.{Trees};
 ghost use Rattle.hm_replica.specs.Replicas.{ReplicaValue, main_in, setting_in, typed_value, IsTyped, IsReplica, Closes};
 
 use crate::boxed::{laws, write};
+use crate::leaving::leave;
 use hm_eval::{put_changes, put_owned};
 use hm_format::{Format, FormatFault};
 use hm_text_lens::TextLens;
@@ -26,7 +27,8 @@ impl Base {
     ghost use Rattle.hm_replica.specs.Bases.{IsBase};
 
     /// The bytes of a view, behind those of the base, which are handed on where they are kept with the same view.
-    /// `TooDeep` where the tree that the program puts is over the limit of the format.
+    /// `TooDeep` where the tree that the program puts is over the limit of the format. That tree is left where it is
+    /// (`leave`).
     pub fn close(
         self,
         alloc: Global,
@@ -46,7 +48,9 @@ impl Base {
             return Ok(bytes);
         }
         let tree = put_back(typed, texts, shown, kept)?;
-        write(format, alloc, &typed.program.options, &tree, &bytes)
+        let made = write(format, alloc, &typed.program.options, &tree, &bytes);
+        leave(tree.into_edges());
+        made
     }
 }
 

@@ -9,7 +9,9 @@
 
 mod base;
 mod boxed;
+mod leaving;
 mod replica;
 
 pub use base::Base;
+pub use leaving::leave;
 pub use replica::Replica;

@@ -17,7 +17,7 @@ use crate::read::{BasePair, ReplicaPair, SidePair};
 use hm_command::Output;
 use hm_files::{FileFault, Refusal, Slot, Stop};
 use hm_format::Format;
-use hm_replica::Replica;
+use hm_replica::{Replica, leave};
 use hm_report::{Conflict, Outcome, write_report};
 use hm_sides::{close_base, close_replica};
 use hm_text_lens::TextLens;
@@ -79,11 +79,13 @@ fn check_depth(archive: &Archive, bound: usize) -> Result<(), Stop>
     Ok(())
 }
 
-// The text of an archive, which isn't needed behind it.
+// The text of an archive, which isn't needed behind it, and is left where it is.
 fn text_of(alloc: Global, archive: Archive) -> Result<Vec<u8>, Memory>
     ensures { IfOk result (λ text. text.items ≡ archive_text archive) }
 {
-    write_archive(alloc, &archive)
+    let text = write_archive(alloc, &archive);
+    leave(archive.into_edges());
+    text
 }
 
 /// The texts of an outcome, of the depth of whose archive a bound is known, over what is left of the replicas without their views.

@@ -19,8 +19,8 @@ put_back-requires-clause-back g c =
     c.requires.typed
     one.0 one.2 c.args.shown c.requires.member c.args.self.kept one.1.kept
 
-pub write-requires : goal.write-requires
-write-requires g c =
+pub write-made-requires : goal.write-made-requires
+write-made-requires g c =
     let one = c.requires.replica in
     may_write ((goal.Format-dyn g (c.args.format.now.vtable, c.args.format.now.value)).means c.args.format.now.value)
     (map (λ b. (goal.TextLens-dyn g (b.vtable, b.value)).meaning b.value) c.args.texts.now) (typed_value c.args.typed.now) c.laws.ensures
@@ -36,11 +36,11 @@ returns g c = λ r base replica.
     closes ((goal.Format-dyn g (c.args.format.now.vtable, c.args.format.now.value)).means c.args.format.now.value)
     (map (λ b. (goal.TextLens-dyn g (b.vtable, b.value)).meaning b.value) c.args.texts.now) (typed_value c.args.typed.now) c.laws.ensures
     c.requires.typed
-    r replica c.args.shown c.requires.member c.in_ok-tree.tree c.deref.result.now c.write.result (c.deref.ensures.value ∙ base.bytes)
+    r replica c.args.shown c.requires.member c.in_ok-tree.tree c.deref.result.now c.write-made.result (c.deref.ensures.value ∙ base.bytes)
     (put_over ((goal.Format-dyn g (c.args.format.now.vtable, c.args.format.now.value)).means c.args.format.now.value)
     (map (λ b. (goal.TextLens-dyn g (b.vtable, b.value)).meaning b.value) c.args.texts.now) (typed_value c.args.typed.now) c.laws.ensures
     c.requires.typed
-    r replica c.args.shown c.requires.member c.args.self.kept c.in_ok-tree.tree base.kept c.in_ok-tree.ensures) c.write.ensures
+    r replica c.args.shown c.requires.member c.args.self.kept c.in_ok-tree.tree base.kept c.in_ok-tree.ensures) c.write-made.ensures
 
 pub returns-then-is_kept : goal.returns-then-is_kept
 returns-then-is_kept g c = λ r base replica.
