@@ -15,7 +15,7 @@ use Rattle.hm_ical.specs.Scanning.{property, event, next, with_line, Step}
 use Rattle.hm_ical.specs.Lent.{names_of, place_of}
 use Rattle.hm_ical.specs.Scanning as plain
 use Rattle.hm_ical.specs.declared.place.Place.{Place}
-use Rattle.hm_ical.specs.declared.place.Place.TheVariants.{Before, Behind, Calendar, Event, Component}
+use Rattle.hm_ical.specs.declared.place.Place.TheVariants.{Before, Behind, Calendar, Event, Other}
 
 -- the lines of an event have the parts that they say
 pub are_lines : (ls : List LentLine) → All IsLine (lent ls) → AreLines ls
@@ -43,4 +43,4 @@ at_end Before e = let bad : ⊥ = cc in absurd bad
 at_end Behind e = refl
 at_end (Calendar told) e = let bad : ⊥ = cc in absurd bad
 at_end (Event inside) e = let bad : ⊥ = cc in absurd bad
-at_end (Component name around) e = let bad : ⊥ = cc in absurd bad
+at_end (Other nested) e = let bad : ⊥ = cc in absurd bad

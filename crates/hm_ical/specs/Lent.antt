@@ -1,9 +1,9 @@
 -- What contracts see of lines, of places between them and of steps, whose texts are lent.
-use Rattle.std.specs.Prelude.{List, reverse, Option, None}
+use Rattle.std.specs.Prelude.{List, reverse, Option, None, true}
 use Rattle.std.specs.Borrow.{Bor}
 use Rattle.hm_properties.specs.Lines.{Line}
 use Rattle.hm_properties.specs.Lent.{lent}
-use Rattle.hm_components.specs.Components.{Bytes}
+use Rattle.hm_components.specs.Components.{Bytes, other}
 use Rattle.hm_components.specs.Lent.{texts, piece_of}
 use Rattle.hm_ical.specs.Scanning as plain
 use Rattle.hm_ical.specs.declared.line.LineKind.{LineKind}
@@ -11,6 +11,7 @@ use Rattle.hm_ical.specs.declared.line.LineKind.TheVariants.{Begin, End, Propert
 use Rattle.hm_ical.specs.declared.place.Place.{Place}
 use Rattle.hm_ical.specs.declared.place.Place.TheVariants as place
 use Rattle.hm_ical.specs.declared.place.Event.{Event}
+use Rattle.hm_ical.specs.declared.place.Nested.{Nested}
 use Rattle.hm_ical.specs.declared.place.Step.{Step}
 use Rattle.hm_ical.specs.declared.place.Step.TheVariants as does
 use Rattle.hm_ical.specs.declared.place.Move.{Move}
@@ -33,7 +34,7 @@ place_of place.Before = plain.before
 place_of place.Behind = plain.behind
 place_of (place.Calendar told) = plain.calendar told
 place_of (place.Event e) = event_of e
-place_of (place.Component name around) = plain.component name.now (names_of around.items)
+place_of (place.Other nested) = plain.component nested.name.now (names_of nested.around.items)
 
 -- what a line does at a place, and where it leads
 abbrev pub step_of : Step → plain.Place → Option plain.Step
@@ -49,3 +50,9 @@ moved move.Out line lines names = plain.out_of_event lines line
 
 abbrev pub move_of : Move → Bytes → Event → Option plain.Step
 move_of made line e = moved made line (lent e.lines.items) (names_of e.names.items)
+
+-- what a line does in another component, and where it leads
+abbrev pub nested_of : Move → Bytes → Nested → Option plain.Step
+nested_of move.Stuck line n = None
+nested_of move.On line n = plain.step_with (other line) (place_of (place.Other n))
+nested_of move.Out line n = plain.step_with (other line) (plain.calendar true)

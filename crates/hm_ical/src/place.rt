@@ -13,8 +13,8 @@ pub(crate) enum Place<'a> {
     Calendar { told: bool },
     /// In an event, or in components of it.
     Event(Event<'a>),
-    /// In another component of this name, and in those around it, the innermost last.
-    Component { name: &'a str, around: Vec<&'a str> },
+    /// In another component.
+    Other(Nested<'a>),
 }
 
 /// An event with these lines so far, and the names of the components of it, the innermost last.
@@ -22,6 +22,13 @@ pub(crate) enum Place<'a> {
 pub(crate) struct Event<'a> {
     pub(crate) lines: Vec<Line<'a>>,
     pub(crate) names: Vec<&'a str>,
+}
+
+/// A component of this name, and the names of those around it, the innermost last.
+#[derive(Drop)]
+pub(crate) struct Nested<'a> {
+    pub(crate) name: &'a str,
+    pub(crate) around: Vec<&'a str>,
 }
 
 /// What a line does at a place.
@@ -35,13 +42,13 @@ pub(crate) enum Step<'a> {
     Ends(Piece<'a>),
 }
 
-/// What a line does in an event.
+/// What a line does in a component.
 #[derive(Clone, Copy)]
 pub(crate) enum Move {
     /// It doesn't fit.
     Stuck,
-    /// It is one more line of it.
+    /// It is of it.
     On,
-    /// It ends the event.
+    /// It ends the component.
     Out,
 }

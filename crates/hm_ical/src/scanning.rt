@@ -2,22 +2,22 @@
 ghost use Rattle.std.specs.Prelude.{◌≡◌, ◌++◌, ◌∷◌, [], IfOk, List, None, Some, cond};
 ghost use Rattle.std.specs.List.{list_any};
 ghost use Rattle.hm_cards.specs.Cards.{Shown};
-ghost use Rattle.hm_properties.specs.Lines.{Line as LineText, IsLine, is_second};
+ghost use Rattle.hm_properties.specs.Lines.{IsLine, is_second};
 ghost use Rattle.hm_properties.specs.Lent.{AreLines, lent, line_of};
-ghost use Rattle.hm_components.specs.Components.{Bytes};
+ghost use Rattle.hm_components.specs.Components.{Bytes, other};
 ghost use Rattle.hm_ical.specs.Scanning as spec;
-ghost use Rattle.hm_ical.specs.Lent.{kind_of, names_of, event_of, place_of, step_of, moved, move_of};
+ghost use Rattle.hm_ical.specs.Lent.{kind_of, names_of, event_of, place_of, step_of, moved, move_of, nested_of};
 
 use crate::line::{LineKind, is_same};
-use crate::place::{Event, Move, Place, Step};
+use crate::place::{Event, Move, Nested, Place, Step};
 use hm_components::{Component, Piece, room_for};
 use hm_properties::{Line, is_second};
 use hm_tree::{Memory, Name};
 use std::alloc::Global;
 use std::mem;
 
-/// Goes on from a place by a line of a kind, if it fits there; some properties may have one text alone. Of the lines that are
-/// left, this one first, it's told how much room an event takes.
+/// Goes on from a place by a line of a kind, if it fits there, and else leaves it of no use; some properties may have one text
+/// alone. Of the lines that are left, this one first, it's told how much room an event takes.
 pub(crate) fn next<'a>(
     alloc: Global,
     singles: &[(Name, bool)],
@@ -40,9 +40,20 @@ pub(crate) fn next<'a>(
         Place::Event(event) => match in_event(alloc, singles, event, line, kind)? {
             Move::Stuck => Ok(Step::Stuck),
             Move::On => Ok(Step::On),
-            Move::Out => Ok(out_of_event(at, line)),
+            Move::Out => {
+                let lines = mem::replace(&mut event.lines, Vec::new(alloc));
+                *at = Place::Calendar { told: true };
+                Ok(Step::Ends(Piece::Item(Component { lines, end: line })))
+            }
         },
-        Place::Component { .. } => in_component(at, line, kind),
+        Place::Other(nested) => match in_nested(nested, kind)? {
+            Move::Stuck => Ok(Step::Stuck),
+            Move::On => Ok(Step::Ends(Piece::Other(line))),
+            Move::Out => {
+                *at = Place::Calendar { told: true };
+                Ok(Step::Ends(Piece::Other(line)))
+            }
+        },
     }
 }
 
@@ -104,46 +115,39 @@ fn into_component<'a>(
         });
         return Ok(Step::On);
     }
-    *at = Place::Component {
+    *at = Place::Other(Nested {
         name,
         around: Vec::new(alloc),
-    };
+    });
     Ok(Step::Ends(Piece::Other(line)))
 }
 
 // In a component that is no event, and in those around it.
-fn in_component<'a>(
-    at: &mut Place<'a>,
-    line: &'a str,
-    kind: LineKind<'a>,
-) -> Result<Step<'a>, Memory>
-    ensures { (name : Bytes) (names : List Bytes) → place_of at.old ≡ spec.component name names → IfOk result (λ step. step_of step (place_of at.new) ≡ spec.in_component name names line.now (kind_of kind.entry)) }
+fn in_nested<'a>(nested: &mut Nested<'a>, kind: LineKind<'a>) -> Result<Move, Memory>
+    ensures { IfOk result (λ made. (line : Bytes) → nested_of made line nested.new ≡ spec.in_component nested.old.name.now (names_of nested.old.around.items) line (kind_of kind.entry)) }
 {
-    let Place::Component { name, mut around } = mem::replace(at, Place::Behind) else {
-        return Ok(Step::Stuck);
-    };
-    *at = match kind {
-        LineKind::Property(_) => Place::Component { name, around },
+    match kind {
+        LineKind::Property(_) => Ok(Move::On),
         LineKind::Begin(inner) => {
-            around.push(name)?;
-            Place::Component {
-                name: inner,
-                around,
-            }
+            nested.around.push(nested.name)?;
+            nested.name = inner;
+            Ok(Move::On)
         }
-        LineKind::End(ended) if is_same(ended, name) => out_of(around),
-        LineKind::End(_) => return Ok(Step::Stuck),
-    };
-    Ok(Step::Ends(Piece::Other(line)))
+        LineKind::End(ended) if is_same(ended, nested.name) => Ok(out_of(nested)),
+        LineKind::End(_) => Ok(Move::Stuck),
+    }
 }
 
 // Out of a component, into the innermost of those around it.
-fn out_of<'a>(mut around: Vec<&'a str>) -> Place<'a>
-    ensures { place_of result ≡ spec.around (names_of around.entry.items) }
+fn out_of(nested: &mut Nested<'_>) -> Move
+    ensures { (line : Bytes) → nested_of result line nested.new ≡ spec.step_with (other line) (spec.around (names_of nested.old.around.items)) }
 {
-    match around.pop() {
-        Some(name) => Place::Component { name, around },
-        None => Place::Calendar { told: true },
+    match nested.around.pop() {
+        Some(name) => {
+            nested.name = name;
+            Move::On
+        }
+        None => Move::Out,
     }
 }
 
@@ -218,15 +222,5 @@ fn out_of_inner<'a>(event: &mut Event<'a>, line: &'a str, name: &'a str) -> Resu
         Some(inner) if is_same(name, inner) => with_line(&mut event.lines, other_line(line)),
         None if is_same(name, "VEVENT") => Ok(Move::Out),
         _ => Ok(Move::Stuck),
-    }
-}
-
-// Out of an event, which a line ends.
-fn out_of_event<'a>(at: &mut Place<'a>, end: &'a str) -> Step<'a>
-    ensures { (lines : List LineText) (names : List Bytes) → place_of at.old ≡ spec.event lines names → step_of result (place_of at.new) ≡ spec.out_of_event lines end.now }
-{
-    match mem::replace(at, Place::Calendar { told: true }) {
-        Place::Event(Event { lines, .. }) => Step::Ends(Piece::Item(Component { lines, end })),
-        _ => Step::Stuck,
     }
 }
