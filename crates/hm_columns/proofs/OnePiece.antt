@@ -1,22 +1,13 @@
 -- A field that is one piece shows the same texts in a column of many texts and in another one.
 use Rattle.std.proofs.Common.{◌≡◌, ℕ, Bool, true, false, not, cond, ◌||◌, List, [], ◌∷◌, map, refl, sym, ap}
-use Rattle.std.specs.Bool.{◌==◌}
 use Rattle.std.specs.List.{list_any}
 use Rattle.std.specs.FinSet.{from_list}
-use Rattle.std.proofs.lemmas.Bool.{or_parts}
 use Rattle.hm_tree.specs.Names.{name_cmp}
 use Rattle.hm_tree.specs.Cleaned.{cleaned}
-use Rattle.hm_pieces.specs.Pieces.{stroke, backslash, is_special, led, pieces_behind, pieces}
+use Rattle.hm_pieces.specs.Pieces.{is_special, pieces}
 use Rattle.hm_pieces.specs.Texts.{is_shown, shown}
+use Rattle.hm_pieces.proofs.Laws.{one_piece}
 use Rattle.hm_columns.specs.Fields.{texts_shown}
-
--- bytes of which none has a meaning of its own
-one_piece : (bytes : List ℕ) → list_any is_special bytes ≡ false → pieces_behind false bytes ≡ bytes ∷ []
-one_piece [] e = refl
-one_piece (b ∷ rest) e =
-    let plain = or_parts (is_special b) (list_any is_special rest) e in
-    let apart = or_parts (b == stroke) (b == backslash) plain.0 in
-    rw (apart.0, apart.1) (ap (led (b ∷ [])) (one_piece rest plain.1))
 
 -- a piece that is empty shows nothing
 nothing_shown : is_shown [] ≡ false

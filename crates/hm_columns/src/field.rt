@@ -5,7 +5,7 @@ ghost use Rattle.hm_tree.specs.Sets.{ascending};
 ghost use Rattle.hm_pieces.specs.Pieces.{is_special};
 ghost use Rattle.hm_columns.specs.Fields as spec;
 
-use hm_pieces::{is_text, text_of, texts};
+use hm_pieces::{has_special, is_text, text_of, texts};
 use hm_tree::{Memory, Name, NameSet};
 use std::alloc::Global;
 
@@ -26,13 +26,6 @@ pub(crate) fn is_one_piece(many: bool, field: &[u8]) -> bool
     ensures { result ≡ (not many || not (list_any is_special field.now)) }
 {
     !many || !has_special(field)
-}
-
-// Whether there is a `|` or a `\` in some bytes.
-fn has_special(bytes: &[u8]) -> bool
-    ensures { result ≡ list_any is_special bytes.now }
-{
-    bytes.iter().any(|byte| *byte == b'|' || *byte == b'\\')
 }
 
 // The texts of the pieces of a field.

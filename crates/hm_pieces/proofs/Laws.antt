@@ -1,5 +1,6 @@
 -- What is written is read back: the pieces, and the texts of a field that is made anew.
 pub use Rattle.hm_pieces.proofs.Utf8Pieces.{pieces_utf8, written_utf8}
+pub use Rattle.hm_pieces.proofs.Led.{one_piece}
 use Rattle.std.proofs.Common.{◌≡◌, ℕ, suc, Bool, true, false, not, cond, ◌&&◌, ◌||◌, IsTrue, List, [], ◌∷◌, ◌++◌, get_or, map, filter, All, refl, sym, ap, ◌∙◌, arith}
 use Rattle.std.specs.Bool.{◌==◌}
 use Rattle.std.specs.List.{list_any}

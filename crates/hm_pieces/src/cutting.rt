@@ -37,8 +37,8 @@ fn cut_bytes(alloc: Global, field: &[u8]) -> Result<Vec<Vec<u8>>, Memory>
     }
 }
 
-// Whether there is a `|` or a `\` in some bytes.
-fn has_special(bytes: &[u8]) -> bool
+/// Whether there is a `|` or a `\` in some bytes. A field without them is one piece, as it stands.
+pub fn has_special(bytes: &[u8]) -> bool
     ensures { result ≡ list_any is_special bytes.now }
 {
     bytes.iter().any(|byte| is_special(*byte))

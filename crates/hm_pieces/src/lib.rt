@@ -15,6 +15,6 @@ mod cutting;
 mod showing;
 mod writing;
 
-pub use cutting::pieces;
+pub use cutting::{has_special, pieces};
 pub use showing::{is_text, rewrite, text_of, texts};
 pub use writing::write_pieces;
