@@ -11,7 +11,7 @@ use Rattle.hm_terms.specs.Programs.{lens_of, lenses_of}
 use Rattle.hm_terms.specs.Put.{none_before, Puts, put_identity, put_sequence, put_constant, put_hoist, put_plunge, put_fork, put_each, put_among, put_call, put_copy, put_merge, put_text, put_items_none, put_items_more, put_concrete_has, put_concrete_none, put_view_has, put_view_none}
 use Rattle.hm_terms.proofs.OnePut.{one_put}
 use Rattle.hm_eval.specs.Conditions.{IsPut}
-use Rattle.hm_eval.specs.Oblivious.{oblivious, oblivious_all}
+use Rattle.hm_eval.specs.Oblivious.{IsOblivious, oblivious, oblivious_all}
 
 -- each of oblivious lenses is oblivious
 named_oblivious : (ls : Lenses) (n : Name) (l : Lens) → oblivious_all ls ≡ true → lens_at n ls ≡ Some l → oblivious l ≡ true
@@ -46,6 +46,9 @@ module _ (S : Setting) where
   put_without o (put_view_none {l = l} {k = k} e p) = put_view_none e (put_without (and_parts (oblivious l) (oblivious k) o).1 p)
   put_without o (put_text is h e p f) = absurd (false≢true o)
   put_without o (put_call e p) = absurd (false≢true o)
+
+  pub is_oblivious : (l : Lens) → oblivious l ≡ true → IsOblivious S l
+  is_oblivious l o a c b p = put_without o p
 
   -- a lens that may put a view over a tree may put it over none, and puts the same
   pub may_put_without : {l : Lens} {a : Tree} {b : Option Tree} → oblivious l ≡ true → IsPut S l a b → IsPut S l a None

@@ -21,7 +21,7 @@ returns-then-is_oblivious g c =
     (map (λ b. (goal.TextLens-dyn g (b.vtable, b.value)).meaning b.value) c.args.texts.now) (typed_value c.args.typed.now) c.laws.ensures c.requires
     c.args.bytes.items c.deref.result.now c.in_ok-concrete.concrete c.in_ok-view.view None c.deref.ensures.value c.in_ok-concrete.ensures
     c.in_ok-view.ensures
-    (without_tree (main_in (typed_value c.args.typed.now)) c.in_ok-concrete.concrete (sym c.is_oblivious.ensures ∙ c.if-is_oblivious.true))
+    (without_tree (main_in (typed_value c.args.typed.now)) c.in_ok-concrete.concrete (sym c.is_oblivious.ensures.form ∙ c.if-is_oblivious.true))
 
 pub returns : goal.returns
 returns g c =
@@ -29,4 +29,4 @@ returns g c =
     (map (λ b. (goal.TextLens-dyn g (b.vtable, b.value)).meaning b.value) c.args.texts.now) (typed_value c.args.typed.now) c.laws.ensures c.requires
     c.args.bytes.items c.deref.result.now c.in_ok-concrete.concrete c.in_ok-view-2.view (Some c.in_ok-concrete.concrete) c.deref.ensures.value
     c.in_ok-concrete.ensures c.in_ok-view-2.ensures
-    (with_tree (main_in (typed_value c.args.typed.now)) c.in_ok-concrete.concrete (sym c.is_oblivious.ensures ∙ c.if-is_oblivious.false))
+    (with_tree (main_in (typed_value c.args.typed.now)) c.in_ok-concrete.concrete (sym c.is_oblivious.ensures.form ∙ c.if-is_oblivious.false))

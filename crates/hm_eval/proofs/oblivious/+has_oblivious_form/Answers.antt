@@ -7,10 +7,10 @@ use Rattle.hm_terms.specs.Programs.{lens_of, lenses_of}
 use Rattle.hm_terms.proofs.Rows.{each_items}
 use Rattle.hm_eval.specs.Oblivious.{oblivious, oblivious_all}
 use Rattle.hm_eval.proofs.WithoutBefore.{row_next, none_left}
-use Rattle.hm_eval.proofs.oblivious.+is_oblivious.Goals as goal
+use Rattle.hm_eval.proofs.oblivious.+has_oblivious_form.Goals as goal
 
-pub returns-then-not-is_oblivious : goal.returns-then-not-is_oblivious
-returns-then-not-is_oblivious t c =
+pub returns-then-not-has_oblivious_form : goal.returns-then-not-has_oblivious_form
+returns-then-not-has_oblivious_form t c =
     let at : slice_get c.deref-term-items.result.now c.loop-term.term-index ≡ Some c.term-item.result =
     slice_get_read c.deref-term-items.result.now (length c.deref-term-items.result.now) c.loop-term.term-index c.term-item.result refl
     c.loop-term-test.true c.term-item.is in
