@@ -1,34 +1,43 @@
 -- Lines that aren't empty, one by one, as the code goes over them.
-use Rattle.std.proofs.Common.{◌≡◌, ℕ, ◌+◌, Bool, true, false, not, cond, nat_eq, List, [], ◌∷◌, ◌++◌, length, take, slice_get, Some, refl, sym, ap, ◌∙◌, arith}
+use Rattle.std.proofs.Common.{◌≡◌, ℕ, zero, suc, ◌<◌, ◌≤◌, true, false, cond, List, [], ◌∷◌, ◌++◌, length, take, drop, refl, sym, ap, ◌∙◌, arith}
 use Rattle.std.specs.Prelude.{All}
 use Rattle.std.specs.Borrow.{Bor}
-use Rattle.std.proofs.lemmas.Bool.{ne_eqb}
-use Rattle.std.proofs.lemmas.List.{map-append, append-nil}
-use Rattle.std.proofs.lemmas.List.Elements.{All-head, All-tail, filter_more}
-use Rattle.std.proofs.lemmas.Option.{slice_get_within, get_or_from_slice_get}
+use Rattle.std.proofs.lemmas.List.{map-append, append_assoc}
+use Rattle.std.proofs.lemmas.List.Elements.{All-head, All-tail}
+use Rattle.hm_lines.specs.declared.unfolding.FirstLine.{FirstLine}
+use Rattle.hm_lines.specs.Unfolding.{lines, IsFirstLine}
 use Rattle.hm_components.specs.Components.{Bytes}
 use Rattle.hm_components.specs.Forms.{is_full}
 use Rattle.hm_components.specs.Files.{full}
 use Rattle.hm_components.specs.Lent.{texts}
 
-pub full_by : (line : Bytes) (b : Bool) → b ≡ nat_eq (length line) 0 → is_full line ≡ not b
-full_by [] b e = sym (ap not e)
-full_by (x ∷ line) b e = sym (ap not (e ∙ ne_eqb (length (x ∷ line)) 0 (λ same. omega (arith, same))))
+some_full : (n : ℕ) (bytes : Bytes) → 0 < n → n ≤ length bytes → is_full (take n bytes) ≡ true
+some_full zero bytes some within = absurd (omega (arith, some))
+some_full (suc n) [] some within = absurd (omega (arith, within))
+some_full (suc n) (b ∷ bytes) some within = refl
 
-pub full_more : (lines : List Bytes) (place : ℕ) (line : Bytes) → slice_get lines place ≡ Some line
-    → full (take (place + 1) lines) ≡ full (take place lines) ++ cond (is_full line) (line ∷ []) []
-full_more lines place line at =
-    filter_more is_full lines place line (slice_get_within lines place line at)
-    ∙ ap (λ (l : Bytes). full (take place lines) ++ cond (is_full l) (l ∷ []) []) (get_or_from_slice_get lines place line line at)
+module _ (bytes : Bytes) (line : FirstLine) (is : IsFirstLine bytes line) where
+  pub first_full : 0 < line.to → is_full (take line.to bytes) ≡ true
+  first_full some = let ends = is.ends in let within = is.within in some_full line.to bytes some (omega (arith, ends, within))
 
-pub full_one : (lines : List Bytes) (place : ℕ) (line : Bytes) → slice_get lines place ≡ Some line → is_full line ≡ true
-    → full (take (place + 1) lines) ≡ full (take place lines) ++ line ∷ []
-full_one lines place line at e = full_more lines place line at ∙ ap (λ b. full (take place lines) ++ cond b (line ∷ []) []) e
+  pub first_empty : line.to ≡ 0 → is_full (take line.to bytes) ≡ false
+  first_empty none = ap (λ n. is_full (take n bytes)) none
 
-pub full_none : (lines : List Bytes) (place : ℕ) (line : Bytes) → slice_get lines place ≡ Some line → is_full line ≡ false
-    → full (take (place + 1) lines) ≡ full (take place lines)
-full_none lines place line at e =
-    full_more lines place line at ∙ ap (λ b. full (take place lines) ++ cond b (line ∷ []) []) e ∙ append-nil (full (take place lines))
+  full_as : full (lines bytes) ≡ cond (is_full (take line.to bytes)) (take line.to bytes ∷ full (lines (drop line.next bytes))) (full (lines (drop line.next bytes)))
+  full_as = ap full is.lines
+
+  -- one more is found, or none
+  module _ (found : List Bytes) where
+    pub one_found : 0 < line.to → (found ++ take line.to bytes ∷ []) ++ full (lines (drop line.next bytes)) ≡ found ++ full (lines bytes)
+    one_found some =
+        append_assoc found (take line.to bytes ∷ []) (full (lines (drop line.next bytes)))
+        ∙ ap (λ ls. found ++ ls)
+        (sym (full_as ∙ ap (λ b. cond b (take line.to bytes ∷ full (lines (drop line.next bytes))) (full (lines (drop line.next bytes)))) (first_full some)))
+
+    pub none_found : line.to ≡ 0 → found ++ full (lines (drop line.next bytes)) ≡ found ++ full (lines bytes)
+    none_found none =
+        ap (λ ls. found ++ ls)
+        (sym (full_as ∙ ap (λ b. cond b (take line.to bytes ∷ full (lines (drop line.next bytes))) (full (lines (drop line.next bytes)))) (first_empty none)))
 
 pub text_pushed : (found new : List (Bor Bytes)) (line : Bor Bytes) → new ≡ found ++ line ∷ [] → texts new ≡ texts found ++ line.now ∷ []
 text_pushed found new line e = ap texts e ∙ map-append (λ (l : Bor Bytes). l.now) found (line ∷ [])

@@ -1,62 +1,82 @@
 -- Numbers of lines.
-use Rattle.std.proofs.Common.{◌≡◌, ℕ, zero, suc, ◌+◌, ◌≤◌, inl, inr, Bool, true, false, cond, List, [], ◌∷◌, ◌++◌, length, take, drop, slice_get, Some, refl, sym, ap, ◌∙◌, arith}
-use Rattle.std.specs.Bool.{◌==◌}
-use Rattle.std.specs.List.{onto_first}
-use Rattle.std.proofs.lemmas.List.{length-append, length-map, length-take-le, take_all}
-use Rattle.std.proofs.lemmas.Option.{slice_get_within, same_Some, none-some}
-use Rattle.hm_lines.specs.Unfolding.{feed, cut, lines, without_return}
+use Rattle.std.proofs.Common.{◌≡◌, ℕ, ◌+◌, ◌<◌, ◌≤◌, inl, inr, cond, List, [], ◌∷◌, ◌++◌, length, take, drop, refl, sym, ap, ◌∙◌, arith}
+use Rattle.std.proofs.lemmas.List.{append_assoc, append-nil, length-append, length-drop}
+use Rattle.std.proofs.lemmas.List.Elements.{filter-append}
+use Rattle.hm_lines.specs.declared.unfolding.FirstLine.{FirstLine}
+use Rattle.hm_lines.specs.Unfolding.{lines, IsFirstLine}
 use Rattle.hm_components.specs.Components.{Bytes}
 use Rattle.hm_components.specs.Forms.{is_full}
 use Rattle.hm_components.specs.Files.{full}
 use Rattle.hm_components.specs.Stops.{IsNumberOf}
-use Rattle.hm_component_files.proofs.FullLines.{full_one, full_none}
+use Rattle.hm_component_files.proofs.FullLines.{first_full, first_empty}
 
-pub split_at : {X : Type 0} (n : ℕ) (xs : List X) (x : X) → slice_get xs n ≡ Some x → xs ≡ take n xs ++ x ∷ drop (suc n) xs
-split_at n [] x e = absurd (none-some x e)
-split_at zero (y ∷ xs) x e = ap (λ z. z ∷ xs) (same_Some y x e)
-split_at (suc n) (y ∷ xs) x e = ap (λ l. y ∷ l) (split_at n xs x e)
+-- bytes begin with lines before a rest, whose first line has a number; so many of those behind it that aren't empty are left
+-- before the one at a place
+pub record IsCounted (bytes rest : Bytes) (place number left : ℕ) : Type 0 where
+  pub before : List Bytes
+  pub parts : lines bytes ≡ before ++ lines rest
+  pub numbered : number ≡ length before + 1
+  pub counted : place ≡ length (full before) + left
+  pub room : length before + length rest ≤ length bytes
 
--- there are no more lines than bytes
-few_first : (b : ℕ) (pieces : List Bytes) → length (onto_first b pieces) ≤ length pieces + 1
-few_first b [] = omega arith
-few_first b (piece ∷ pieces) = omega arith
+pub none_counted : (bytes : Bytes) (place : ℕ) → IsCounted bytes bytes place 1 place
+none_counted bytes place = record { before = []; parts = refl; numbered = omega arith; counted = omega arith; room = omega arith }
 
-few_cut : (bytes : Bytes) → length (cut bytes) ≤ length bytes
-few_cut [] = omega arith
-few_cut (b ∷ rest) = go (b == feed) (few_cut rest)
-  where
-    go : (f : Bool) → length (cut rest) ≤ length rest → length (cond f ([] ∷ cut rest) (onto_first b (cut rest))) ≤ suc (length rest)
-    go true le = omega (arith, le)
-    go false le = let first = few_first b (cut rest) in omega (arith, le, first)
+module _ (bytes rest : Bytes) (place number left : ℕ) (so_far : IsCounted bytes rest place number left) where
+  module _ (line : FirstLine) (is : IsFirstLine rest line) where
+    abbrev first : Bytes
+    first = take line.to rest
 
-pub few_lines : (bytes : Bytes) → length (lines bytes) ≤ length bytes
-few_lines bytes = let few = few_cut bytes in let same = length-map (cut bytes) without_return in omega (arith, few, same)
+    -- one line more, behind which so many are left
+    one_counted : (less : ℕ) → length (full (so_far.before ++ first ∷ [])) + less ≡ length (full so_far.before) + left
+        → IsCounted bytes (drop line.next rest) place (number + 1) less
+    one_counted less same =
+        let numbered = so_far.numbered in
+        let counted = so_far.counted in
+        let room = so_far.room in
+        let more = length-append so_far.before (first ∷ []) in
+        let len = length-drop line.next rest in
+        let some = is.some in
+        let within = is.within in
+        record {
+          before = so_far.before ++ first ∷ [];
+          parts = so_far.parts ∙ ap (λ (ls : List Bytes). so_far.before ++ ls) (is.lines) ∙ sym (append_assoc so_far.before (first ∷ []) (lines (drop line.next rest)));
+          numbered = omega (arith, numbered, more);
+          counted = omega (arith, counted, same);
+          room = omega (arith, room, more, len, some, within);
+        }
 
-module _ (all : List Bytes) (place left at : ℕ) (so_far : place ≡ length (full (take at all)) + left) where
-  module _ (line : Bytes) (there : slice_get all at ≡ Some line) where
-    pub left_empty : is_full line ≡ false → place ≡ length (full (take (at + 1) all)) + left
-    left_empty e = so_far ∙ ap (λ (l : List Bytes). length l + left) (sym (full_none all at line there e))
+    all_full : full (so_far.before ++ first ∷ []) ≡ full so_far.before ++ cond (is_full first) (first ∷ []) []
+    all_full = filter-append is_full so_far.before (first ∷ [])
 
-    pub left_full : is_full line ≡ true → (less : ℕ) → less + 1 ≡ left → place ≡ length (full (take (at + 1) all)) + less
-    left_full e less one =
-        let more = ap length (full_one all at line there e) ∙ length-append (full (take at all)) (line ∷ []) in
-        omega (arith, so_far, more, one)
+    pub left_empty : line.to ≡ 0 → IsCounted bytes (drop line.next rest) place (number + 1) left
+    left_empty none =
+        let plain : full (so_far.before ++ first ∷ []) ≡ full so_far.before =
+        all_full ∙ ap (λ b. full so_far.before ++ cond b (first ∷ []) []) (first_empty rest line is none) ∙ append-nil (full so_far.before) in
+        one_counted left (ap (λ (ls : List Bytes). length ls + left) plain)
 
-    pub numbered : is_full line ≡ true → left ≡ 0 → IsNumberOf all place (at + 1)
-    numbered e none =
-        let lt = slice_get_within all at line there in
-        let long = length-take-le at all (omega (arith, lt)) in
+    pub left_full : 0 < line.to → (less : ℕ) → less + 1 ≡ left → IsCounted bytes (drop line.next rest) place (number + 1) less
+    left_full some less one =
+        let filled = all_full ∙ ap (λ b. full so_far.before ++ cond b (first ∷ []) []) (first_full rest line is some) in
+        let len = ap length filled ∙ length-append (full so_far.before) (first ∷ []) in
+        one_counted less (omega (arith, len, one))
+
+    pub found_here : 0 < line.to → left ≡ 0 → IsNumberOf (lines bytes) place number
+    found_here some none =
+        let counted = so_far.counted in
         inl (record {
-          before = take at all;
-          line = line;
-          after = drop (suc at) all;
-          stand = split_at at all line there;
-          filled = e;
-          counted = omega (arith, so_far, none);
-          number_is = omega (arith, long);
+          before = so_far.before;
+          line = first;
+          after = lines (drop line.next rest);
+          stand = so_far.parts ∙ ap (λ (ls : List Bytes). so_far.before ++ ls) (is.lines);
+          filled = first_full rest line is some;
+          counted = omega (arith, counted, none);
+          number_is = so_far.numbered;
         })
 
-  pub past : length all ≤ at → IsNumberOf all place (length all + 1)
+  pub past : rest ≡ [] → IsNumberOf (lines bytes) place number
   past end =
-      let whole = ap (λ (l : List Bytes). length (full l)) (take_all at all end) in
-      inr (record { few = omega (arith, so_far, whole); number_is = refl })
+      let whole = so_far.parts ∙ ap (λ (b : Bytes). so_far.before ++ lines b) end ∙ append-nil so_far.before in
+      let counted = so_far.counted in
+      let few = ap (λ (ls : List Bytes). length (full ls)) whole in
+      inr (record { few = omega (arith, counted, few); number_is = so_far.numbered ∙ ap (λ (ls : List Bytes). length ls + 1) (sym whole) })

@@ -8,18 +8,18 @@ ghost use Rattle.hm_component_files.specs.Faults.{IsTextFault, IsFaultOf};
 
 use hm_components::Stop;
 use hm_format::FormatFault;
-use hm_lines::Unfolded;
+use hm_lines::first_line;
 use hm_tree::Memory;
 use std::alloc::Global;
 use std::str;
 
 /// The text of a file without its folds, whose bytes have to be UTF-8.
-pub fn text_of(unfolded: &Unfolded) -> Result<&str, FormatFault>
+pub fn text_of(unfolded: &[u8]) -> Result<&str, FormatFault>
     ensures text { IfOk result (λ text. text.now ≡ unfolded.now) }
     ensures utf8 { OnOk result (IsUtf8 unfolded.now) }
     ensures fault { IfErr result (IsTextFault unfolded.now) }
 {
-    match str::from_utf8(unfolded.bytes()) {
+    match str::from_utf8(unfolded) {
         Ok(text) => Ok(text),
         Err(error) => Err(FormatFault::NotUtf8 {
             at: error.valid_up_to(),
@@ -28,51 +28,50 @@ pub fn text_of(unfolded: &Unfolded) -> Result<&str, FormatFault>
 }
 
 /// The lines of a text that aren't empty.
-pub fn full_lines<'a>(
-    alloc: Global,
-    unfolded: &Unfolded,
-    text: &'a str,
-) -> Result<Vec<&'a str>, Memory>
-    requires { text.now ≡ unfolded.now }
-    ensures { IfOk result (λ found. texts found.items ≡ full (lines_of_bytes unfolded.now)) }
+pub fn full_lines(alloc: Global, text: &str) -> Result<Vec<&str>, Memory>
+    ensures { IfOk result (λ found. texts found.items ≡ full (lines_of_bytes text.now)) }
 {
-    let count = unfolded.count();
-    let mut found = Vec::with_capacity(alloc, count)?;
-    for place in 0..count {
-        let line = unfolded.line_in(text, place);
-        if !line.is_empty() {
-            found.push(line)?;
+    let mut found = Vec::new(alloc);
+    let mut rest = text;
+    while !rest.is_empty() {
+        let line = first_line(rest.as_bytes());
+        if line.to > 0 {
+            found.push(&rest[..line.to])?;
         }
+        rest = &rest[line.next..];
     }
     Ok(found)
 }
 
 /// The fault of a file whose lines that aren't empty stop to be those of one: the number of the line.
-pub fn fault_of(unfolded: &Unfolded, stop: Stop) -> FormatFault
-    ensures { IsFaultOf (lines_of_bytes unfolded.now) stop result }
+pub fn fault_of(text: &str, stop: Stop) -> FormatFault
+    ensures { IsFaultOf (lines_of_bytes text.now) stop result }
 {
     match stop {
         Stop::At(place) => FormatFault::BadItem {
-            number: number_of(unfolded, place),
+            number: number_of(text, place),
         },
         Stop::Memory => FormatFault::Memory,
     }
 }
 
 // The number of the line that stands at a place among those that aren't empty; one more than there are where there is none.
-fn number_of(unfolded: &Unfolded, place: usize) -> usize
-    ensures { IsNumberOf (lines_of_bytes unfolded.now) place result }
+fn number_of(text: &str, place: usize) -> usize
+    ensures { IsNumberOf (lines_of_bytes text.now) place result }
 {
-    let _bytes = unfolded.bytes();
+    let mut rest = text.as_bytes();
+    let mut number = 1;
     let mut left = place;
-    for at in 0..unfolded.count() {
-        if unfolded.line(at).is_empty() {
-            continue;
+    while !rest.is_empty() {
+        let line = first_line(rest);
+        if line.to > 0 {
+            if left == 0 {
+                return number;
+            }
+            left -= 1;
         }
-        if left == 0 {
-            return at + 1;
-        }
-        left -= 1;
+        number += 1;
+        rest = &rest[line.next..];
     }
-    unfolded.count() + 1
+    number
 }

@@ -14,7 +14,7 @@ use crate::opening::{fault_of, full_lines, text_of};
 use crate::options::shown_by;
 use hm_components::{Grammar, Layout, Stop};
 use hm_format::FormatFault;
-use hm_lines::Unfolded;
+use hm_lines::without_folds;
 use hm_schema::Options;
 use hm_tree::{Name, Tree};
 use std::alloc::Global;
@@ -32,12 +32,12 @@ pub fn read_book<G: Grammar>(
     let _tag = grammar.tag();
     let kind = grammar.kind(alloc)?;
     let shown = shown_by(alloc, &grammar.properties(alloc)?, options)?;
-    let unfolded = Unfolded::new(alloc, bytes)?;
+    let unfolded = without_folds(alloc, bytes)?;
     let text = text_of(&unfolded)?;
-    let lines = full_lines(alloc, &unfolded, text)?;
+    let lines = full_lines(alloc, text)?;
     match laid_out(alloc, grammar, &shown, lines) {
         Ok(layout) => book_of(alloc, &kind.key, &shown, layout),
-        Err(stop) => Err(fault_of(&unfolded, stop)),
+        Err(stop) => Err(fault_of(text, stop)),
     }
 }
 

@@ -10,7 +10,7 @@ use crate::opening::{fault_of, full_lines, text_of};
 use crate::options::shown_by;
 use hm_components::Grammar;
 use hm_format::FormatFault;
-use hm_lines::Unfolded;
+use hm_lines::without_folds;
 use hm_schema::Options;
 use hm_tree::Tree;
 use std::alloc::Global;
@@ -34,11 +34,11 @@ pub fn write_book<G: Grammar>(
     }
     let kind = grammar.kind(alloc)?;
     let shown = shown_by(alloc, &grammar.properties(alloc)?, options)?;
-    let unfolded = Unfolded::new(alloc, before)?;
+    let unfolded = without_folds(alloc, before)?;
     let text = text_of(&unfolded)?;
-    let lines = full_lines(alloc, &unfolded, text)?;
+    let lines = full_lines(alloc, text)?;
     match grammar.layout(alloc, &shown, &lines) {
         Ok(layout) => Ok(write_layout(alloc, &kind, &shown, &layout, &lines, tree, before)?),
-        Err(stop) => Err(fault_of(&unfolded, stop)),
+        Err(stop) => Err(fault_of(text, stop)),
     }
 }

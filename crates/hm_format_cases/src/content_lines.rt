@@ -1,9 +1,12 @@
 //! Lines as they stand in files of cards and calendars.
 ghost use Rattle.std.specs.Prelude.{All, IsUtf8, IfOk};
 
-use hm_lines::{Unfolded, append_folded, escape, fold, parts, unescape, unfold};
+use hm_lines::{
+    FirstLine, append_folded, escape, first_line, fold, parts, unescape, unfold, without_folds,
+};
 use hm_tree::Name;
 use std::alloc::Global;
+use std::borrow::CowSlice;
 use std::process::Abort;
 use std::test::Fail;
 
@@ -98,14 +101,23 @@ fn folds_are_taken_out(rt: HostRuntime) -> Result<(), Fail> {
 }
 
 #[test]
-fn lines_stand_in_the_bytes(rt: HostRuntime) -> Result<(), Fail> {
+fn bytes_without_folds_are_lent(rt: HostRuntime) -> Result<(), Fail> {
     let alloc = rt.alloc();
-    let unfolded = Unfolded::new(alloc, b"a:1\r\n 2\r\nb:3")?;
-    assert_eq!(&rt; unfolded.bytes(), b"a:12\r\nb:3".as_slice());
-    assert_eq!(&rt; unfolded.count(), 2);
-    assert_eq!(&rt; unfolded.line(0), b"a:12".as_slice());
-    assert_eq!(&rt; unfolded.line(1), b"b:3".as_slice());
-    assert_eq!(&rt; unfolded.line_in("a:12\r\nb:3", 0), "a:12");
+    let made = without_folds(alloc, b"a:1\r\n 2\r\nb:3")?;
+    assert_eq!(&rt; made.as_slice(), b"a:12\r\nb:3".as_slice());
+    assert!(&rt; matches!(made, CowSlice::Owned(_)));
+    let lent = without_folds(alloc, b"a:12\r\nb:3\n")?;
+    assert_eq!(&rt; lent.as_slice(), b"a:12\r\nb:3\n".as_slice());
+    assert!(&rt; matches!(lent, CowSlice::Borrowed(_)));
+    Ok(())
+}
+
+#[test]
+fn lines_stand_in_the_bytes(rt: HostRuntime) -> Result<(), Fail> {
+    assert_eq!(&rt; first_line(b"a:12\r\nb:3"), FirstLine { to: 4, next: 6 });
+    assert_eq!(&rt; first_line(b"b:3\n"), FirstLine { to: 3, next: 4 });
+    assert_eq!(&rt; first_line(b"b:3\r"), FirstLine { to: 3, next: 4 });
+    assert_eq!(&rt; first_line(b"\n"), FirstLine { to: 0, next: 1 });
     Ok(())
 }
 

@@ -1,16 +1,11 @@
 -- Bytes up to the first one of a kind.
-use Rattle.std.proofs.Common.{◌≡◌, ℕ, ◌+◌, ◌-◌, ◌<◌, true, false, List, [], ◌∷◌, ◌++◌, length, get_or, take, drop, Option, Some, None, sym, ap, ◌∙◌, subst, arith}
+use Rattle.std.proofs.Common.{◌≡◌, ℕ, ◌+◌, ◌-◌, ◌<◌, false, List, [], ◌∷◌, ◌++◌, length, get_or, take, drop, Option, Some, None, sym, ap, ◌∙◌, subst, arith}
 use Rattle.std.specs.Option.{is_some}
 use Rattle.std.specs.Bool.{◌==◌}
 use Rattle.std.proofs.lemmas.Bool.{false_from_ne_true, eqb-true}
-use Rattle.std.proofs.lemmas.List.{drop_more, take_more, get_or-take, get_or_default, length-take-le, take-append-drop, take_rest, append_assoc}
+use Rattle.std.proofs.lemmas.List.{drop_more, take_more, get_or-take, get_or_default, length-take-le, take-append-drop, take_rest}
 use Rattle.memchr.specs.Find.{IsFirstByte, is_byte}
-use Rattle.hm_lines.specs.Unfolding.{feed, begins_with_blank, unfolded, without_return}
-use Rattle.hm_lines.specs.Shown.{feeds}
 use Rattle.hm_lines.specs.Folding.{HasNone}
-use Rattle.hm_lines.proofs.Chunks.{fold_dropped, line_end}
-use Rattle.hm_lines.proofs.Places.{feeds_chunk, feeds_line}
-use Rattle.hm_lines.proofs.Returns.{kept_none}
 
 -- what stands before the first byte of a kind, and behind it
 pub record IsFound (x : ℕ) (bytes front tail : List ℕ) : Type 0 where
@@ -57,31 +52,6 @@ module _ (x : ℕ) (bytes : List ℕ) where
 
       pub two_behind : take (length behind - 2) (drop 2 behind) ≡ drop 1 (drop (at + 1) bytes)
       two_behind = take_rest behind 2 ∙ ap (drop 2) (is ∙ found_tail)
-
--- ---- a line feed, and the fold or the line end that it is of
-
-module _ (old front tail rest : List ℕ) (found : IsFound feed rest front tail) where
-  fold_read : (t : List ℕ) → begins_with_blank t ≡ true → without_return front ++ unfolded (drop 1 t) ≡ unfolded (front ++ feed ∷ t)
-  fold_read [] e = let no_blank : ⊥ = cc in absurd no_blank
-  fold_read (s ∷ t) e = sym (fold_dropped front s t found.none e)
-
-  pub takes_fold : (new : List ℕ) → begins_with_blank tail ≡ true → new ≡ old ++ without_return front → new ++ unfolded (drop 1 tail) ≡ old ++ unfolded rest
-  takes_fold new e is =
-      ap (λ l. l ++ unfolded (drop 1 tail)) is
-      ∙ append_assoc old (without_return front) (unfolded (drop 1 tail))
-      ∙ ap (λ l. old ++ l) (fold_read tail e ∙ ap unfolded (sym found.parts))
-
-  pub takes_line_end : (new : List ℕ) → begins_with_blank tail ≡ false → new ≡ old ++ (front ++ feed ∷ []) → new ++ unfolded tail ≡ old ++ unfolded rest
-  takes_line_end new e is =
-      ap (λ l. l ++ unfolded tail) is
-      ∙ append_assoc old (front ++ feed ∷ []) (unfolded tail)
-      ∙ ap (λ l. old ++ l) (append_assoc front (feed ∷ []) (unfolded tail) ∙ sym (line_end front tail found.none e) ∙ ap unfolded (sym found.parts))
-
-  pub fold_feeds : (new : List ℕ) → new ≡ old ++ without_return front → feeds new ≡ feeds old
-  fold_feeds new is = ap feeds is ∙ feeds_chunk old (without_return front) (kept_none feed front found.none)
-
-  pub line_feeds : (new : List ℕ) → new ≡ old ++ (front ++ feed ∷ []) → feeds new ≡ feeds old ++ (length old + length front) ∷ []
-  line_feeds new is = ap feeds is ∙ feeds_line old front found.none
 
 pub not_found : (x : ℕ) (bytes : List ℕ) (r : Option ℕ) → is_some r ≡ false → IsFirstByte (is_byte x) bytes r → HasNone x bytes
 not_found x bytes None e found = none_found x bytes found

@@ -1,7 +1,9 @@
+mod Folds
+mod FoldSearch
 mod Chunks
-mod Places
-mod Escapes
 mod Found
+mod FirstLines
+mod Escapes
 mod Returns
 mod Characters
 mod EscapedText

@@ -9,8 +9,10 @@ use Rattle.hm_lines.specs.Folding.{HasNone, IsPlain, ArePieces, further_limit, j
 use Rattle.std.specs.Str.{IsUtf8}
 use Rattle.std.proofs.lemmas.Str.{IsUtf8-nil, IsUtf8-append}
 use Rattle.hm_lines.proofs.Characters.{one_ascii}
-use Rattle.hm_lines.proofs.Chunks.{fold_dropped, line_end}
+use Rattle.hm_lines.proofs.Chunks.{line_end}
+use Rattle.hm_lines.proofs.Folds.{fold_goes, no_feed_no_fold}
 use Rattle.hm_lines.proofs.Returns.{at_last, kept_none}
+use Rattle.hm_lines.proofs.FirstLines.{cut_line}
 
 -- a line and its end
 abbrev pub ended : List ℕ → List ℕ
@@ -40,7 +42,7 @@ module _ (tail : List ℕ) (apart : begins_with_blank tail ≡ false) where
   fold : (piece more : List ℕ) → HasNone feed piece → unfolded ((piece ++ return ∷ feed ∷ 32 ∷ more) ++ tail) ≡ piece ++ unfolded (more ++ tail)
   fold piece more none =
       ap unfolded (append_assoc piece (return ∷ feed ∷ 32 ∷ more) tail ∙ sym (append_assoc piece (return ∷ []) (feed ∷ 32 ∷ more ++ tail)))
-      ∙ fold_dropped (piece ++ return ∷ []) 32 (more ++ tail) (with_return piece none) refl
+      ∙ fold_goes 32 (more ++ tail) refl (piece ++ return ∷ []) (no_feed_no_fold (piece ++ return ∷ []) (feed ∷ 32 ∷ more ++ tail) (with_return piece none))
       ∙ ap (λ l. l ++ unfolded (more ++ tail)) (at_last piece return ∙ append-nil piece)
 
   pieces_unfold : (limit : ℕ) (line : List ℕ) (pieces : List (List ℕ)) → ArePieces limit line pieces → HasNone feed line
@@ -86,12 +88,6 @@ folded_unfolded (l ∷ ls) bytes plain (first, rest, folded, others, parts) =
     ∙ pieces_unfold rest (no_blank_lines ls rest later others) _ l folded.pieces folded.cut (plain 0 l (omega arith)).no_feed
     ∙ ap (λ b. l ++ return ∷ feed ∷ b) (folded_unfolded ls rest later others)
     ∙ sym (append_assoc l (return ∷ feed ∷ []) (flat_map ended ls))
-
-cut_line : (chunk t : List ℕ) → HasNone feed chunk → cut (chunk ++ feed ∷ t) ≡ chunk ∷ cut t
-cut_line [] t none = refl
-cut_line (b ∷ chunk) t none =
-    let e : (b == feed) ≡ false = none 0 b (omega arith) in
-    rw e (ap (onto_first b) (cut_line chunk t (λ k d lt. none (suc k) d (omega arith))))
 
 pub ended_lines : (ls : List (List ℕ)) → All IsPlain ls → lines (flat_map ended ls) ≡ ls
 ended_lines [] plain = refl

@@ -1,7 +1,9 @@
 -- Unfolding, and the lines of what is unfolded (RFC 5545, section 3.1; RFC 6350, section 3.2).
-use Rattle.std.specs.Prelude.{ℕ, Bool, false, cond, ◌&&◌, ◌||◌, List, [], ◌∷◌, map}
+use Rattle.std.specs.Prelude.{◌≡◌, ℕ, ◌<◌, ◌≤◌, Bool, true, false, cond, ◌&&◌, ◌||◌, List, [], ◌∷◌, length, take, drop, map, Option}
 use Rattle.std.specs.Bool.{◌==◌}
 use Rattle.std.specs.List.{onto_first}
+use Rattle.memchr.specs.Find.{IsFirst}
+use Rattle.hm_lines.specs.declared.unfolding.FirstLine.{FirstLine}
 
 abbrev pub feed : ℕ
 feed = 10
@@ -21,6 +23,14 @@ begins_with_blank (b ∷ rest) = is_blank b
 abbrev pub begins_with_fold : List ℕ → Bool
 begins_with_fold [] = false
 begins_with_fold (b ∷ rest) = (b == feed) && begins_with_blank rest
+
+-- a fold begins at a place of bytes
+abbrev pub IsFold : List ℕ → ℕ → Type 0
+IsFold bytes at = begins_with_fold (drop at bytes) ≡ true
+
+-- the first place at which a fold begins, if there is one
+abbrev pub IsFirstFold : List ℕ → Option ℕ → Type 0
+IsFirstFold bytes found = IsFirst (IsFold bytes) 0 (length bytes) found
 
 -- ---- unfolding
 
@@ -52,3 +62,10 @@ without_return (b ∷ c ∷ rest) = b ∷ without_return (c ∷ rest)
 
 abbrev pub lines : List ℕ → List (List ℕ)
 lines bytes = map without_return (cut bytes)
+
+-- bytes have a first line that ends at a place, and the others in what is left from another place on
+pub record IsFirstLine (bytes : List ℕ) (line : FirstLine) : Type 0 where
+  pub lines : lines bytes ≡ take line.to bytes ∷ lines (drop line.next bytes)
+  pub ends : line.to ≤ line.next
+  pub some : 0 < line.next
+  pub within : line.next ≤ length bytes

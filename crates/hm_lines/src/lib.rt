@@ -12,7 +12,7 @@
 //! The `:` is the first one outside of double quotes. In a value of the type text `\\`, `\,` and `\;` stand for `\`, `,` and
 //! `;`, `\n` and `\N` for a line feed, and another `\` for itself; what a value shows is that, cleaned.
 //!
-//! Bytes are unfolded into one buffer (`Unfolded`), in which their lines stand. Lines are written with CRLF behind each,
+//! Bytes are unfolded as a whole (`without_folds`), and lines stand in what is unfolded (`first_line`). Lines are written with CRLF behind each,
 //! and those of more than 75 octets are folded between characters. What was folded is unfolded to the same lines, and what
 //! was escaped is read as the same text (`proofs/Laws`).
 #![tactic(auto)]
@@ -24,5 +24,5 @@ mod values;
 
 pub use content::{LineParts, parts};
 pub use folding::{append_folded, fold};
-pub use unfolding::{Unfolded, unfold};
+pub use unfolding::{FirstLine, first_line, unfold, without_folds};
 pub use values::{escape, unescape};

@@ -1,8 +1,15 @@
-use Rattle.std.proofs.Common.{◌≡◌, take}
+use Rattle.std.proofs.Common.{◌≡◌, ◌++◌, length}
+use Rattle.std.specs.Prelude.{IsUtf8}
 use Rattle.hm_lines.specs.Unfolding.{lines}
 use Rattle.hm_components.specs.Files.{full}
 use Rattle.hm_components.specs.Lent.{texts}
 use Rattle.hm_component_files.proofs.opening.full_lines.Given as goal
 
-abbrev pub invariant-loop-place : goal.invariant-loop-place
-invariant-loop-place l = texts l.found.items ≡ full (take l.place (lines l.unfolded))
+abbrev pub decreases-loop-rest : goal.decreases-loop-rest
+decreases-loop-rest l = length l.rest
+
+abbrev pub invariant-loop-rest : goal.invariant-loop-rest
+invariant-loop-rest l = record {
+  utf8 : IsUtf8 l.rest;
+  left : texts l.found.items ++ full (lines l.rest) ≡ full (lines l.text);
+}

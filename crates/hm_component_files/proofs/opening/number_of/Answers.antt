@@ -1,23 +1,23 @@
-use Rattle.std.proofs.Common.{not, ap, ◌∙◌, arith}
-use Rattle.hm_lines.specs.Unfolding.{lines}
-use Rattle.hm_component_files.proofs.FullLines.{full_by}
-use Rattle.hm_component_files.proofs.Numbers.{left_empty, left_full, numbered, few_lines}
+use Rattle.std.proofs.Common.{◌+◌, drop, sym, subst, arith}
+use Rattle.std.proofs.lemmas.List.{take_rest}
+use Rattle.hm_components.specs.Components.{Bytes}
+use Rattle.hm_component_files.proofs.Numbers.{IsCounted, left_empty, left_full}
 use Rattle.hm_component_files.proofs.opening.number_of.Goals as goal
+use Rattle.hm_component_files.proofs.opening.number_of.Goals.{then-line-gt0+else-left-eq0, else-line-gt0}
 
-pub loop-at-preserved-then-is_empty : goal.loop-at-preserved-then-is_empty
-loop-at-preserved-then-is_empty c =
-    left_empty (lines c.args.unfolded.now) c.args.place c.loop-at.left c.loop-at.at c.loop-at.invariant c.line.result.now c.line.ensures.line
-    (full_by c.line.result.now c.is_empty.result c.is_empty.ensures ∙ ap not c.if-is_empty.true)
-
-pub returns-then-left-eq0 : goal.returns-then-left-eq0
-returns-then-left-eq0 c =
-    numbered (lines c.args.unfolded.now) c.args.place c.loop-at.left c.loop-at.at c.loop-at.invariant c.line.result.now c.line.ensures.line
-    (full_by c.line.result.now c.is_empty.result c.is_empty.ensures ∙ ap not c.if-is_empty.false) (search arith)
-
-pub loop-at-preserved : goal.loop-at-preserved
-loop-at-preserved c =
-    left_full (lines c.args.unfolded.now) c.args.place c.loop-at.left c.loop-at.at c.loop-at.invariant c.line.result.now c.line.ensures.line
-    (full_by c.line.result.now c.is_empty.result c.is_empty.ensures ∙ ap not c.if-is_empty.false) _ (search arith)
-
-pub overflow_add-result-2 : goal.overflow_add-result-2
-overflow_add-result-2 c = let few = few_lines c.args.unfolded.now in search arith
+pub loop-rest-preserved : goal.loop-rest-preserved
+loop-rest-preserved c =
+    let bytes = c.args.text.now in
+    let rest = c.loop-rest.rest.now in
+    let line = c.first_line-line.result in
+    let is = c.first_line-line.ensures.line in
+    subst (λ (r : Bytes). IsCounted bytes r c.args.place (c.loop-rest.number + 1) c.if-line-gt0.left) (sym (take_rest rest line.next))
+    (elim c.if-line-gt0.branch [
+      | then-line-gt0+else-left-eq0 w ↦
+          left_full bytes rest c.args.place c.loop-rest.number c.loop-rest.left c.loop-rest.invariant line is w.if-line-gt0.true c.if-line-gt0.left
+          (let is = w.left-is in let some = w.if-left-eq0.false in omega (arith, is, some))
+      | else-line-gt0 w ↦
+          let none = w.if-line-gt0.false in
+          subst (IsCounted bytes (drop line.next rest) c.args.place (c.loop-rest.number + 1)) (sym w.left-is)
+          (left_empty bytes rest c.args.place c.loop-rest.number c.loop-rest.left c.loop-rest.invariant line is (omega (arith, none)))
+    ])

@@ -1,7 +1,9 @@
-use Rattle.std.proofs.Common.{◌≡◌, ◌+◌, length, take}
-use Rattle.hm_lines.specs.Unfolding.{lines}
-use Rattle.hm_components.specs.Files.{full}
+use Rattle.std.proofs.Common.{length}
+use Rattle.hm_component_files.proofs.Numbers.{IsCounted}
 use Rattle.hm_component_files.proofs.opening.number_of.Given as goal
 
-abbrev pub invariant-loop-at : goal.invariant-loop-at
-invariant-loop-at l = l.place ≡ length (full (take l.at (lines l.unfolded))) + l.left
+abbrev pub decreases-loop-rest : goal.decreases-loop-rest
+decreases-loop-rest l = length l.rest
+
+abbrev pub invariant-loop-rest : goal.invariant-loop-rest
+invariant-loop-rest l = IsCounted l.text l.rest l.place l.number l.left

@@ -24,11 +24,13 @@ returns-in-Ok g c =
     let bytes = c.args.bytes.now in
     let shown = shown_is f o c.in_ok-properties.field-0.items c.deref.result.now c.in_ok-shown.shown.items c.in_ok-properties.ensures c.deref.ensures.value c.in_ok-shown.ensures in
     let layout = layout_of c.in-Ok.layout in
-    let lines = lines_are bytes c.in_ok-unfolded.unfolded (texts c.in_ok-lines.lines.items) c.in_ok-unfolded.ensures c.in_ok-lines.ensures in
-    let are = subst (λ (ls : List Bytes). AreOf f o ls layout) lines (c.in-Ok.ensures.layout o (c.deref-2.ensures.value ∙ shown)) in
+    let made = c.deref-2.ensures.value ∙ c.in_ok-unfolded.ensures in
+    let opened = c.in_ok-text.ensures.text ∙ made in
+    let lines = lines_are bytes c.in_ok-text.text.now (texts c.in_ok-lines.lines.items) opened c.in_ok-lines.ensures in
+    let are = subst (λ (ls : List Bytes). AreOf f o ls layout) lines (c.in-Ok.ensures.layout o (c.deref-3.ensures.value ∙ shown)) in
     let kind = kind_of c.in_ok-kind.kind in
     let lent = c.deref-in-Ok.ensures.value ∙ shown in
-    answer_read f o bytes (subst IsUtf8 c.in_ok-unfolded.ensures c.in_ok-text.ensures.utf8) layout are c.book_of.result
+    answer_read f o bytes (subst IsUtf8 made c.in_ok-text.ensures.utf8) layout are c.book_of.result
     (tree_said f o kind c.deref-in-Ok.result.now (components layout) c.book_of.result c.in_ok-kind.ensures.kind lent c.book_of.ensures.tree)
     (fault_said f o kind c.deref-in-Ok.result.now (components layout) c.book_of.result c.in_ok-kind.ensures.kind lent c.book_of.ensures.fault)
 
@@ -38,7 +40,9 @@ returns g c =
     let o = options_value c.args.options.now in
     let bytes = c.args.bytes.now in
     let shown = shown_is f o c.in_ok-properties.field-0.items c.deref.result.now c.in_ok-shown.shown.items c.in_ok-properties.ensures c.deref.ensures.value c.in_ok-shown.ensures in
-    let lines = lines_are bytes c.in_ok-unfolded.unfolded (texts c.in_ok-lines.lines.items) c.in_ok-unfolded.ensures c.in_ok-lines.ensures in
-    let stop = subst (λ (ls : List Bytes). IsStop f o ls c.in-Err.stop) lines (c.in-Err.ensures.stop o (c.deref-2.ensures.value ∙ shown)) in
-    stop_read f o bytes (subst IsUtf8 c.in_ok-unfolded.ensures c.in_ok-text.ensures.utf8) c.tag-tag.ensures.lawful c.in-Err.stop stop c.fault_of.result
-    (subst (λ (b : Bytes). IsFaultOf (lines_of_bytes b) c.in-Err.stop c.fault_of.result) c.in_ok-unfolded.ensures c.fault_of.ensures)
+    let made = c.deref-2.ensures.value ∙ c.in_ok-unfolded.ensures in
+    let opened = c.in_ok-text.ensures.text ∙ made in
+    let lines = lines_are bytes c.in_ok-text.text.now (texts c.in_ok-lines.lines.items) opened c.in_ok-lines.ensures in
+    let stop = subst (λ (ls : List Bytes). IsStop f o ls c.in-Err.stop) lines (c.in-Err.ensures.stop o (c.deref-3.ensures.value ∙ shown)) in
+    stop_read f o bytes (subst IsUtf8 made c.in_ok-text.ensures.utf8) c.tag-tag.ensures.lawful c.in-Err.stop stop c.fault_of.result
+    (subst (λ (b : Bytes). IsFaultOf (lines_of_bytes b) c.in-Err.stop c.fault_of.result) opened c.fault_of.ensures)

@@ -25,9 +25,10 @@ returns-in-Ok g c =
     let before = c.args.before.now in
     let shown = shown_is f o c.in_ok-properties.field-0.items c.deref.result.now c.in_ok-shown.shown.items c.in_ok-properties.ensures c.deref.ensures.value c.in_ok-shown.ensures in
     let layout = layout_of c.in-Ok.layout in
-    let lines = ap texts c.deref-3.ensures.value
-    ∙ lines_are before c.in_ok-unfolded.unfolded (texts c.in_ok-lines.lines.items) c.in_ok-unfolded.ensures c.in_ok-lines.ensures in
-    let are = subst (λ (ls : List Bytes). AreOf f o ls layout) lines (c.in-Ok.ensures.layout o (c.deref-2.ensures.value ∙ shown)) in
+    let lines = ap texts c.deref-4.ensures.value
+    ∙ lines_are before c.in_ok-text.text.now (texts c.in_ok-lines.lines.items)
+    (c.in_ok-text.ensures.text ∙ c.deref-2.ensures.value ∙ c.in_ok-unfolded.ensures) c.in_ok-lines.ensures in
+    let are = subst (λ (ls : List Bytes). AreOf f o ls layout) lines (c.in-Ok.ensures.layout o (c.deref-3.ensures.value ∙ shown)) in
     let deep = c.if-depth-gt-DEEPEST.false in
     let is = c.depth-depth.ensures in
     let over = not_over t (omega (arith, deep, is)) in
