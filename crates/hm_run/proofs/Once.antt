@@ -16,7 +16,7 @@ use Rattle.hm_files.proofs.Steps.{sides_once, equals_once, told_once, then_once,
 use Rattle.hm_command.specs.Words.{FileNames}
 use Rattle.hm_sides.proofs.Laws.{side_once, view_once, opens_once, closes_once}
 use Rattle.hm_run.specs.Handed.{Handed}
-use Rattle.hm_run.specs.Reads.{Sides, Before, OpensView, OpensSides, OpensReplicas, ReadsSix, ReadsAll, AreOpened, schema_stop, archive_stop}
+use Rattle.hm_run.specs.Reads.{Sides, Before, OpensView, OpensSides, OpensReplicas, ReadsBehind, ReadsSix, ReadsAll, AreOpened, schema_stop, archive_stop}
 use Rattle.hm_run.specs.Verdict.{Synced, Closes, Plans, PlansFrom, VerdictOf, Becomes, Reconciles, old_trio, new_trio}
 use Rattle.hm_run.proofs.Opened.{AreServed, served, all_opened}
 
@@ -41,7 +41,7 @@ module _ (h : Handed) where
       then_once _ _ (opens_once h.means_of h.formats h.texts sides.right of.right.is_side slot.B right) (λ b. equals_once _))
 
   six_once : (schema lens_a lens_b archive left right : List ℕ) → FindsOne (ReadsSix h schema lens_a lens_b archive left right)
-  unfolding ReadsSix
+  unfolding ReadsSix ReadsBehind
   six_once schema lens_a lens_b archive left right =
       then_once _ _ (told_once schema_stop (ReadsSchema schema) (schema_reads_once schema)) (λ s.
       then_once_of _ _ (sides_found_once s lens_a lens_b) (λ sides opens.

@@ -11,7 +11,7 @@ use Rattle.hm_files.proofs.Steps.{ok_is, then_ok}
 use Rattle.hm_sides.specs.Sides.{SideValue, IsSide}
 use Rattle.hm_sides.specs.SideReplicas.{OpensOn, IsReplicaOn}
 use Rattle.hm_run.specs.Handed.{Handed}
-use Rattle.hm_run.specs.Reads.{Serves, Sides, Replicas, Before, OpensView, OpensSides, OpensReplicas, ReadsSix, ReadsAll, AreOpened}
+use Rattle.hm_run.specs.Reads.{Serves, Sides, Replicas, Before, OpensView, OpensSides, OpensReplicas, ReadsBehind, ReadsSix, ReadsAll, AreOpened}
 
 -- both sides serve a schema
 pub record AreServed (h : Handed) (s : SchemaValue) (sides : Sides) : Type 0 where
@@ -52,7 +52,7 @@ module _ (h : Handed) where
     replica_on at bytes r o = record { box = o.box; is = o.is; holds = o.holds.1 }
 
   pub six_opened : (schema lens_a lens_b archive left right : List ℕ) (b : Before) → ReadsSix h schema lens_a lens_b archive left right (Ok b) → AreOpened h b
-  unfolding ReadsSix OpensReplicas
+  unfolding ReadsSix ReadsBehind OpensReplicas
   six_opened schema lens_a lens_b archive left right b o =
       let s = then_ok o in
       let sides = then_ok s.2 in

@@ -98,13 +98,18 @@ before_with s sides o replicas = record { schema = s; sides = sides_of sides; ar
 abbrev pub before_of : Inputs → Before
 before_of t = before_with t.schema t.sides t.archive t.replicas
 
+-- the archive and the replicas, behind the schema and the sides
+unfoldable pub ReadsBehind : Handed → SchemaValue → Sides → List ℕ → List ℕ → List ℕ → Result Before Refusal → Type 0
+ReadsBehind h s sides archive left right =
+    Then (Told archive_stop (ReadsArchive archive)) (λ o.
+    Then (OpensReplicas h sides left right) (λ replicas r.
+    r ≡ Ok (record { schema = s; sides = sides; archive = o; replicas = replicas })))
+
 unfoldable pub ReadsSix : Handed → List ℕ → List ℕ → List ℕ → List ℕ → List ℕ → List ℕ → Result Before Refusal → Type 0
 ReadsSix h schema lens_a lens_b archive left right =
     Then (Told schema_stop (ReadsSchema schema)) (λ s.
     Then (OpensSides h s lens_a lens_b) (λ sides.
-    Then (Told archive_stop (ReadsArchive archive)) (λ o.
-    Then (OpensReplicas h sides left right) (λ replicas r.
-    r ≡ Ok (record { schema = s; sides = sides; archive = o; replicas = replicas })))))
+    ReadsBehind h s sides archive left right))
 
 -- by the bytes of the files in the order of their slots
 unfoldable pub ReadsAll : Handed → List (List ℕ) → Result Before Refusal → Type 0

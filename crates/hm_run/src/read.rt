@@ -6,7 +6,7 @@ ghost use Rattle.hm_files.specs.Steps.{Computes, Told};
 ghost use Rattle.hm_files.specs.Files.{all_bytes};
 ghost use Rattle.hm_sides.specs.Sides.{seen, side_value, IsSide};
 ghost use Rattle.hm_run.specs.Handed.{handed};
-ghost use Rattle.hm_run.specs.Reads.{Serves, OpensView, OpensSides, OpensReplicas, ReadsSix, ReadsAll, sides_of, replicas_of, before_of, schema_stop, archive_stop};
+ghost use Rattle.hm_run.specs.Reads.{Serves, OpensView, OpensSides, OpensReplicas, ReadsBehind, ReadsSix, ReadsAll, sides_of, replicas_of, before_of, schema_stop, archive_stop};
 
 use hm_files::{ArchiveFault, FileFault, Refusal, Slot, Stop};
 use hm_format::Format;
@@ -139,7 +139,32 @@ fn open_replicas(
     Ok(ReplicaPair { left, right })
 }
 
-// The values of the six files, by their bytes; those of the replicas are kept.
+// The values of all files, behind the schema and the sides. The bytes of the replicas are kept.
+fn read_behind(
+    alloc: Global,
+    formats: &[Box<dyn Format>],
+    texts: &[Box<dyn TextLens>],
+    schema: Schema,
+    sides: SidePair,
+    archive: &[u8],
+    left: Vec<u8>,
+    right: Vec<u8>,
+) -> Result<Inputs, Stop>
+    requires left { IsSide (λ b. means b) formats.now (map (λ b. meaning b) texts.now) (side_value sides.left) }
+    requires right { IsSide (λ b. means b) formats.now (map (λ b. meaning b) texts.now) (side_value sides.right) }
+    ensures { Computes (ReadsBehind (handed (λ b. means b) formats.now (map (λ b. meaning b) texts.now)) schema (sides_of sides) archive.now left.items right.items) (seen before_of result) }
+{
+    let archive = read_archive(alloc, archive)?;
+    let replicas = open_replicas(alloc, formats, texts, &sides, left, right)?;
+    Ok(Inputs {
+        schema,
+        sides,
+        archive,
+        replicas,
+    })
+}
+
+// The values of the six files, by their bytes.
 fn read_six(
     alloc: Global,
     formats: &[Box<dyn Format>],
@@ -152,14 +177,7 @@ fn read_six(
 {
     let schema = read_schema(alloc, read.0)?;
     let sides = open_sides(alloc, formats, texts, &schema, read.1, read.2)?;
-    let archive = read_archive(alloc, read.3)?;
-    let replicas = open_replicas(alloc, formats, texts, &sides, left, right)?;
-    Ok(Inputs {
-        schema,
-        sides,
-        archive,
-        replicas,
-    })
+    read_behind(alloc, formats, texts, schema, sides, read.3, left, right)
 }
 
 /// The values of the six files, by their bytes in the order of their slots, or the first stop.

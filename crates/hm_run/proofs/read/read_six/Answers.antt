@@ -1,16 +1,15 @@
-use Rattle.std.proofs.Common.{refl, rules}
-use Rattle.hm_files.specs.Steps.{goes_on}
+use Rattle.std.proofs.Common.{rules}
 use Rattle.hm_files.proofs.Steps.{then_go}
 use Rattle.hm_run.specs.Reads.{ReadsSix, before_of}
 use Rattle.hm_run.proofs.Seeing.{stopped_seen}
 use Rattle.hm_run.proofs.Opened.{served}
 use Rattle.hm_run.proofs.read.read_six.Goals as goal
 
-pub open_replicas-requires-clause-left : goal.open_replicas-requires-clause-left
-open_replicas-requires-clause-left g c = (served _ _ _ _ _ c.in_ok-sides.ensures.0).left.is_side
+pub read_behind-requires-clause-left : goal.read_behind-requires-clause-left
+read_behind-requires-clause-left g c = (served _ _ _ _ _ c.in_ok-sides.ensures.0).left.is_side
 
-pub open_replicas-requires-clause-right : goal.open_replicas-requires-clause-right
-open_replicas-requires-clause-right g c = (served _ _ _ _ _ c.in_ok-sides.ensures.0).right.is_side
+pub read_behind-requires-clause-right : goal.read_behind-requires-clause-right
+read_behind-requires-clause-right g c = (served _ _ _ _ _ c.in_ok-sides.ensures.0).right.is_side
 
 pub returns-in_err-schema : goal.returns-in_err-schema
 unfolding ReadsSix
@@ -21,21 +20,6 @@ unfolding ReadsSix
 returns-in_err-sides g c = then_go _ _ _ _ c.in_ok-schema.ensures.0
     (stopped_seen _ _ before_of c.in_err-sides.field-0.0 c.from_residual-in_err-sides.result (search rules) c.in_err-sides.ensures)
 
-pub returns-in_err-archive : goal.returns-in_err-archive
-unfolding ReadsSix
-returns-in_err-archive g c = then_go _ _ _ _ c.in_ok-schema.ensures.0 (then_go _ _ _ _ c.in_ok-sides.ensures.0
-    (stopped_seen _ _ before_of c.in_err-archive.field-0.0 c.from_residual-in_err-archive.result (search rules) c.in_err-archive.ensures))
-
-pub returns-in_err-replicas : goal.returns-in_err-replicas
-unfolding ReadsSix
-returns-in_err-replicas g c = then_go _ _ _ _ c.in_ok-schema.ensures.0 (then_go _ _ _ _ c.in_ok-sides.ensures.0
-    (then_go _ _ _ _ c.in_ok-archive.ensures.0
-    (stopped_seen _ _ before_of c.in_err-replicas.field-0.0 c.from_residual-in_err-replicas.result (search rules) c.in_err-replicas.ensures)))
-
 pub returns : goal.returns
 unfolding ReadsSix
-returns g c = (
-  goes_on c.in_ok-schema.ensures.0 (goes_on c.in_ok-sides.ensures.0
-      (goes_on c.in_ok-archive.ensures.0 (goes_on c.in_ok-replicas.ensures.0 refl))),
-  refl,
-)
+returns g c = then_go _ _ _ _ c.in_ok-schema.ensures.0 (then_go _ _ _ _ c.in_ok-sides.ensures.0 c.read_behind.ensures)
