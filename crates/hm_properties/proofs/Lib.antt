@@ -1,6 +1,7 @@
 mod LentLines
 mod Texts
 mod Parts
+mod PlainBytes
 mod Seconds
 mod NewLines
 mod PropertyNames

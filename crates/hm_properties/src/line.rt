@@ -1,5 +1,8 @@
 //! Lines.
-ghost use Rattle.std.specs.Prelude.{◌≡◌, IfOk};
+ghost use Rattle.std.specs.Prelude.{◌≡◌, IsTrue, IfOk, drop};
+ghost use Rattle.std.specs.Option.{is_some};
+ghost use Rattle.hm_lines.specs.Values.{text_of};
+ghost use Rattle.hm_pieces.specs.Texts.{is_text};
 ghost use Rattle.hm_properties.specs.Lines as spec;
 ghost use Rattle.hm_properties.specs.Lent.{line_of, bytes_of};
 
@@ -70,14 +73,65 @@ pub fn text_shown(alloc: Global, name: &Name, line: &Line) -> Result<Option<Name
     }
 }
 
+/// Whether a line shows a text below the name of a property.
+pub fn shows(alloc: Global, name: &Name, line: &Line) -> Result<bool, Memory>
+    requires { spec.IsLine (line_of line.now) }
+    ensures { IfOk result (λ shows. shows ≡ spec.shows name.now (line_of line.now)) }
+{
+    if !is_of(line, name) {
+        return Ok(false);
+    }
+    match line.parts {
+        Some(parts) => has_text(alloc, line.text, parts),
+        None => Ok(false),
+    }
+}
+
+// Whether the value of a content line has a text that isn't of spaces alone. Mostly its first byte tells, and no text is made.
+fn has_text(alloc: Global, line: &str, parts: LineParts) -> Result<bool, Memory>
+    requires { spec.HasParts line.now (Some parts) }
+    ensures { IfOk result (λ has. has ≡ is_some (spec.text_in line.now (Some parts))) }
+{
+    if begins_with_text(value_of(line, parts)) {
+        return Ok(true);
+    }
+    Ok(text_in(alloc, line, parts)?.is_some())
+}
+
+// Whether a value begins with a byte that tells that it has a text.
+#[tactic(auto, using(crate::proofs::PlainBytes::begins_text))]
+fn begins_with_text(value: &str) -> bool
+    ensures { IsTrue result → IsTrue (is_text (text_of value.now)) }
+{
+    let Some(byte) = value.as_bytes().first() else {
+        return false;
+    };
+    is_plain(*byte)
+}
+
+// Whether a byte stands for itself in the text of a value, whatever is behind it, and isn't a space.
+fn is_plain(byte: u8) -> bool
+    ensures { result ≡ spec.is_plain byte }
+{
+    byte > b' ' && byte != b'\\' && byte != 127
+}
+
 // The text of the value of a content line, if it isn't of spaces alone.
 fn text_in(alloc: Global, line: &str, parts: LineParts) -> Result<Option<Name>, Memory>
     requires { spec.HasParts line.now (Some parts) }
     ensures { IfOk result (λ text. text ≡ spec.text_in line.now (Some parts)) }
 {
-    let (_, value) = line.split_at(parts.value_from);
-    let text = unescape(alloc, value)?;
+    let text = unescape(alloc, value_of(line, parts))?;
     Ok(if_filled(text))
+}
+
+// The value of a content line.
+fn value_of<'a>(line: &'a str, parts: LineParts) -> &'a str
+    requires { spec.HasParts line.now (Some parts) }
+    ensures { result.now ≡ drop parts.value_from line.now }
+{
+    let (_, value) = line.split_at(parts.value_from);
+    value
 }
 
 // A text, if it isn't of spaces alone.

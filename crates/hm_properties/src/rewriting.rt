@@ -9,7 +9,7 @@ ghost use Rattle.hm_properties.specs.Rewriting as spec;
 ghost use Rattle.hm_properties.specs.Lent.{AreLines, lent, line_of, target_of, targets_of, bytes_in, all_bytes, plain};
 
 use crate::card::set_of;
-use crate::line::{Line, NewLine, is_of, text_shown};
+use crate::line::{Line, NewLine, is_of, shows, text_shown};
 use crate::writing::{new_line, with_value};
 use hm_cards::edges_at;
 use hm_tree::{Memory, Name, NameSet, Tree};
@@ -143,7 +143,7 @@ fn first_shown(alloc: Global, name: &Name, lines: &[Line]) -> Result<Option<usiz
     ensures { IfOk result (λ place. place ≡ spec.first_place (lines_spec.shows name.now) (lent lines.now)) }
 {
     for place in 0..lines.len() {
-        if text_shown(alloc, name, &lines[place])?.is_some() {
+        if shows(alloc, name, &lines[place])? {
             return Ok(Some(place));
         }
     }

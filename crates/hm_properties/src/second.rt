@@ -5,7 +5,7 @@ ghost use Rattle.std.specs.List.{list_any};
 ghost use Rattle.hm_properties.specs.Lines as spec;
 ghost use Rattle.hm_properties.specs.Lent.{AreLines, lent, line_of};
 
-use crate::line::{Line, is_of, text_shown};
+use crate::line::{Line, shows};
 use hm_tree::{Memory, Name};
 use std::alloc::Global;
 
@@ -68,10 +68,11 @@ fn shows_both(alloc: Global, name: &Name, before: &[Line], line: &Line) -> Resul
     requires line { spec.IsLine (line_of line.now) }
     ensures { IfOk result (λ both. both ≡ (spec.shows name.now (line_of line.now) && list_any (spec.shows name.now) (lent before.now))) }
 {
-    if !is_of(line, name) || !shows_any(alloc, name, before)? {
+    // Of lines without a text there may be many, and none of them is compared with those before it.
+    if !shows(alloc, name, line)? {
         return Ok(false);
     }
-    Ok(text_shown(alloc, name, line)?.is_some())
+    shows_any(alloc, name, before)
 }
 
 // Whether one of some lines shows a text below a name.
@@ -80,7 +81,7 @@ fn shows_any(alloc: Global, name: &Name, lines: &[Line]) -> Result<bool, Memory>
     ensures { IfOk result (λ any. any ≡ list_any (spec.shows name.now) (lent lines.now)) }
 {
     for line in lines {
-        if text_shown(alloc, name, line)?.is_some() {
+        if shows(alloc, name, line)? {
             return Ok(true);
         }
     }
