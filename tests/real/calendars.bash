@@ -67,6 +67,13 @@ events 'a calendar without events' \
 odd=$'begin:vcalendar\nversion:2.0\n\nbegin:vevent\nuid:1\nsummary;language=en:o\n ne\nend:VEVENT\nEnd:vCalendar\n\n'
 events_stay 'lines as others write them' absent "$HEAD_EVENTS"$'1,one\n' "$odd" 0 agreed "{$(card 1 '"SUMMARY":{"one"}')}"
 
+# An event may have any number of lines of a property that show nothing; a run that compared each with those before it
+# would take minutes.
+printf -v blank 'SUMMARY:\r\n%.0s' {1..400000}
+crowded=$'BEGIN:VEVENT\r\nUID:1\r\n'$blank$'SUMMARY:one\r\nEND:VEVENT\r\n'
+events_stay 'many lines without a text' absent "$HEAD_EVENTS"$'1,one\n' "$calendar_begins$crowded$calendar_ends" \
+    0 agreed "{$(card 1 '"SUMMARY":{"one"}')}"
+
 # --- Calendars that are refused ---
 
 front='BEGIN:VCALENDAR\nVERSION:2.0\n'
