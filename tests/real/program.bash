@@ -28,12 +28,28 @@ launcher() {
     finish
 }
 
+# The launcher gives the program the stack that the deepest tree needs, through a lens that has as many terms in one another
+# as may be, and calls itself at each level.
+launcher_gives_stack() {
+    begin 'the stack that the launcher gives'
+    local open close
+    open=$(repeated 198 'xfork({},{},id,%.0s')
+    close=$(repeated 198 ')%.0s')
+    files "$OLD" deepest "$OLD" deepest deepest deepest
+    with lensA "$(tree_lens "$EVERY_NODE"$'\nlens self R R = '"${open}map(call(self))$close" 'call(self)')"
+    program=$top/harmony sync
+    ends 0 agreed
+    finish
+}
+
 mapfile -t examples < <(find "$top/examples" -name output -printf '%h\n' | sort)
 for of in "${examples[@]}"; do
     example "$of"
 done
 if [[ -z ${HARMONY:-} ]]; then
     launcher
+    launcher_gives_stack
 else
     skip 'the launcher' 'HARMONY names another program'
+    skip 'the stack that the launcher gives' 'HARMONY names another program'
 fi
