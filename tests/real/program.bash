@@ -28,6 +28,13 @@ launcher() {
     finish
 }
 
+# Whether the system lets a program have the stack that the launcher asks for.
+allows_stack() {
+    local most
+    most=$(ulimit -H -s)
+    [[ $most == unlimited || $most -ge 1048576 ]]
+}
+
 # The launcher gives the program the stack that the deepest tree needs, through a lens that has as many terms in one another
 # as may be, and calls itself at each level.
 launcher_gives_stack() {
@@ -48,7 +55,11 @@ for of in "${examples[@]}"; do
 done
 if [[ -z ${HARMONY:-} ]]; then
     launcher
-    launcher_gives_stack
+    if allows_stack; then
+        launcher_gives_stack
+    else
+        skip 'the stack that the launcher gives' 'the system allows less'
+    fi
 else
     skip 'the launcher' 'HARMONY names another program'
     skip 'the stack that the launcher gives' 'HARMONY names another program'
