@@ -4,6 +4,7 @@ pub use Rattle.hm_lines.proofs.UnfoldedLines.{ended, folded_unfolded, ended_line
 pub use Rattle.hm_lines.proofs.Once.{pieces_once, folded_once, all_folded_once, parted_once}
 pub use Rattle.hm_lines.proofs.LineTexts.{lines_utf8}
 pub use Rattle.hm_lines.proofs.EscapedText.{escaped_utf8, unescaped_utf8}
+pub use Rattle.hm_lines.proofs.Escapes.{plain_byte}
 use Rattle.std.proofs.Common.{◌≡◌, ℕ, ◌+◌, inl, inr, Bool, true, false, cond, ◌||◌, List, [], ◌∷◌, ◌++◌, length, refl, sym, ap, ◌∙◌, arith}
 use Rattle.std.specs.Bool.{◌==◌}
 use Rattle.std.proofs.lemmas.Bool.{ne_eqb, eqb-true, or_parts, or_from, both_ways}
@@ -17,7 +18,6 @@ use Rattle.hm_lines.specs.Content.{colon, dot, is_of_word, IsWord, IsGroup, IsCo
 use Rattle.hm_lines.specs.Folding.{HasNone}
 use Rattle.hm_lines.specs.Unfolding.{feed, is_blank, begins_with_blank}
 use Rattle.hm_lines.specs.Values.{backslash, is_special, unescaped, text_of, escaped_byte, escaped}
-use Rattle.hm_lines.proofs.Escapes.{plain_byte}
 
 -- ---- values
 

@@ -12,9 +12,9 @@
 //! The `:` is the first one outside of double quotes. In a value of the type text `\\`, `\,` and `\;` stand for `\`, `,` and
 //! `;`, `\n` and `\N` for a line feed, and another `\` for itself; what a value shows is that, cleaned.
 //!
-//! Bytes are unfolded as a whole (`without_folds`), and lines stand in what is unfolded (`first_line`). Lines are written with CRLF behind each,
-//! and those of more than 75 octets are folded between characters. What was folded is unfolded to the same lines, and what
-//! was escaped is read as the same text (`proofs/Laws`).
+//! Bytes are unfolded as a whole (`without_folds`), and lines stand in what is unfolded (`first_line`). Lines are written
+//! with CRLF behind each, and those of more than 75 octets are folded between characters. What was folded is unfolded to
+//! the same lines, and what was escaped is read as the same text (`proofs/Laws`).
 #![tactic(auto)]
 
 mod content;
