@@ -1,5 +1,5 @@
 -- The lines of an item, and the texts that they show below the names of properties.
-use Rattle.std.specs.Prelude.{◌≡◌, ◌≤◌, ◌<◌, ◌+◌, ℕ, Bool, false, not, nat_lt, ◌==◌, ◌&&◌, cond, List, map, take, drop, length, slice_range, All, T, Option, Some, None}
+use Rattle.std.specs.Prelude.{◌≡◌, ◌≤◌, ◌<◌, ◌+◌, ℕ, Bool, false, not, ◌&&◌, cond, List, map, take, drop, length, slice_range, All, T, Option, Some, None}
 use Rattle.std.specs.Char.{is_ascii_lowercase}
 use Rattle.std.specs.Option.{is_some}
 use Rattle.std.specs.List.{filter_map, list_any}
@@ -9,7 +9,7 @@ use Rattle.hm_tree.specs.Names.{Name, name_cmp}
 use Rattle.hm_tree.specs.Nodes.{Tree, are_edges}
 use Rattle.hm_lines.specs.declared.content.LineParts.{LineParts}
 use Rattle.hm_lines.specs.Content.{IsContentLine, IsWord}
-use Rattle.hm_lines.specs.Values.{backslash, text_of}
+use Rattle.hm_lines.specs.Values.{text_of}
 use Rattle.hm_pieces.specs.Texts.{is_text}
 use Rattle.hm_cards.specs.Cards.{Shown, Texts, card_tree}
 
@@ -41,10 +41,6 @@ is_named name line (Some parts) = str_eq_ignore_ascii_case (name_in line parts) 
 -- a text, if it isn't of spaces alone
 abbrev pub filled : Name → Option Name
 filled text = cond (is_text text) (Some text) None
-
--- a byte that stands for itself in the text of a value, whatever is behind it, and isn't a space
-abbrev pub is_plain : ℕ → Bool
-is_plain b = nat_lt 32 b && (not (b == backslash) && not (b == 127))
 
 abbrev pub text_in : List ℕ → Option LineParts → Option Name
 text_in line None = None

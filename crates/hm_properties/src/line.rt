@@ -1,5 +1,5 @@
 //! Lines.
-ghost use Rattle.std.specs.Prelude.{◌≡◌, IsTrue, IfOk, drop};
+ghost use Rattle.std.specs.Prelude.{◌≡◌, ℕ, List, ◌∷◌, IsTrue, IfOk, drop};
 ghost use Rattle.std.specs.Option.{is_some};
 ghost use Rattle.hm_lines.specs.Values.{text_of};
 ghost use Rattle.hm_pieces.specs.Texts.{is_text};
@@ -99,19 +99,19 @@ fn has_text(alloc: Global, line: &str, parts: LineParts) -> Result<bool, Memory>
 }
 
 // Whether a value begins with a byte that tells that it has a text.
-#[tactic(auto, using(crate::proofs::PlainBytes::begins_text))]
 fn begins_with_text(value: &str) -> bool
     ensures { IsTrue result → IsTrue (is_text (text_of value.now)) }
 {
     let Some(byte) = value.as_bytes().first() else {
         return false;
     };
-    is_plain(*byte)
+    begins_text(*byte)
 }
 
-// Whether a byte stands for itself in the text of a value, whatever is behind it, and isn't a space.
-fn is_plain(byte: u8) -> bool
-    ensures { result ≡ spec.is_plain byte }
+// Whether a byte stands for itself in the text of a value, and isn't a space: then there is a text, whatever is behind it.
+#[tactic(auto, using(crate::proofs::PlainBytes::plain_begins_text))]
+fn begins_text(byte: u8) -> bool
+    ensures { IsTrue result → (rest : List ℕ) → IsTrue (is_text (text_of (byte ∷ rest))) }
 {
     byte > b' ' && byte != b'\\' && byte != 127
 }
