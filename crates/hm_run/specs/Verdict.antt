@@ -12,7 +12,9 @@ use Rattle.hm_report.specs.declared.outcome.Outcome.{Outcome}
 use Rattle.hm_report.specs.Conflicts.{AreConflicts}
 use Rattle.hm_report.specs.Text.{report_text}
 use Rattle.hm_outside.specs.Contents.{Contents}
+use Rattle.hm_replica.specs.Replicas.{ReplicaValue}
 use Rattle.hm_files.specs.declared.slot.NewFile.{NewFile}
+use Rattle.hm_files.specs.declared.slot.Slot.{Slot}
 use Rattle.hm_files.specs.declared.slot.Slot.TheVariants as slot
 use Rattle.hm_files.specs.declared.stop.FileFault.TheVariants.{Unwritable}
 use Rattle.hm_files.specs.declared.stop.Refusal.{Refusal}
@@ -21,8 +23,10 @@ use Rattle.hm_files.specs.Steps.{Then}
 use Rattle.hm_files.specs.Files.{New, loads, measures, written, new_of}
 use Rattle.hm_command.specs.declared.ending.Output.{Output}
 use Rattle.hm_command.specs.Words.{FileNames, slots, meaning}
+use Rattle.hm_sides.specs.Sides.{SideValue}
 use Rattle.hm_sides.specs.SideReplicas.{ClosesOn}
 use Rattle.hm_run.specs.declared.closing.NewTexts.{NewTexts}
+use Rattle.hm_run.specs.declared.closing.OneSided.{OneSided}
 use Rattle.hm_run.specs.Handed.{Handed}
 use Rattle.hm_run.specs.Reads.{Sides, Replicas, Before, ReadsAll}
 
@@ -102,6 +106,19 @@ Closes h sides replicas after =
     Then (λ r. r ≡ archive_fits after.archive) (λ fits r.
     r ≡ Ok (record { archive = archive_text after.archive; left = left; right = right }))))
 
+-- the bytes of the archive and of a replica that become as the view of the other one, and the bytes of that, which stay
+pub record OneSidedTexts : Type 0 where
+  pub archive : List ℕ
+  pub made : List ℕ
+  pub kept : List ℕ
+
+-- a side's bytes of the view of the other replica behind those of its own, and then the text of the archive
+unfoldable pub ClosesAs : Handed → Slot → SideValue → ReplicaValue → ReplicaValue → Result OneSidedTexts Refusal → Type 0
+ClosesAs h at side replica other =
+    Then (ClosesOn h.means_of h.formats h.texts side replica other.view at) (λ made.
+    Then (λ r. r ≡ archive_fits (Some (recorded other.view))) (λ fits r.
+    r ≡ Ok (record { archive = archive_text (Some (recorded other.view)); made = made; kept = other.bytes })))
+
 -- in the order in which they are measured and written
 abbrev pub news_of : FileNames → Texts → List New
 news_of f t =
@@ -149,6 +166,9 @@ outcome_of o = record { archive = o.archive; left = o.left; right = o.right }
 
 abbrev pub new_texts : NewTexts → Texts
 new_texts t = record { archive = t.archive.items; left = t.left.items; right = t.right.items }
+
+abbrev pub one_sided_texts : OneSided → OneSidedTexts
+one_sided_texts t = record { archive = t.archive.items; made = t.made.items; kept = t.kept.items }
 
 -- the texts are those of what was read becomes, and the output tells the conflicts that remain
 pub record IsMade (h : Handed) (before : Before) (made : NewTexts) : Type 0 where

@@ -10,16 +10,16 @@ ghost use Rattle.hm_files.specs.Steps.{Computes};
 ghost use Rattle.hm_replica.specs.Replicas.{replica_value};
 ghost use Rattle.hm_sides.specs.Sides.{seen, side_value};
 ghost use Rattle.hm_run.specs.Handed.{handed};
-ghost use Rattle.hm_run.specs.Reads.{Replicas, sides_of, replicas_of, MayClose, MayCloseOver, AreBases};
-ghost use Rattle.hm_run.specs.Verdict.{all_as, Tells, new_texts, archive_fits, Closes, outcome_of};
+ghost use Rattle.hm_run.specs.Reads.{Replicas, sides_of, MayClose, MayCloseOver, AreBases};
+ghost use Rattle.hm_run.specs.Verdict.{Tells, new_texts, one_sided_texts, archive_fits, Closes, ClosesAs, outcome_of};
 
-use crate::read::{BasePair, ReplicaPair, SidePair};
+use crate::read::{BasePair, SidePair};
 use hm_command::Output;
 use hm_files::{FileFault, Refusal, Slot, Stop};
 use hm_format::Format;
 use hm_replica::{Replica, leave};
 use hm_report::{Conflict, Outcome, write_report};
-use hm_sides::{close_base, close_replica};
+use hm_sides::{Side, close_base, close_replica};
 use hm_text_lens::TextLens;
 use hm_tree::{Archive, Memory, Tree};
 use hm_tree_text::{write_archive, write_tree};
@@ -145,66 +145,43 @@ fn check_view(view: &Tree) -> Result<(), Stop>
     Ok(())
 }
 
-/// The texts where all three become as the right view. The bytes of the right replica stay.
-pub fn close_as_right(
-    alloc: Global,
-    formats: &[Box<dyn Format>],
-    texts: &[Box<dyn TextLens>],
-    sides: &SidePair,
-    replicas: ReplicaPair,
-) -> Result<NewTexts, Stop>
-    requires left { MayClose (handed (λ b. means b) formats.now (map (λ b. meaning b) texts.now)) (side_value sides.now.left) (replica_value replicas.left) replicas.right.view }
-    requires right { MayClose (handed (λ b. means b) formats.now (map (λ b. meaning b) texts.now)) (side_value sides.now.right) (replica_value replicas.right) replicas.right.view }
-    ensures closes { Computes (Closes (handed (λ b. means b) formats.now (map (λ b. meaning b) texts.now)) (sides_of sides.now) (replicas_of replicas) (all_as replicas.right.view)) (seen new_texts result) }
-    ensures tells { IfOk result (λ made. Tells [] made.output) }
-{
-    let ReplicaPair { left, right } = replicas;
-    let Replica {
-        bytes,
-        concrete,
-        view,
-    } = right;
-    drop(concrete);
-    let fits = check_view(&view);
-    let archive = write_tree(alloc, &view)?;
-    let left = close_replica(alloc, Slot::A, formats, texts, &sides.left, left, view)?;
-    fits?;
-    Ok(NewTexts {
-        archive,
-        left,
-        right: bytes,
-        output: output_of(alloc, &[])?,
-    })
+/// What the archive and a replica are to hold where they become as the view of the other one, which keeps its bytes.
+#[derive(Drop)]
+pub struct OneSided {
+    pub archive: Vec<u8>,
+    pub made: Vec<u8>,
+    pub kept: Vec<u8>,
+    pub output: Output,
 }
 
-/// The same with the sides exchanged.
-pub fn close_as_left(
+/// The texts where a replica and the archive become as the view of the other one.
+pub fn close_as(
     alloc: Global,
+    slot: Slot,
     formats: &[Box<dyn Format>],
     texts: &[Box<dyn TextLens>],
-    sides: &SidePair,
-    replicas: ReplicaPair,
-) -> Result<NewTexts, Stop>
-    requires left { MayClose (handed (λ b. means b) formats.now (map (λ b. meaning b) texts.now)) (side_value sides.now.left) (replica_value replicas.left) replicas.left.view }
-    requires right { MayClose (handed (λ b. means b) formats.now (map (λ b. meaning b) texts.now)) (side_value sides.now.right) (replica_value replicas.right) replicas.left.view }
-    ensures closes { Computes (Closes (handed (λ b. means b) formats.now (map (λ b. meaning b) texts.now)) (sides_of sides.now) (replicas_of replicas) (all_as replicas.left.view)) (seen new_texts result) }
+    side: &Side,
+    replica: Replica,
+    other: Replica,
+) -> Result<OneSided, Stop>
+    requires { MayClose (handed (λ b. means b) formats.now (map (λ b. meaning b) texts.now)) (side_value side.now) (replica_value replica) other.view }
+    ensures closes { Computes (ClosesAs (handed (λ b. means b) formats.now (map (λ b. meaning b) texts.now)) slot (side_value side.now) (replica_value replica) (replica_value other)) (seen one_sided_texts result) }
     ensures tells { IfOk result (λ made. Tells [] made.output) }
 {
-    let ReplicaPair { left, right } = replicas;
     let Replica {
         bytes,
         concrete,
         view,
-    } = left;
+    } = other;
     drop(concrete);
     let fits = check_view(&view);
     let archive = write_tree(alloc, &view)?;
-    let right = close_replica(alloc, Slot::B, formats, texts, &sides.right, right, view)?;
+    let made = close_replica(alloc, slot, formats, texts, side, replica, view)?;
     fits?;
-    Ok(NewTexts {
+    Ok(OneSided {
         archive,
-        left: bytes,
-        right,
+        made,
+        kept: bytes,
         output: output_of(alloc, &[])?,
     })
 }

@@ -13,7 +13,7 @@ ghost use Rattle.hm_run.specs.Handed.{handed};
 ghost use Rattle.hm_run.specs.Reads.{before_of, before_with, AreOpened};
 ghost use Rattle.hm_run.specs.Verdict.{news_of, new_texts, MakesTexts, Makes};
 
-use crate::closing::{NewTexts, close, close_as_left, close_as_right};
+use crate::closing::{NewTexts, close, close_as};
 use crate::read::{BasePair, Inputs, ReplicaPair, SidePair, read_all};
 use hm_command::{Files, Output};
 use hm_files::{NewFile, Slot, Stop, measure_all};
@@ -90,11 +90,25 @@ fn make(
     } = inputs;
     if archive.records(&replicas.left.view) {
         drop(archive);
-        return close_as_right(alloc, formats, texts, &sides, replicas);
+        let ReplicaPair { left, right } = replicas;
+        let one = close_as(alloc, Slot::A, formats, texts, &sides.left, left, right)?;
+        return Ok(NewTexts {
+            archive: one.archive,
+            left: one.made,
+            right: one.kept,
+            output: one.output,
+        });
     }
     if archive.records(&replicas.right.view) {
         drop(archive);
-        return close_as_left(alloc, formats, texts, &sides, replicas);
+        let ReplicaPair { left, right } = replicas;
+        let one = close_as(alloc, Slot::B, formats, texts, &sides.right, right, left)?;
+        return Ok(NewTexts {
+            archive: one.archive,
+            left: one.kept,
+            right: one.made,
+            output: one.output,
+        });
     }
     make_both(alloc, formats, texts, &schema, &sides, archive, replicas)
 }
