@@ -7,17 +7,17 @@ ghost use Rattle.hm_components.specs.Components as spec;
 ghost use Rattle.hm_components.specs.Lent.{texts, component_of, piece_of, layout_of, HasLines, HaveLines};
 ghost use Rattle.hm_format_cases.specs.Shown.{one_property};
 
+use crate::setting::{Texts, expect};
 use hm_component_writer::rewrite;
 use hm_components::{Component, Kind, Layout, Piece, items_of};
 use hm_item_trees::{item_lists, item_tree};
 use hm_lines::parts;
 use hm_properties::Line;
-use hm_tree::Name;
+use hm_tree::{Memory, Name};
 use std::alloc::Global;
-use std::process::Abort;
 use std::test::Fail;
 
-fn line(text: &str) -> Line<'_>
+fn line(text: &'static str) -> Line<'static>
     ensures { IsLine (line_of result) }
 {
     Line {
@@ -26,7 +26,7 @@ fn line(text: &str) -> Line<'_>
     }
 }
 
-fn with_parts<'a>(alloc: Global, texts: &[&'a str]) -> Result<Vec<Line<'a>>, Fail>
+fn with_parts(alloc: Global, texts: Texts) -> Result<Vec<Line<'static>>, Memory>
     ensures { IfOk result (λ lines. AreLines lines.items) }
 {
     let mut lines = Vec::new(alloc);
@@ -37,7 +37,7 @@ fn with_parts<'a>(alloc: Global, texts: &[&'a str]) -> Result<Vec<Line<'a>>, Fai
 }
 
 // One line is of no component; more of them are one.
-fn piece<'a>(alloc: Global, lines: &[&'a str]) -> Result<Piece<'a>, Fail>
+fn piece(alloc: Global, lines: Texts) -> Result<Piece<'static>, Fail>
     ensures { IfOk result HasLines }
 {
     if let [line] = lines {
@@ -52,7 +52,7 @@ fn piece<'a>(alloc: Global, lines: &[&'a str]) -> Result<Piece<'a>, Fail>
     }))
 }
 
-fn pieces<'a>(alloc: Global, all: &[&[&'a str]]) -> Result<Vec<Piece<'a>>, Fail>
+fn pieces(alloc: Global, all: &[Texts]) -> Result<Vec<Piece<'static>>, Fail>
     ensures { IfOk result (λ pieces. HaveLines pieces.items) }
 {
     let mut pieces = Vec::new(alloc);
@@ -62,7 +62,17 @@ fn pieces<'a>(alloc: Global, all: &[&[&'a str]]) -> Result<Vec<Piece<'a>>, Fail>
     Ok(pieces)
 }
 
-fn append<'a>(lines: &mut Vec<&'a str>, piece: &Piece<'a>) -> Result<(), Fail>
+// A file that ends with the line `Z`.
+fn layout(alloc: Global, all: &[Texts]) -> Result<Layout<'static>, Fail>
+    ensures { IfOk result (λ layout. HaveLines layout.pieces.items) }
+{
+    Ok(Layout {
+        pieces: pieces(alloc, all)?,
+        end: vec![in alloc; "Z"]?,
+    })
+}
+
+fn append(lines: &mut Vec<&'static str>, piece: &Piece<'static>) -> Result<(), Memory>
     ensures { OnOk result (texts lines.new.items ≡ texts lines.old.items ++ spec.piece_lines (piece_of piece.now)) }
 {
     match piece {
@@ -72,7 +82,7 @@ fn append<'a>(lines: &mut Vec<&'a str>, piece: &Piece<'a>) -> Result<(), Fail>
     Ok(())
 }
 
-fn append_all<'a>(lines: &mut Vec<&'a str>, component: &Component<'a>) -> Result<(), Fail>
+fn append_all(lines: &mut Vec<&'static str>, component: &Component<'static>) -> Result<(), Memory>
     ensures { OnOk result (texts lines.new.items ≡ texts lines.old.items ++ spec.lines_of (component_of component.now)) }
 {
     for line in &component.lines {
@@ -82,7 +92,7 @@ fn append_all<'a>(lines: &mut Vec<&'a str>, component: &Component<'a>) -> Result
     Ok(())
 }
 
-fn lines_of<'a>(alloc: Global, layout: &Layout<'a>) -> Result<Vec<&'a str>, Fail>
+fn lines_of(alloc: Global, layout: &Layout<'static>) -> Result<Vec<&'static str>, Memory>
     ensures { IfOk result (λ lines. texts lines.items ≡ spec.all_lines (layout_of layout.now)) }
 {
     let mut lines = Vec::new(alloc);
@@ -95,7 +105,7 @@ fn lines_of<'a>(alloc: Global, layout: &Layout<'a>) -> Result<Vec<&'a str>, Fail
     Ok(lines)
 }
 
-fn kind(alloc: Global) -> Result<Kind<'static>, Fail>
+fn kind(alloc: Global) -> Result<Kind<'static>, Memory>
     ensures word { IfOk result (λ kind. IsWord kind.key) }
     ensures front { IfOk result (λ kind. AreLines kind.front.items) }
     ensures more { IfOk result (λ kind. AreLines kind.more.items) }
@@ -108,7 +118,7 @@ fn kind(alloc: Global) -> Result<Kind<'static>, Fail>
     })
 }
 
-fn shown(alloc: Global) -> Result<Vec<(Name, bool)>, Fail>
+fn shown(alloc: Global) -> Result<Vec<(Name, bool)>, Memory>
     ensures { IfOk result (λ shown. shown.items ≡ one_property) }
 {
     let telephone = Name::from_text(alloc, "TEL")?;
@@ -116,19 +126,9 @@ fn shown(alloc: Global) -> Result<Vec<(Name, bool)>, Fail>
 }
 
 // What is written of some components where those of others are shown.
-fn written<'a>(
-    alloc: Global,
-    before: &[&[&'a str]],
-    other: &[&[&'a str]],
-) -> Result<Option<Vec<u8>>, Fail> {
-    let old = Layout {
-        pieces: pieces(alloc, before)?,
-        end: vec![in alloc; "Z"]?,
-    };
-    let new = Layout {
-        pieces: pieces(alloc, other)?,
-        end: vec![in alloc; "Z"]?,
-    };
+fn written(alloc: Global, before: &[Texts], other: &[Texts]) -> Result<Option<Vec<u8>>, Fail> {
+    let old = layout(alloc, before)?;
+    let new = layout(alloc, other)?;
     let kind = kind(alloc)?;
     let shown = shown(alloc)?;
     let Ok(_) = items_of(alloc, &kind.key, &shown, &old) else {
@@ -145,55 +145,63 @@ fn written<'a>(
     Ok(rewrite(alloc, &kind, &shown, &old, &lines, &lists)?)
 }
 
-fn expect(
-    rt: &impl Abort,
-    alloc: Global,
-    before: &[&[&str]],
-    other: &[&[&str]],
-    want: Option<&str>,
-) -> Result<(), Fail> {
-    let text = written(alloc, before, other)?;
-    assert_eq!(rt; text.as_deref(), want.map(|text| text.as_bytes()));
+// The lines of some pieces, those of others that are to be shown, and what is written; none where nothing is.
+type Case = (&'static [Texts], &'static [Texts], Option<&'static str>);
+
+fn is_written(alloc: Global, case: &Case) -> Result<bool, Fail> {
+    let (before, other, want) = case;
+    match written(alloc, before, other)? {
+        Some(text) => Ok(*want == str::from_utf8(&text).ok()),
+        None => Ok(want.is_none()),
+    }
+}
+
+fn expect_written(alloc: Global, cases: &[Case]) -> Result<(), Fail> {
+    for case in cases {
+        expect(is_written(alloc, case)?, case.2.unwrap_or("nothing"))?;
+    }
     Ok(())
 }
 
+const SURVIVORS: &[Case] = &[(
+    &[
+        &["A:1"],
+        &["BEGIN", "FN:Ann", "TEL:1", "END"],
+        &["A:2"],
+        &["BEGIN", "FN:Bob", "X:", "END"],
+        &["BEGIN", "FN:Ann", "TEL:2", "END"],
+    ],
+    &[
+        &["BEGIN", "FN:Ann", "TEL:1", "TEL:3", "END"],
+        &["BEGIN", "FN:Eve", "TEL:4", "END"],
+    ],
+    Some(
+        "A:1\r\nBEGIN\r\nFN:Ann\r\nTEL:1\r\nTEL:3\r\nEND\r\nA:2\r\nBEGIN\r\nFN:Eve\r\nVERSION:4.0\r\nTEL:4\r\nEND\r\nZ\r\n",
+    ),
+)];
+
 #[test]
 fn components_survive_and_new_ones_follow(rt: HostRuntime) -> Result<(), Fail> {
-    let alloc = rt.alloc();
-    expect(
-        &rt,
-        alloc,
-        &[
-            &["A:1"],
-            &["BEGIN", "FN:Ann", "TEL:1", "END"],
-            &["A:2"],
-            &["BEGIN", "FN:Bob", "X:", "END"],
-            &["BEGIN", "FN:Ann", "TEL:2", "END"],
-        ],
-        &[
-            &["BEGIN", "FN:Ann", "TEL:1", "TEL:3", "END"],
-            &["BEGIN", "FN:Eve", "TEL:4", "END"],
-        ],
-        Some(
-            "A:1\r\nBEGIN\r\nFN:Ann\r\nTEL:1\r\nTEL:3\r\nEND\r\nA:2\r\nBEGIN\r\nFN:Eve\r\nVERSION:4.0\r\nTEL:4\r\nEND\r\nZ\r\n",
-        ),
-    )
+    expect_written(rt.alloc(), SURVIVORS)
 }
+
+const ANN: Texts = &["BEGIN", "FN:Ann", "TEL:1", "X:", "END"];
+
+// The same card, by other lines.
+const OTHER: Texts = &["BEGIN", "TEL:1", "FN:Ann", "END"];
+
+const STAY: &[Case] = &[
+    (&[&["A:1"], ANN, &["A:2"]], &[ANN], None),
+    (&[&["A:1"], ANN, &["A:2"]], &[OTHER], None),
+    (&[&["A:1"], ANN], &[], Some("A:1\r\nZ\r\n")),
+    (
+        &[&["A:1"]],
+        &[OTHER],
+        Some("A:1\r\nBEGIN\r\nFN:Ann\r\nVERSION:4.0\r\nTEL:1\r\nEND\r\nZ\r\n"),
+    ),
+];
 
 #[test]
 fn lines_that_stay_are_not_written(rt: HostRuntime) -> Result<(), Fail> {
-    let alloc = rt.alloc();
-    let ann: &[&str] = &["BEGIN", "FN:Ann", "TEL:1", "X:", "END"];
-    // The same card, by other lines.
-    let other: &[&str] = &["BEGIN", "TEL:1", "FN:Ann", "END"];
-    expect(&rt, alloc, &[&["A:1"], ann, &["A:2"]], &[ann], None)?;
-    expect(&rt, alloc, &[&["A:1"], ann, &["A:2"]], &[other], None)?;
-    expect(&rt, alloc, &[&["A:1"], ann], &[], Some("A:1\r\nZ\r\n"))?;
-    expect(
-        &rt,
-        alloc,
-        &[&["A:1"]],
-        &[other],
-        Some("A:1\r\nBEGIN\r\nFN:Ann\r\nVERSION:4.0\r\nTEL:1\r\nEND\r\nZ\r\n"),
-    )
+    expect_written(rt.alloc(), STAY)
 }

@@ -1,56 +1,48 @@
 //! A file whose tree has changed.
+use crate::setting::{expect, names_of};
 use hm_items::{Slot, next_place, no_counts, plan};
-use hm_tree::{Memory, Name};
-use std::alloc::Global;
+use hm_tree::Name;
 use std::test::Fail;
 
-fn named(alloc: Global, names: &[&str]) -> Result<Vec<Name>, Memory> {
-    let mut all = Vec::new(alloc);
-    for name in names {
-        all.push(Name::from_text(alloc, name)?)?;
-    }
-    Ok(all)
-}
+const SLOTS: &[Slot] = &[
+    Slot {
+        edge: 1,
+        from: Some(0),
+        place: 0,
+    },
+    Slot {
+        edge: 0,
+        from: Some(1),
+        place: 0,
+    },
+    Slot {
+        edge: 1,
+        from: Some(2),
+        place: 1,
+    },
+    Slot {
+        edge: 0,
+        from: None,
+        place: 1,
+    },
+    Slot {
+        edge: 2,
+        from: None,
+        place: 0,
+    },
+];
 
 // Two of three items with one key stay, one of another key goes, and there is an item of a third key.
 #[test]
 fn survivors_and_new_items(rt: HostRuntime) -> Result<(), Fail> {
     let alloc = rt.alloc();
-    let keys = named(alloc, &["b", "a", "b", "c", "b"])?;
+    let keys = names_of(alloc, &["b", "a", "b", "c", "b"])?;
     let a = Name::from_text(alloc, "a")?;
     let b = Name::from_text(alloc, "b")?;
     let d = Name::from_text(alloc, "d")?;
     let wanted = [(&a, 2), (&b, 2), (&d, 1)];
     let slots = plan(alloc, &keys, &wanted)?;
-    let want = [
-        Slot {
-            edge: 1,
-            from: Some(0),
-            place: 0,
-        },
-        Slot {
-            edge: 0,
-            from: Some(1),
-            place: 0,
-        },
-        Slot {
-            edge: 1,
-            from: Some(2),
-            place: 1,
-        },
-        Slot {
-            edge: 0,
-            from: None,
-            place: 1,
-        },
-        Slot {
-            edge: 2,
-            from: None,
-            place: 0,
-        },
-    ];
-    assert_eq!(&rt; slots.as_slice(), want.as_slice());
-    Ok(())
+    expect(slots.as_slice() == SLOTS, "the slots")
 }
 
 // The same of one item after another.
@@ -61,7 +53,7 @@ fn places_of_survivors(rt: HostRuntime) -> Result<(), Fail> {
     let b = Name::from_text(alloc, "b")?;
     let wanted = [(&a, 2), (&b, 1)];
     let mut counts = no_counts(alloc, &wanted)?;
-    assert_eq!(&rt; next_place(&wanted, &b, 0, &mut counts)?, Some((1, 0)));
-    assert_eq!(&rt; next_place(&wanted, &b, 0, &mut counts)?, None);
-    Ok(())
+    let first = next_place(&wanted, &b, 0, &mut counts)?;
+    let second = next_place(&wanted, &b, 0, &mut counts)?;
+    expect(first == Some((1, 0)) && second.is_none(), "the places")
 }

@@ -1,63 +1,70 @@
-//! Files of formats, read and written under options.
+//! Names and lines of some texts, and files of formats, read and written under options.
 ghost use Rattle.std.specs.Prelude.{All, IsUtf8, IfOk};
 ghost use Rattle.hm_schema.specs.Values.{options_value};
 ghost use Rattle.hm_format.specs.Options.{AreSound};
 
-use hm_format::{Format, FormatFault};
+use hm_format::{Format, FormatFault, values_are_texts};
 use hm_schema::Options;
-use hm_tree::{Name, Tree};
+use hm_tree::{Memory, Name, NameSet, Path, Tree};
 use std::alloc::Global;
-use std::process::Abort;
 use std::test::Fail;
 
-// Names such as `a,b`.
-fn names(alloc: Global, words: &str) -> Result<Vec<Name>, Fail>
-    ensures { IfOk result (λ names. All IsUtf8 names.items) }
-{
+/// Some texts.
+pub type Texts = &'static [&'static str];
+
+/// The keys of options, each with its values.
+pub type Pairs = &'static [(&'static str, Texts)];
+
+/// What is told of a file: a word, and a number.
+pub type Told = (&'static str, usize);
+
+pub fn names_of(alloc: Global, texts: &[&str]) -> Result<Vec<Name>, Memory> {
     let mut names = Vec::new(alloc);
-    for word in words.split(',') {
-        if !word.is_empty() {
-            names.push(Name::from_text(alloc, word)?)?;
-        }
+    for text in texts {
+        names.push(Name::from_text(alloc, text)?)?;
     }
     Ok(names)
 }
 
-/// Options of one key, such as `show=BDAY,TEL`.
-pub fn option(alloc: Global, key: &str, values: &str) -> Result<Options, Fail>
+pub fn set_of(alloc: Global, texts: &[&str]) -> Result<NameSet, Memory> {
+    NameSet::from_list(names_of(alloc, texts)?)
+}
+
+/// The bytes of some texts.
+pub fn lines_of(alloc: Global, texts: &[&str]) -> Result<Vec<Vec<u8>>, Memory>
+    ensures { IfOk result (λ lines. All (λ line. IsUtf8 line.items) lines.items) }
+{
+    let mut lines = Vec::new(alloc);
+    for text in texts {
+        lines.push(Vec::from_slice(alloc, text.as_bytes())?)?;
+    }
+    Ok(lines)
+}
+
+pub fn pairs_of(alloc: Global, pairs: Pairs) -> Result<Vec<(Name, Vec<Name>)>, Memory> {
+    let mut made = Vec::new(alloc);
+    for (key, values) in pairs {
+        made.push((Name::from_text(alloc, key)?, names_of(alloc, values)?))?;
+    }
+    Ok(made)
+}
+
+fn options_of(alloc: Global, pairs: Pairs) -> Result<Options, Memory>
     ensures { IfOk result (λ options. AreSound (options_value options)) }
 {
-    let pair = (Name::from_text(alloc, key)?, names(alloc, values)?);
+    let pairs = pairs_of(alloc, pairs)?;
+    values_are_texts(&pairs);
     Ok(Options {
-        pairs: vec![in alloc; pair]?,
+        pairs,
         type_names: Vec::new(alloc),
         types: Vec::new(alloc),
     })
 }
 
-/// Options of tables, such as `key=Name show=Born many=Phone`.
-pub fn options(alloc: Global, key: &str, show: &str, many: &str) -> Result<Options, Fail>
-    ensures { IfOk result (λ options. AreSound (options_value options)) }
-{
-    let key = (Name::from_text(alloc, "key")?, names(alloc, key)?);
-    let show = (Name::from_text(alloc, "show")?, names(alloc, show)?);
-    let many = (Name::from_text(alloc, "many")?, names(alloc, many)?);
-    Ok(Options {
-        pairs: vec![in alloc; key, show, many]?,
-        type_names: Vec::new(alloc),
-        types: Vec::new(alloc),
-    })
-}
-
-/// The key for which options are refused; none where they are those of a format.
-pub fn bad_key<F: Format>(
-    alloc: Global,
-    format: &F,
-    options: &Options,
-) -> Result<Option<Name>, Fail>
-    requires { AreSound (options_value options.now) }
-{
-    match format.schema(alloc, options) {
+// The key for which options are refused; none where they are those of a format.
+fn bad_key<F: Format>(alloc: Global, format: &F, pairs: Pairs) -> Result<Option<Name>, Fail> {
+    let options = options_of(alloc, pairs)?;
+    match format.schema(alloc, &options) {
         Ok(_) => Ok(None),
         Err(FormatFault::BadOption { key }) => Ok(Some(key)),
         Err(_) => Err("there was no memory".into()),
@@ -65,15 +72,27 @@ pub fn bad_key<F: Format>(
 }
 
 /// Some key was found to be bad, or none where that is empty.
-pub fn expect_key(rt: &impl Abort, found: Option<Name>, bad: &str) {
+pub fn expect_key(found: Option<Name>, bad: &str) -> Result<(), Fail> {
     match found {
-        Some(key) => assert_eq!(rt; key.text(), bad),
-        None => assert_eq!(rt; "", bad),
+        Some(key) => expect(key.text() == bad, key.text()),
+        None => expect(bad.is_empty(), bad),
     }
 }
 
-/// The tree of a file, or why it has none.
-pub fn read<F: Format>(
+/// Each of these options is refused for a key, or none where that is empty.
+pub fn expect_bad_keys<F: Format>(
+    alloc: Global,
+    format: &F,
+    cases: &[(Pairs, &str)],
+) -> Result<(), Fail> {
+    for (pairs, bad) in cases {
+        expect_key(bad_key(alloc, format, pairs)?, bad)?;
+    }
+    Ok(())
+}
+
+// What a file is read as.
+fn read<F: Format>(
     alloc: Global,
     format: &F,
     options: &Options,
@@ -87,16 +106,22 @@ pub fn read<F: Format>(
     }
 }
 
-// Why a file isn't read, and the number of that; or how many keys it has.
-fn told<F: Format>(
+/// The tree of a file.
+pub fn tree_of<F: Format>(
     alloc: Global,
     format: &F,
-    options: &Options,
-    bytes: &[u8],
-) -> Result<(&'static str, usize), Fail>
-    requires { AreSound (options_value options.now) }
-{
-    match read(alloc, format, options, bytes)? {
+    pairs: Pairs,
+    text: &str,
+) -> Result<Tree, Fail> {
+    match read(alloc, format, &options_of(alloc, pairs)?, text.as_bytes())? {
+        Ok(tree) => Ok(tree),
+        Err(_) => Err("a file isn't read".into()),
+    }
+}
+
+// Why a file isn't read, and the number of that; or how many keys it has.
+fn told<F: Format>(alloc: Global, format: &F, pairs: Pairs, bytes: &[u8]) -> Result<Told, Fail> {
+    match read(alloc, format, &options_of(alloc, pairs)?, bytes)? {
         Ok(tree) => Ok(("read", tree.count())),
         Err(FormatFault::NotUtf8 { at }) => Ok(("NotUtf8", at)),
         Err(FormatFault::BadItem { number }) => Ok(("BadItem", number)),
@@ -108,35 +133,31 @@ fn told<F: Format>(
 
 /// Of a file this is told.
 pub fn expect_told<F: Format>(
-    rt: &impl Abort,
     alloc: Global,
     format: &F,
-    options: &Options,
+    pairs: Pairs,
     bytes: &[u8],
-    wanted: (&str, usize),
-) -> Result<(), Fail>
-    requires { AreSound (options_value options.now) }
-{
-    let found = told(alloc, format, options, bytes)?;
-    assert_eq!(rt; found.0, wanted.0);
-    assert_eq!(rt; found.1, wanted.1);
-    Ok(())
+    want: Told,
+) -> Result<(), Fail> {
+    let (word, number) = told(alloc, format, pairs, bytes)?;
+    if word == want.0 && number == want.1 {
+        return Ok(());
+    }
+    let case = str::from_utf8(bytes).unwrap_or("bytes");
+    Err(Fail::new(format_args!("{word} {number}: {case}")))
 }
 
-/// Whether there is a path in a tree.
-pub fn expect_path(
-    rt: &impl Abort,
-    alloc: Global,
-    tree: &Tree,
-    path: &[&str],
-    there: bool,
-) -> Result<(), Fail> {
-    let mut here = Some(tree);
-    for step in path {
-        let name = Name::from_text(alloc, step)?;
-        here = here.and_then(|tree| tree.child(&name));
+fn has_path(alloc: Global, tree: &Tree, names: &[&str]) -> Result<bool, Memory> {
+    Ok(tree.has(&Path {
+        names: names_of(alloc, names)?,
+    }))
+}
+
+/// Whether there is each path in a tree.
+pub fn expect_paths(alloc: Global, tree: &Tree, paths: &[(Texts, bool)]) -> Result<(), Fail> {
+    for (names, there) in paths {
+        expect_of(has_path(alloc, tree, names)? == *there, names)?;
     }
-    assert_eq!(rt; here.is_some(), there);
     Ok(())
 }
 
@@ -163,21 +184,50 @@ fn written<F: Format>(
     }
 }
 
-/// A file that is to show the cards of another one becomes this one.
-pub fn expect_written<F: Format>(
-    rt: &impl Abort,
+/// A file, another one whose cards it is to show, and what it becomes.
+pub type Written = [&'static str; 3];
+
+fn expect_text<F: Format>(
     alloc: Global,
     format: &F,
     options: &Options,
-    before: &str,
-    other: &str,
-    want: &str,
+    case: &Written,
 ) -> Result<(), Fail>
     requires { AreSound (options_value options.now) }
 {
+    let [before, other, want] = case;
     match written(alloc, format, options, before.as_bytes(), other.as_bytes())? {
-        Ok(text) => assert_eq!(rt; text.as_slice(), want.as_bytes(), "{before}"),
-        Err(_) => assert!(rt; false, "{before}"),
+        Ok(text) => expect(text.as_slice() == want.as_bytes(), before),
+        Err(_) => Err(Fail::new(format_args!("not written: {before}"))),
+    }
+}
+
+/// Files are written anew.
+pub fn expect_written<F: Format>(
+    alloc: Global,
+    format: &F,
+    pairs: Pairs,
+    cases: &[Written],
+) -> Result<(), Fail> {
+    let options = options_of(alloc, pairs)?;
+    for case in cases {
+        expect_text(alloc, format, &options, case)?;
     }
     Ok(())
+}
+
+/// An error that tells the case, where it isn't as it should be.
+pub fn expect(is: bool, case: &str) -> Result<(), Fail> {
+    if is {
+        return Ok(());
+    }
+    Err(Fail::new(format_args!("otherwise: {case}")))
+}
+
+/// The same of a case that has some texts.
+pub fn expect_of(is: bool, case: &[&str]) -> Result<(), Fail> {
+    if is {
+        return Ok(());
+    }
+    Err(Fail::new(format_args!("otherwise: {case:?}")))
 }

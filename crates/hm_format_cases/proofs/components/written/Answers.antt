@@ -3,8 +3,6 @@ use Rattle.hm_tree.specs.Nodes.{edges}
 use Rattle.hm_item_trees.specs.ItemTrees.{AreLists}
 use Rattle.hm_item_trees.specs.Lent.{LentList, lent_lists}
 use Rattle.hm_item_trees.proofs.Laws.{has_lists}
-use Rattle.hm_components.specs.Components.{items_of, components}
-use Rattle.hm_components.specs.Lent.{layout_of}
 use Rattle.hm_format_cases.proofs.Rising.{one_rises, lists_rise}
 use Rattle.hm_format_cases.proofs.components.written.Goals as goal
 

@@ -12,16 +12,16 @@ unfolding name_cmp
 keys_rise = tt
 
 pub next_place-requires-clause-sorted : goal.next_place-requires-clause-sorted
-next_place-requires-clause-sorted g c =
+next_place-requires-clause-sorted c =
     let a = c.in_ok-a.ensures.value in
     let b = c.in_ok-b.ensures.value in
     subst (λ (l : List (Name × ℕ)). T (is_sorted name_cmp l)) (λ i. keys (sym a i) (sym b i)) keys_rise
 
 pub next_place-requires-2-clause-sorted : goal.next_place-requires-2-clause-sorted
-next_place-requires-2-clause-sorted g c =
+next_place-requires-2-clause-sorted c =
     let a = c.in_ok-a.ensures.value in
     let b = c.in_ok-b.ensures.value in
     subst (λ (l : List (Name × ℕ)). T (is_sorted name_cmp l)) (λ i. keys (sym a i) (sym b i)) keys_rise
 
 pub next_place-requires-2-clause-counts : goal.next_place-requires-2-clause-counts
-next_place-requires-2-clause-counts g c = (c.in_ok-next_place.ensures.counts [] c.in_ok-counts.ensures).same
+next_place-requires-2-clause-counts c = (c.in_ok-first.ensures.counts [] c.in_ok-counts.ensures).same

@@ -12,7 +12,7 @@ unfolding name_cmp
 keys_rise = tt
 
 pub plan-requires : goal.plan-requires
-plan-requires g c =
+plan-requires c =
     let a = c.in_ok-a.ensures.value in
     let b = c.in_ok-b.ensures.value in
     let d = c.in_ok-d.ensures.value in
