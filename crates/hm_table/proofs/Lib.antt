@@ -18,4 +18,4 @@ mod Replaced
 pub mod Forms
 mod MemberNode
 pub mod Shifted
-mod EqualNodes
+pub mod EqualNodes
