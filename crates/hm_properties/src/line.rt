@@ -108,7 +108,8 @@ fn begins_with_text(value: &str) -> bool
     begins_text(*byte)
 }
 
-// Whether a byte stands for itself in the text of a value, and isn't a space: then there is a text, whatever is behind it.
+// Whether a byte is above the space and stands for itself in the text of a value: then there is a text, whatever is behind it.
+// Of other bytes nothing is said, since what is behind them tells.
 #[tactic(auto, using(crate::proofs::PlainBytes::plain_begins_text))]
 fn begins_text(byte: u8) -> bool
     ensures { IsTrue result → (rest : List ℕ) → IsTrue (is_text (text_of (byte ∷ rest))) }

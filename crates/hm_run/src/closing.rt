@@ -154,7 +154,7 @@ pub struct OneSided {
     pub output: Output,
 }
 
-/// The texts where a replica and the archive become as the view of the other one.
+/// The texts where the replica of a slot and the archive become as the view of the other replica, whose bytes stay.
 pub fn close_as(
     alloc: Global,
     slot: Slot,
