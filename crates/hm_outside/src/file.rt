@@ -2,9 +2,10 @@
 ghost use Rattle.std.specs.Prelude.{◌≡◌, ℕ, ◌<◌, ◌++◌, ◌∷◌, [], None, Some, IfOk, IfSome, OnOk, length, vec_len, vec_capacity};
 ghost use Rattle.hm_outside.specs.Answers.{IsWithin, LoadsFrom};
 
+use crate::kind::{metadata_of, open_file};
 use crate::outside::{Failure, Kind, Loaded, Store, Stored};
 use crate::path::{follow, has_folder, is_absent};
-use crate::replace::{is_held, metadata_of, write_file};
+use crate::replace::{is_held, write_file};
 use crate::seen::{Seen, Stamp, is_another, is_changed, is_loaded, keep, room_for};
 use hm_tree::{Memory, Name};
 use std::alloc::{AllocError, Global};
@@ -19,8 +20,9 @@ const PIECE: usize = 65536;
 
 /// The files of a runtime: a name is a path, and its bytes are those of the file there.
 ///
-/// `load` reads at most one byte past the limit. A folder, as any other thing that cannot be read, is a failed call,
-/// and so is a file that was loaded under another name. Only what is not there, in a folder that is, is absent.
+/// `load` reads at most one byte past the limit. What is there and is no file is a failed call, and isn't opened: a
+/// folder, a device, or a pipe, which would have to be waited for. So is a file that was loaded under another name. Only
+/// what is not there, in a folder that is, is absent.
 ///
 /// `replace` leaves alone a file that has the bytes, and fails where it is not as it was loaded: another program has
 /// changed it meanwhile. Else it fills NAME.harmony-new, which has the mode of the file that it replaces before it has
@@ -97,7 +99,7 @@ fn read_open<F: OpenFile + Read + Drop>(
         return (Loaded::Failed, None);
     };
     let stamp = Stamp::of(&metadata);
-    if is_another(seen, name, &stamp) {
+    if !metadata.is_file() || is_another(seen, name, &stamp) {
         return (Loaded::Failed, None);
     }
     (read_all(alloc, file, buffer, limit), Some(stamp))
@@ -144,14 +146,10 @@ fn read<R: Files>(
     let Ok(mut buffer) = new_buffer(alloc) else {
         return (Loaded::Memory, None);
     };
-    match fs::open(rt, name.text()) {
-        Ok(file) => read_open(alloc, file, name, seen, &mut buffer, limit),
-        Err(error) => {
-            if is_absent(&error) {
-                return (read_nothing(alloc, rt, name.text()), None);
-            }
-            (Loaded::Failed, None)
-        }
+    match open_file(rt, name.text()) {
+        Ok(Some(file)) => read_open(alloc, file, name, seen, &mut buffer, limit),
+        Ok(None) => (read_nothing(alloc, rt, name.text()), None),
+        Err(_) => (Loaded::Failed, None),
     }
 }
 

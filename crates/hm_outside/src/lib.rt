@@ -7,6 +7,7 @@
 #![tactic(auto)]
 
 mod file;
+mod kind;
 mod memory;
 mod output;
 mod outside;

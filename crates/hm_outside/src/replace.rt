@@ -1,33 +1,12 @@
 //! Replacing real files.
 ghost use Rattle.std.specs.Prelude.{◌≡◌, ◌↔◌, ◌<◌, IfOk, IfSome, IsTrue, length};
 
-use crate::path::{folder_of, is_absent};
+use crate::path::folder_of;
 use std::fs::{Metadata, OpenFile, OpenOptions, Permissions};
 use std::io::{ErrorKind, Read, Write};
 use std::os::unix::fs::{OpenOptionsExt, PermissionsExt};
 use std::rt::Files;
 use std::{fs, io};
-
-/// What is known of a file, or none where there is nothing. What is there and is no file, as a device, isn't to be
-/// replaced by one.
-pub fn metadata_of<R: Files>(rt: &R, name: &str) -> io::Result<Option<Metadata>> {
-    match fs::metadata(rt, name) {
-        Ok(metadata) => {
-            if metadata.is_file() {
-                Ok(Some(metadata))
-            } else {
-                Err(ErrorKind::InvalidInput.into())
-            }
-        }
-        Err(error) => {
-            if is_absent(&error) {
-                Ok(None)
-            } else {
-                Err(error)
-            }
-        }
-    }
-}
 
 // Whether a file has these bytes, read a piece as long as the buffer at a time.
 fn has_bytes<F: Read + Drop>(mut file: F, buffer: &mut [u8], bytes: &[u8]) -> io::Result<bool>
