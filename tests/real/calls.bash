@@ -115,7 +115,8 @@ fails() {
     further
 }
 
-# meanwhile SLOT WORD: another program has changed this file since it was loaded, so it stays as that program left it.
+# meanwhile SLOT WORD: another program has changed this file since it was loaded, or has put a pipe into its place, so it
+# stays as that program left it.
 # The run waits before it closes the last file, which was read.
 meanwhile() {
     begin "$1 is $2 meanwhile"
@@ -137,12 +138,17 @@ meanwhile() {
         replaced) make ../edited '{"edited"}' && mv ../edited "$1" ;;
         rewritten | made) make "$1" '{"edited"}' ;;
         removed) rm "$1" ;;
+        piped) rm "$1" && mkfifo "$1" ;;
         esac
     } &
     sync
     wait $!
     rm -f "../want/$1"
-    [[ $2 == removed ]] || make "../want/$1" '{"edited"}'
+    case $2 in
+    removed) ;;
+    piped) [[ -p $1 ]] && rm "$1" ;;
+    *) make "../want/$1" '{"edited"}' ;;
+    esac || fault "$1 has changed"
     ends 4 "harmony: WriteFault $1"
     finish
 }
@@ -172,7 +178,7 @@ if can_trace; then
         done
     done
     for slot in A B archive; do
-        for word in replaced rewritten removed; do
+        for word in replaced rewritten removed piped; do
             meanwhile $slot $word
         done
     done

@@ -18,6 +18,9 @@ can_heed() {
     "${heeding[@]}" true 2>/dev/null && ! "${heeding[@]}" cat "$scratch/locked" 2>/dev/null
 }
 
+make_socket() {
+    python3 -c 'import socket, sys; socket.socket(socket.AF_UNIX).bind(sys.argv[1])' "$1" 2>/dev/null
+}
 
 # spoil FAULT SLOT: the file of the slot is in a folder of its own
 spoil() {
@@ -28,6 +31,10 @@ spoil() {
     'no permission to read the folder') chmod 300 own ;;
     'no permission to write into the folder') chmod 555 own ;;
     'a folder') mv "$file" ../aside && mkdir "$file" ;;
+    'a pipe') mv "$file" ../aside && mkfifo "$file" ;;
+    'a socket') mv "$file" ../aside && make_socket "$file" ;;
+    'a link to a device without bytes') mv "$file" ../aside && ln -s /dev/null "$file" ;;
+    'a link to a device without an end') mv "$file" ../aside && ln -s /dev/zero "$file" ;;
     'a link to itself') mv "$file" ../aside && ln -s "$2" "$file" ;;
     'a link to nothing') mv "$file" ../aside && ln -s nowhere "$file" ;;
     'a link into no folder') mv "$file" ../aside && ln -s nowhere/file "$file" ;;
@@ -54,6 +61,8 @@ mend() {
     'no permission to read') [[ $(stat -c %a "$file") == 0 ]] && chmod 644 "$file" ;;
     'no permission to '*) chmod 755 own ;;
     'a folder') rmdir "$file" && mv ../aside "$file" ;;
+    'a pipe') [[ -p $file ]] && rm "$file" && mv ../aside "$file" ;;
+    'a socket') [[ -S $file ]] && rm "$file" && mv ../aside "$file" ;;
     'a link into a folder that may not be written to')
         [[ -L $file ]] && rm "$file" && rmdir own && chmod 755 aside && mv aside own
         ;;
@@ -208,6 +217,15 @@ else
 fi
 
 not_read 'a folder'
+# Nothing is waited for and nothing is read without an end: what isn't a file isn't opened.
+not_read 'a pipe'
+not_read 'a link to a device without bytes'
+not_read 'a link to a device without an end'
+if make_socket "$scratch/socket"; then
+    not_read 'a socket'
+else
+    skip 'sockets' 'none can be made here'
+fi
 not_read 'a link to itself'
 not_read 'a file in place of the folder'
 missing 'no file'

@@ -79,15 +79,15 @@ archive_linked_to_nothing() {
     finish
 }
 
-# A device isn't replaced. As an archive it reads as one that isn't there, and only its own replacing fails.
+# A device isn't read, also where that would give no bytes, and isn't replaced.
 device_as_archive() {
     begin 'a device as archive'
-    files absent "$NEW" "$OTHER" absent "$BOTH" "$BOTH"
+    files absent "$NEW" "$OTHER" absent "$NEW" "$OTHER"
     ln -s /dev/null archive
     ln -s /dev/null ../want/archive
     sync
     [[ -c /dev/null ]] || fault '/dev/null was replaced'
-    ends 4 'harmony: WriteFault archive'
+    ends 4 'harmony: ReadFault archive'
     finish
 }
 
