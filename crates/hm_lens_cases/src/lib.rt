@@ -8,6 +8,8 @@ mod lens_files;
 #[cfg(test)]
 mod numbers;
 #[cfg(test)]
+mod outside;
+#[cfg(test)]
 mod parts;
 #[cfg(test)]
 mod sides;

@@ -1,0 +1,78 @@
+//! Runs Harmony's words over files in memory, and tells what became of the three files that a run may write.
+//!
+//! Each file of the folder that a word names is taken into a store, and no file is written. What the run puts out is
+//! printed, then a line with its status, and behind six names a line for each of the last three: `NAME is absent`,
+//! `NAME stays` where it has the bytes from before, or `NAME becomes`, with the bytes that it has now in the lines below.
+#![tactic(auto)]
+
+mod files;
+mod handed;
+
+use crate::files::{load_named, tell_named};
+use crate::handed::run_with_all;
+use hm_outside::{FileStore, MemSink, MemStore, Put, Sink, StdSink, Store};
+use hm_tree::{Memory, Name};
+use std::alloc::Global;
+use std::env;
+use std::process::ExitCode;
+
+// The words behind the program's name.
+fn words_of(alloc: Global, rt: &HostRuntime) -> Result<Vec<Name>, Memory> {
+    let mut words = Vec::new(alloc);
+    let Ok(args) = env::args(rt) else {
+        return Err(Memory);
+    };
+    for word in args.skip(1) {
+        words.push(Name::from_text(alloc, word.as_str())?)?;
+    }
+    Ok(words)
+}
+
+// The names of the files that a run of these words may write.
+fn written(words: &[Name]) -> &[Name] {
+    if words.len() == 7 && words[0].text() == "sync" {
+        &words[4..]
+    } else {
+        &[]
+    }
+}
+
+// What a run put out, and a line with its status.
+fn told(alloc: Global, output: &[u8], status: u8) -> Result<Vec<u8>, Memory> {
+    let line = format!(in alloc; "status {status}\n")?;
+    let mut text = output.to_vec(alloc)?;
+    text.extend_from_slice(line.as_bytes())?;
+    Ok(text)
+}
+
+// The same of a run of these words over a store.
+fn run_over(alloc: Global, words: &[Name], store: &mut MemStore) -> Result<Vec<u8>, Memory> {
+    let mut out = MemSink::empty(alloc);
+    let status = run_with_all(alloc, words, store, &mut out)?;
+    told(alloc, out.bytes(), status)
+}
+
+// What is printed of a run of these words over the files of a folder.
+fn report<S: Store>(alloc: Global, words: &[Name], folder: &mut S) -> Result<Vec<u8>, Memory> {
+    let mut store = MemStore::empty(alloc);
+    load_named(folder, words, &mut store)?;
+    let mut text = run_over(alloc, words, &mut store)?;
+    tell_named(&mut text, folder, written(words), &mut store)?;
+    Ok(text)
+}
+
+fn main(rt: HostRuntime) -> ExitCode {
+    let alloc = rt.alloc();
+    let Ok(words) = words_of(alloc, &rt) else {
+        return ExitCode::from(5);
+    };
+    let mut folder = FileStore::new(alloc, &rt);
+    let mut out = StdSink::new(alloc, rt.stdout());
+    match report(alloc, &words, &mut folder) {
+        Ok(text) => match out.put(&text) {
+            Put::Done => ExitCode::from(0),
+            _ => ExitCode::from(6),
+        },
+        Err(_) => ExitCode::from(5),
+    }
+}
