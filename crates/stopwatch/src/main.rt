@@ -1,9 +1,17 @@
-//! Reads a schema, an archive and two replicas, reconciles them and certifies the outcome, as far as the word says.
+//! Reads a schema, an archive and two replicas, reconciles them and certifies the outcome, as far as the first word
+//! says: `read`, `reconcile` or `certify`. Behind `certify` further words claim another outcome: a part that is changed,
+//! as `archive`, `left`, `right`, `conflicts`, the `order` of these, the `reason` of the last one or the `path` that it
+//! tells; or, behind `stop`, that both sides stay as they were, for the reason `earlier`, `lost NAME..` or `names NAME..`.
+//! The status is 0 where all was done, and the outcome is certified; 1 where it isn't, or a side is no member; 2 where the
+//! words have no meaning; and 5 where a file isn't read.
 #![tactic(auto)]
 
 ghost use Rattle.std.specs.Prelude.{IfOk};
 ghost use Rattle.hm_schema.specs.Membership.{HasNoTwins};
 
+mod claims;
+
+use crate::claims::claim;
 use hm_certify::certify;
 use hm_outside::{FileStore, Loaded, Store};
 use hm_reconcile::reconcile;
@@ -14,6 +22,18 @@ use hm_tree_text::{read_archive, read_tree};
 use std::alloc::Global;
 use std::env;
 use std::process::ExitCode;
+
+// The status where all was done, and the outcome is certified.
+const DONE: u8 = 0;
+
+// Where a side is no member, or the outcome isn't certified.
+const REFUSED: u8 = 1;
+
+// Where the words have no meaning.
+const USAGE: u8 = 2;
+
+// Where a file isn't read, or memory ran out.
+const FAULT: u8 = 5;
 
 #[derive(Drop)]
 struct Values {
@@ -57,48 +77,68 @@ fn read<S: Store>(alloc: Global, store: &mut S) -> Result<Values, Memory>
     })
 }
 
-fn go_on<S: Store>(alloc: Global, store: &mut S, word: &str) -> Result<bool, Memory> {
+// Goes on as far as a step, and answers a status. Behind `certify` there are the words of a claim.
+fn go_on<S: Store>(alloc: Global, store: &mut S, step: &str, words: &[Name]) -> Result<u8, Memory> {
     let values = read(alloc, store)?;
     if !values.schema.member(&values.left) {
-        return Ok(false);
+        return Ok(REFUSED);
     }
     if !values.schema.member(&values.right) {
-        return Ok(false);
+        return Ok(REFUSED);
     }
-    if word == "read" {
-        return Ok(true);
+    if step == "read" {
+        return Ok(DONE);
     }
-    let outcome = reconcile(
+    let mut outcome = reconcile(
         alloc,
         &values.schema,
         &values.archive,
         &values.left,
         &values.right,
     )?;
-    if word == "reconcile" {
-        return Ok(true);
+    if step == "reconcile" {
+        return Ok(DONE);
     }
-    Ok(certify(
+    if !claim(alloc, &mut outcome, &values.left, &values.right, words)? {
+        return Ok(USAGE);
+    }
+    if certify(
         &values.schema,
         &values.archive,
         &values.left,
         &values.right,
         &outcome,
-    ))
+    ) {
+        Ok(DONE)
+    } else {
+        Ok(REFUSED)
+    }
+}
+
+// The words behind the program's name.
+fn words_of(alloc: Global, rt: &HostRuntime) -> Result<Vec<Name>, Memory> {
+    let mut words = Vec::new(alloc);
+    let Ok(args) = env::args(rt) else {
+        return Err(Memory);
+    };
+    for word in args.skip(1) {
+        words.push(Name::from_text(alloc, word.as_str())?)?;
+    }
+    Ok(words)
+}
+
+// The status of the words.
+fn status_of(alloc: Global, rt: &HostRuntime) -> Result<u8, Memory> {
+    let words = words_of(alloc, rt)?;
+    let Some((step, rest)) = words.split_first() else {
+        return Ok(USAGE);
+    };
+    if !matches!(step.text(), "read" | "reconcile" | "certify") {
+        return Ok(USAGE);
+    }
+    go_on(alloc, &mut FileStore::new(alloc, rt), step.text(), rest)
 }
 
 fn main(rt: HostRuntime) -> ExitCode {
-    let alloc = rt.alloc();
-    let mut store = FileStore::new(alloc, &rt);
-    let Ok(mut words) = env::args(&rt) else {
-        return ExitCode::from(2);
-    };
-    let Some(word) = words.nth(1) else {
-        return ExitCode::from(2);
-    };
-    match go_on(alloc, &mut store, word.as_str()) {
-        Ok(true) => ExitCode::from(0),
-        Ok(false) => ExitCode::from(1),
-        Err(_) => ExitCode::from(5),
-    }
+    ExitCode::from(status_of(rt.alloc(), &rt).unwrap_or(FAULT))
 }

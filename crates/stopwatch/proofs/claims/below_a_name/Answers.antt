@@ -1,7 +1,7 @@
 use Rattle.std.proofs.Common.{◌≡◌, false, None, refl, sym, subst}
 use Rattle.hm_tree.specs.Names.{Name}
 use Rattle.hm_tree.specs.Nodes.{Tree, below, edges, edges_of, empty}
-use Rattle.hm_certificates.proofs.alter.below_a_name.Goals as goal
+use Rattle.stopwatch.proofs.claims.below_a_name.Goals as goal
 
 nothing : (k : Name) → below k (empty {m = false}) ≡ None
 unfolding edges edges_of empty
