@@ -1,4 +1,4 @@
-//! A run with all formats and text lenses of the program.
+//! A run with the formats and the text lenses of the program.
 
 use hm_csv::Csv;
 use hm_format::{Format, Plain};
@@ -10,29 +10,13 @@ use hm_tree::{Memory, Name};
 use hm_vcard::VCard;
 use std::alloc::Global;
 
-// A text lens that is made, in a box.
+// A text lens in a box.
 fn boxed<T: Drop>(alloc: Global, lens: Result<T, Memory>) -> Result<Box<T>, Memory> {
     Ok(Box::new(alloc, lens?)?)
 }
 
-// The status of the words with these formats and all text lenses.
-fn run_with_lenses<S: Store, K: Sink>(
-    alloc: Global,
-    words: &[Name],
-    store: &mut S,
-    out: &mut K,
-    formats: &[Box<dyn Format>],
-) -> Result<u8, Memory> {
-    let lenses: [Box<dyn TextLens>; 4] = [
-        boxed(alloc, trim(alloc))?,
-        boxed(alloc, date(alloc))?,
-        boxed(alloc, email(alloc))?,
-        boxed(alloc, yes_no(alloc))?,
-    ];
-    Ok(hm_run::run(alloc, words, store, out, formats, &lenses))
-}
-
-/// The status of the words, with all formats and text lenses.
+/// The status of the words, with all formats and text lenses. Each is made where it is lent, since the gate takes no
+/// function that makes one and gives it out.
 pub fn run_with_all<S: Store, K: Sink>(
     alloc: Global,
     words: &[Name],
@@ -45,5 +29,11 @@ pub fn run_with_all<S: Store, K: Sink>(
         Box::new(alloc, Csv)?,
         Box::new(alloc, Plain)?,
     ];
-    run_with_lenses(alloc, words, store, out, &formats)
+    let lenses: [Box<dyn TextLens>; 4] = [
+        boxed(alloc, trim(alloc))?,
+        boxed(alloc, date(alloc))?,
+        boxed(alloc, email(alloc))?,
+        boxed(alloc, yes_no(alloc))?,
+    ];
+    Ok(hm_run::run(alloc, words, store, out, &formats, &lenses))
 }
