@@ -49,12 +49,55 @@ launcher_gives_stack() {
     finish
 }
 
+# fresh_clone FOLDER: a copy of this clone as it is where nothing was built
+fresh_clone() {
+    mkdir "$1"
+    (shopt -s nullglob && cd "$top" && cp -r --parents crates/*/{src,specs,proofs}/ harmony release crates.txt "$1")
+}
+
+# Without a toolchain the launcher runs the released program where that is made of what stands there.
+released() {
+    begin 'the released program'
+    change
+    fresh_clone "$scratch/case/fresh"
+    under=(env PATH=/usr/bin:/bin)
+    program=$scratch/case/fresh/harmony sync
+    ends 0 agreed
+    finish
+}
+
+# With another source it runs nothing, and says why.
+changed_source() {
+    begin 'a released program of other sources'
+    no_change
+    fresh_clone "$scratch/case/fresh"
+    printf '// Changed.\n' >>../fresh/crates/harmony/src/main.rt
+    under=(env PATH=/usr/bin:/bin)
+    program=$scratch/case/fresh/harmony sync
+    [[ $(<../err) == 'harmony: the program of release/ is not made of what stands here'* ]] || fault 'it tells nothing'
+    : >../err
+    ends 70 ''
+    finish
+}
+
+# Whether a clone without anything built has a program to run.
+has_release() {
+    fresh_clone "$scratch/fresh"
+    "$scratch/fresh/release/program" >/dev/null && ! PATH=/usr/bin:/bin command -v rt >/dev/null
+}
+
 mapfile -t examples < <(find "$top/examples" -name output -printf '%h\n' | sort)
 for of in "${examples[@]}"; do
     example "$of"
 done
 if [[ -z ${HARMONY:-} ]]; then
     launcher
+    if has_release; then
+        released
+        changed_source
+    else
+        skip 'the released program' 'it is not made of what stands here'
+    fi
     if allows_stack; then
         launcher_gives_stack
     else
