@@ -1,5 +1,5 @@
 -- A small schema, made by hand for the tests, is well formed.
-use Rattle.std.proofs.Common.{ℕ, ◌≤◌, true, false, ◌||◌, T, IsTrue, [], ◌∷◌, Option, Some, All, IfSome, IsSome, refl, sym, ap, ◌∙◌, arith}
+use Rattle.std.proofs.Common.{ℕ, ◌≤◌, ◌||◌, IsTrue, [], ◌∷◌, Option, Some, All, IfSome, IsSome, refl, sym, ap, ◌∙◌, arith}
 use mathlib.Core.Bool.{true≢false}
 use Rattle.std.specs.FinSet.{contains, from_list, contains-from_list}
 use Rattle.std.proofs.lemmas.Option.{none-some}

@@ -2,6 +2,8 @@
 #![tactic(auto)]
 
 #[cfg(test)]
+mod faults;
+#[cfg(test)]
 mod graphs;
 #[cfg(test)]
 mod node_lines;
@@ -12,13 +14,9 @@ mod reports;
 #[cfg(test)]
 mod sameness;
 #[cfg(test)]
-mod schema_texts;
-#[cfg(test)]
 mod schemas;
 #[cfg(test)]
 mod setting;
-#[cfg(test)]
-mod tree_texts;
 #[cfg(test)]
 mod trees;
 #[cfg(test)]

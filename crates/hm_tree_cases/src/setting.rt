@@ -5,7 +5,7 @@ ghost use Rattle.hm_schema.specs.Membership.{HasNoTwins};
 use hm_schema::Schema;
 use hm_schema_text::{SchemaFault, read_schema};
 use hm_tree::{Memory, Name, NameSet, Path, Tree};
-use hm_tree_text::{read_tree, write_tree};
+use hm_tree_text::read_tree;
 use std::alloc::Global;
 use std::test::Fail;
 
