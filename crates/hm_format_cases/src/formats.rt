@@ -1,12 +1,15 @@
-//! Options as lens files write them, and the key for which each is refused.
-use crate::setting::{Pairs, Texts, expect, expect_key, names_of, pairs_of};
-use hm_format::{Key, first_bad_key, values_of};
+//! Options with keys that have no values, as no lens file writes them.
+use crate::setting::{Texts, expect, names_of};
+use hm_format::{Key, first_bad_key};
 use hm_schema::Options;
 use hm_tree::{Memory, Name};
 use std::alloc::Global;
 use std::test::Fail;
 
-const KEYS: [Key<'static>; 3] = [
+// The keys of options, each with its values.
+type Pairs = &'static [(&'static str, Texts)];
+
+const KEYS: [Key<'static>; 2] = [
     Key {
         name: "key",
         most: Some(1),
@@ -19,87 +22,39 @@ const KEYS: [Key<'static>; 3] = [
         required: false,
         declared: false,
     },
-    Key {
-        name: "root",
-        most: Some(1),
-        required: false,
-        declared: true,
-    },
 ];
 
-// The first bad key of options where the nodes `R` and `Q` are declared.
+fn pairs_of(alloc: Global, pairs: Pairs) -> Result<Vec<(Name, Vec<Name>)>, Memory> {
+    let mut made = Vec::new(alloc);
+    for (key, values) in pairs {
+        made.push((Name::from_text(alloc, key)?, names_of(alloc, values)?))?;
+    }
+    Ok(made)
+}
+
 fn bad_key(alloc: Global, pairs: Pairs) -> Result<Option<Name>, Memory> {
     let options = Options {
         pairs: pairs_of(alloc, pairs)?,
-        type_names: names_of(alloc, &["R", "Q"])?,
+        type_names: Vec::new(alloc),
         types: Vec::new(alloc),
     };
     first_bad_key(alloc, &KEYS, &options)
 }
 
-// Each of these options has a first bad key, or none where that is empty.
-fn expect_bad(alloc: Global, cases: &[(Pairs, &str)]) -> Result<(), Fail> {
-    for (pairs, key) in cases {
-        expect_key(bad_key(alloc, pairs)?, key)?;
-    }
-    Ok(())
-}
-
-const TAKEN: &[(Pairs, &str)] = &[
-    (&[("key", &["a"])], ""),
-    (&[("show", &["b", "c", "d"]), ("key", &["a"])], ""),
-    (&[("key", &["a"]), ("root", &["Q"])], ""),
-    (&[("key", &["a"]), ("show", &["b", "c"])], ""),
-];
-
-#[test]
-fn options_of_the_format_are_taken(rt: HostRuntime) -> Result<(), Fail> {
-    expect_bad(rt.alloc(), TAKEN)
-}
-
-fn has_values(alloc: Global, pairs: Pairs, key: &str, want: &[&str]) -> Result<bool, Memory> {
-    let pairs = pairs_of(alloc, pairs)?;
-    Ok(values_of(&pairs, key) == names_of(alloc, want)?.as_slice())
-}
-
-const VALUES: &[(&str, Texts)] = &[("key", &["a"]), ("show", &["b", "c"]), ("root", &[])];
-
-#[test]
-fn keys_have_their_values(rt: HostRuntime) -> Result<(), Fail> {
-    for (key, want) in VALUES {
-        expect(
-            has_values(
-                rt.alloc(),
-                &[("key", &["a"]), ("show", &["b", "c"])],
-                key,
-                want,
-            )?,
-            key,
-        )?;
-    }
-    Ok(())
-}
-
-const BAD: &[(Pairs, &str)] = &[
-    // A key that isn't the format's, or stood before.
-    (
-        &[("show", &["a"]), ("hide", &["b"]), ("many", &["c"])],
-        "hide",
-    ),
-    (&[("key", &["a"]), ("show", &["b"]), ("key", &["c"])], "key"),
-    // Too many values, a value that isn't allowed, and values that stood before.
-    (&[("show", &["c"]), ("key", &["a", "b"])], "key"),
-    (&[("key", &["a"]), ("root", &["S"])], "root"),
-    (&[("key", &["a"]), ("show", &["b", "c", "b"])], "show"),
-    (&[("show", &["a", "b"]), ("key", &["a"])], "key"),
-    // A key that has to have a value and isn't written, or has none.
-    (&[("show", &["a"])], "key"),
+// Options, and their first bad key, or none where that is empty.
+const CASES: &[(Pairs, &str)] = &[
+    (&[("key", &["a"]), ("show", &[])], ""),
+    (&[("key", &[]), ("show", &["b"])], "key"),
     (&[("show", &["a"]), ("key", &[])], "key"),
-    // What is bad comes before what is missing.
-    (&[("show", &["a", "a"])], "show"),
 ];
 
 #[test]
-fn the_first_bad_key_is_told(rt: HostRuntime) -> Result<(), Fail> {
-    expect_bad(rt.alloc(), BAD)
+fn keys_may_have_no_values_unless_one_is_required(rt: HostRuntime) -> Result<(), Fail> {
+    for (pairs, bad) in CASES {
+        match bad_key(rt.alloc(), pairs)? {
+            Some(key) => expect(key.text() == *bad, key.text())?,
+            None => expect(bad.is_empty(), bad)?,
+        }
+    }
+    Ok(())
 }

@@ -1,12 +1,6 @@
-//! Small cases of formats and of what they are made of, with expected values by hand.
+//! Small cases of calls of what formats are made of, which no file of a format shows, with expected values by hand.
 #![tactic(auto)]
 
-#[cfg(test)]
-mod calendars;
-#[cfg(test)]
-mod cards;
-#[cfg(test)]
-mod components;
 #[cfg(test)]
 mod content_lines;
 #[cfg(test)]
@@ -14,16 +8,4 @@ mod formats;
 #[cfg(test)]
 mod item_trees;
 #[cfg(test)]
-mod items;
-#[cfg(test)]
-mod pieces;
-#[cfg(test)]
-mod properties;
-#[cfg(test)]
-mod records;
-#[cfg(test)]
 mod setting;
-#[cfg(test)]
-mod tables;
-#[cfg(test)]
-mod vcards;
