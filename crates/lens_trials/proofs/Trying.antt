@@ -35,6 +35,13 @@ module _ {S : Setting} {l : Lens} {C A : Tree → Type 0} (f : Fits S l C A) whe
   pub same_view : (v w c : Tree) (b : Option Tree) → A v → IfSome b C → Puts S l v b c → Shows S l c w → w ≡ v
   same_view v w c b a h p s = let one = f.shows c (in_source v c b a h p) in one.only w s ∙ sym (one.only v (f.put_get v b c a h p))
 
+  -- copies of a view and of the tree from before may be put too
+  pub can_put_copies : (v w b d : Tree) → w ≡ v → d ≡ b → A v → C b → IsPut S l w (Some d)
+  can_put_copies v w b d e g a h = can_put w (Some d) (subst A (sym e) a) (subst C (sym g) h)
+
+  pub puts_copy_back : (c d v : Tree) → d ≡ c → C c → Shows S l c v → Puts S l v (Some d) d
+  puts_copy_back c d v e h s = subst (λ (t : Tree). Puts S l v (Some t) t) (sym e) (f.get_put c v h s)
+
 pub fits_trees : {texts : List TextMeaning} {p : ProgramValue} {s : SchemaValue} (t : Typed) → IsAccepted texts p s t → FitsTrees texts t
 fits_trees {texts} {p} {s} t a =
     subst (λ (p : ProgramValue). Fits (setting_of texts p) p.main (Trees t.source) (Trees t.view)) (sym a.program)

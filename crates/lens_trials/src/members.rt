@@ -16,6 +16,15 @@ pub fn load<S: Store>(store: &mut S, name: &Name) -> Result<Vec<u8>, Memory> {
     }
 }
 
+/// The tree of a file.
+pub fn tree_of<S: Store>(alloc: Global, store: &mut S, name: &Name) -> Result<Tree, Memory> {
+    let bytes = load(store, name)?;
+    match read_tree(alloc, &bytes) {
+        Ok(tree) => Ok(tree),
+        Err(_) => Err(Memory),
+    }
+}
+
 /// The trees of files, those of them that are members of a schema.
 pub fn members<S: Store>(
     alloc: Global,
@@ -27,10 +36,7 @@ pub fn members<S: Store>(
 {
     let mut trees = Vec::new(alloc);
     for name in names {
-        let bytes = load(store, name)?;
-        let Ok(tree) = read_tree(alloc, &bytes) else {
-            return Err(Memory);
-        };
+        let tree = tree_of(alloc, store, name)?;
         if schema.member(&tree) {
             trees.push(tree)?;
         }

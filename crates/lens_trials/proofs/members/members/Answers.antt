@@ -1,4 +1,4 @@
-use Rattle.std.proofs.Common.{◌≡◌, All, List, Vec, ap, sym, subst, ◌∙◌, rules}
+use Rattle.std.proofs.Common.{All, Vec, ap, sym, subst, ◌∙◌, rules}
 use Rattle.std.proofs.lemmas.List.Elements.{All-push}
 use Rattle.std.specs.declared.alloc.Global.{Global}
 use Rattle.hm_tree.specs.Nodes.{Tree}
@@ -11,6 +11,6 @@ loop-name-preserved g c =
     elim c.if-member.branch [
       | then-member+in_ok-push w ↦
           subst (All (Trees c.args.schema.now)) (sym w.in_ok-push.ensures.items ∙ ap (λ (v : Vec Tree Global). v.items) (sym w.trees-is))
-          (All-push (Trees c.args.schema.now) c.loop-name.trees.items c.in-Ok.tree c.loop-name.invariant (c.member.ensures.0 (search rules)))
+          (All-push (Trees c.args.schema.now) c.loop-name.trees.items c.in_ok-tree.tree c.loop-name.invariant (c.member.ensures.0 (search rules)))
       | else-member w ↦ subst (λ (v : Vec Tree Global). All (Trees c.args.schema.now) v.items) (sym w.trees-is) c.loop-name.invariant
     ]

@@ -1,5 +1,0 @@
-use Rattle.hm_schema_text.proofs.Laws.{schema_no_twins}
-use Rattle.hm_checks.proofs.setting.schema_of.Goals as goal
-
-pub returns-in-Ok : goal.returns-in-Ok
-returns-in-Ok c = schema_no_twins c.as_bytes.result.now c.in-Ok.schema (c.in-Ok.ensures (λ e. let f : ⊥ = cc in f))
