@@ -1,8 +1,8 @@
 -- The faults of lens files and of replicas, as what stops a run.
 use Rattle.hm_focal.specs.declared.fault.LensFault.{LensFault}
 use Rattle.hm_focal.specs.declared.fault.LensFault.TheVariants as lens
-use Rattle.hm_types.specs.declared.fault.TypeFault.{TypeFault}
-use Rattle.hm_types.specs.declared.fault.TypeFault.TheVariants as types
+use Rattle.hm_types_terms.specs.declared.fault.TypeFault.{TypeFault}
+use Rattle.hm_types_terms.specs.declared.fault.TypeFault.TheVariants as types
 use Rattle.hm_format.specs.declared.fault.FormatFault.{FormatFault}
 use Rattle.hm_format.specs.declared.fault.FormatFault.TheVariants as format
 use Rattle.hm_files.specs.declared.slot.Slot.{Slot}

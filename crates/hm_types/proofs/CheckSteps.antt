@@ -32,12 +32,12 @@ use Rattle.hm_typing.proofs.TypedFits.{form_sound, typed_fits}
 use Rattle.hm_table.specs.Tables.{Nodes, AreFormed, Extends, shift, shifted}
 use Rattle.hm_table.proofs.Grown.{extends_self, extends_then, extends_length, form_extends}
 use Rattle.hm_table.proofs.Shifted.{form_shifted}
-use Rattle.hm_types.specs.Courses.{Declared, Scope, AreTypes, AreDeclared, IsStart, IsView, IsAt}
+use Rattle.hm_types_terms.specs.Courses.{Declared, Scope, AreTypes, AreDeclared, IsStart, IsView, IsAt}
 use Rattle.hm_types.specs.DeclaredNodes.{DeclaresAll}
-use Rattle.hm_types.specs.Bodies.{GoesAstray, nowhere, elsewhere, IsTypedBody, IsMistypedBody}
-use Rattle.hm_types.specs.Checks.{Trees, HasDistinctRows, HasTwinsLeft, IsGuarded, AreTyped, IsMistypedDefinition, no_view, other_view, IsMistyped, in_definition}
-use Rattle.hm_types.proofs.Entries.{found_at, at_found}
-use Rattle.hm_types.proofs.Growing.{types_grown, declared_grown, view_sound}
+use Rattle.hm_types_terms.specs.Bodies.{HasDistinctRows, GoesAstray, nowhere, elsewhere, IsTypedBody, IsMistypedBody}
+use Rattle.hm_types.specs.Checks.{Trees, HasTwinsLeft, IsGuarded, AreTyped, IsMistypedDefinition, no_view, other_view, IsMistyped, in_definition}
+use Rattle.hm_types_terms.proofs.Entries.{found_at, at_found}
+use Rattle.hm_types_terms.proofs.Growing.{types_grown, declared_grown, view_sound}
 use Rattle.hm_types.proofs.SourceTrees.{root_trees}
 use Rattle.hm_types.proofs.FitsOver.{fits_over}
 

@@ -13,7 +13,7 @@ use Rattle.hm_terms.specs.Lenses.{DefinitionValue}
 use Rattle.hm_terms.specs.Programs.{definition_value}
 use Rattle.hm_table.specs.Tables.{shift}
 use Rattle.hm_cycles.specs.Places.{IsPutLast}
-use Rattle.hm_types.specs.Courses.{Declared}
+use Rattle.hm_types_terms.specs.Courses.{Declared}
 use Rattle.hm_types.specs.DeclaredNodes.{DeclaresAll}
 
 abbrev nodes_of : ℕ → DefinitionValue → NodeId × NodeId

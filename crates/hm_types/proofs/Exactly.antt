@@ -12,11 +12,11 @@ use Rattle.hm_typing.specs.TextNames.{program_text_names}
 use Rattle.hm_typing.specs.Typing.{Classes}
 use Rattle.hm_typing.proofs.Once.{goes_once}
 use Rattle.hm_typing.proofs.NeverBoth.{never_both}
-use Rattle.hm_types.specs.declared.fault.TypeFault.{TypeFault}
-use Rattle.hm_types.specs.declared.fault.TypeFault.TheVariants.{Mistyped, UnknownLens, Unguarded, TwinLeft, Memory}
+use Rattle.hm_types_terms.specs.declared.fault.TypeFault.{TypeFault}
+use Rattle.hm_types_terms.specs.declared.fault.TypeFault.TheVariants.{Mistyped, UnknownLens, Unguarded, TwinLeft, Memory}
 use Rattle.hm_types.specs.Checks.{IsFault, IsMistyped, in_definition, in_main, IsMistypedDefinition, no_view, other_view}
-use Rattle.hm_types.proofs.Entries.{found_once}
-use Rattle.hm_types.proofs.TextTypes.{known_names}
+use Rattle.hm_types_terms.proofs.Entries.{found_once}
+use Rattle.hm_types_terms.proofs.TextTypes.{known_names}
 
 module _ (texts : Classes) (p : ProgramValue) where
   pub mistyped_definition : (d : DefinitionValue) (a : At) → IsTypedDefinition texts p d → IsMistypedDefinition texts p d a → ⊥

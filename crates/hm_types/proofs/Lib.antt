@@ -1,29 +1,8 @@
-mod TextTypes
-mod Remembering
-mod Standing
-mod Growing
-mod Telling
-mod Pairs
-mod Calls
-mod Branched
-mod Items
-mod Named
-mod Entries
-mod Led
-mod Possible
-mod Each
-mod NamedSteps
-mod Falling
-mod Recalled
-mod PartLists
+mod ProgramFaults
 mod DeclaringSteps
-mod Contained
-mod BodySteps
 mod SourceTrees
 mod FitsOver
 mod CheckSteps
 mod Beginning
 pub mod Exactly
 pub mod Once
-mod StandsOver
-mod AlikeLists

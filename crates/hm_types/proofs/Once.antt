@@ -19,11 +19,11 @@ use Rattle.hm_typing.proofs.Once.{goes_once}
 use Rattle.hm_typing.proofs.NeverBoth.{never_both, fault_once}
 use Rattle.hm_typing.proofs.NumberedOnce.{numbered_once}
 use Rattle.hm_cycles.specs.BadCycles.{IsFirstInBadCycle}
-use Rattle.hm_types.specs.declared.fault.TypeFault.{TypeFault}
-use Rattle.hm_types.specs.declared.fault.TypeFault.TheVariants.{Mistyped, UnknownLens, Unguarded, TwinLeft, Memory}
-use Rattle.hm_types.specs.Parts.{IsFirstCopy, copies_first, none_copies}
+use Rattle.hm_types_terms.specs.declared.fault.TypeFault.{TypeFault}
+use Rattle.hm_types_terms.specs.declared.fault.TypeFault.TheVariants.{Mistyped, UnknownLens, Unguarded, TwinLeft, Memory}
+use Rattle.hm_types_terms.specs.Parts.{IsFirstCopy, copies_first, none_copies}
 use Rattle.hm_types.specs.Checks.{IsUnguarded, AreTyped, IsMistypedDefinition, no_view, other_view, IsMistyped, in_definition, in_main, HasTwinsLeft, IsFault, Checks}
-use Rattle.hm_types.proofs.TextTypes.{known_names}
+use Rattle.hm_types_terms.proofs.TextTypes.{known_names}
 use Rattle.hm_types.proofs.Exactly.{mistyped_definition, told_of_none}
 
 -- ---- each condition

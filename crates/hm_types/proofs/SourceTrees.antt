@@ -21,7 +21,7 @@ use Rattle.hm_typing.proofs.SoundForms.{node_sound}
 use Rattle.hm_table.specs.Tables.{opened}
 use Rattle.hm_table.proofs.Grown.{formed_at}
 use Rattle.hm_table.proofs.Forms.{node_is}
-use Rattle.hm_types.proofs.Entries.{there}
+use Rattle.hm_types_terms.proofs.Entries.{there}
 
 module _ (s : SchemaValue) (well : IsWellFormed s) (sound : (i : NodeId) → IsSound (form s.nodes i)) where
   -- a node of the schema, and its form

@@ -6,10 +6,9 @@ use Rattle.hm_tree.specs.States.{state}
 use Rattle.hm_schema.specs.Values.{SchemaValue}
 use Rattle.hm_schema.specs.Membership.{IsMember}
 use Rattle.hm_text_lens.specs.Meanings.{TextMeaning, IsLawful}
-use Rattle.hm_terms.specs.Lenses.{Lens, Lenses, DefinitionValue, among}
+use Rattle.hm_terms.specs.Lenses.{Lens, DefinitionValue}
 use Rattle.hm_terms.specs.Fitting.{Fits}
 use Rattle.hm_terms.specs.Programs.{ProgramValue, program_value, setting_of}
-use Rattle.hm_terms.specs.WellFormedPrograms.{StandsIn, HasOnce, row_names}
 use Rattle.hm_typing.specs.Forms.{Form, form}
 use Rattle.hm_typing.specs.SameForms.{IsSame, HasNoTwins}
 use Rattle.hm_typing.specs.Typing.{Classes, Goes}
@@ -18,10 +17,10 @@ use Rattle.hm_typing.specs.Programs.{classes_in, types_of, IsTypedDefinition, Is
 use Rattle.hm_typing.specs.TextNames.{program_text_names, AreKnown, IsFirstUnknown}
 use Rattle.hm_typing.specs.Numbering.{IsNumbered}
 use Rattle.hm_cycles.specs.BadCycles.{HasNoBadCycle, IsFirstInBadCycle}
-use Rattle.hm_types.specs.declared.fault.TypeFault.{TypeFault}
-use Rattle.hm_types.specs.declared.fault.TypeFault.TheVariants.{Mistyped, UnknownLens, Unguarded, TwinLeft, Memory}
+use Rattle.hm_types_terms.specs.declared.fault.TypeFault.{TypeFault}
+use Rattle.hm_types_terms.specs.declared.fault.TypeFault.TheVariants.{Mistyped, UnknownLens, Unguarded, TwinLeft, Memory}
 use Rattle.hm_types.specs.declared.typed.Typed.{Typed}
-use Rattle.hm_types.specs.Parts.{IsFirstCopy}
+use Rattle.hm_types_terms.specs.Parts.{IsFirstCopy}
 
 -- ---- programs that are accepted
 
@@ -49,10 +48,6 @@ pub record IsAccepted (texts : List TextMeaning) (p : ProgramValue) (s : SchemaV
   pub fits : Fits (setting_of texts p) p.main (Trees s) (Trees t.view)
 
 -- ---- programs that are refused
-
--- no name has two lenses side by side
-abbrev pub HasDistinctRows : Lens → Type 0
-HasDistinctRows l = (ls : Lenses) → StandsIn (among ls) l → HasOnce (row_names ls)
 
 -- this definition is the first one in a bad cycle
 pub record IsUnguarded (p : ProgramValue) (name : Name) : Type 0 where

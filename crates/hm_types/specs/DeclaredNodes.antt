@@ -6,7 +6,7 @@ use Rattle.std.specs.FinMap.{find, is_sorted}
 use Rattle.hm_tree.specs.Names.{Name, name_cmp}
 use Rattle.hm_terms.specs.Lenses.{DefinitionValue}
 use Rattle.hm_table.specs.Tables.{shift}
-use Rattle.hm_types.specs.Courses.{Declared}
+use Rattle.hm_types_terms.specs.Courses.{Declared}
 
 pub record DeclaresAll (definitions : List (Name × DefinitionValue)) (by : ℕ) (ds : Declared) : Type 0 where
   pub sorted : T (is_sorted name_cmp ds)

@@ -5,14 +5,10 @@ ghost use Rattle.hm_terms.specs.Programs.{lens_of, program_value};
 ghost use Rattle.hm_terms.specs.WellFormedPrograms.{IsWellFormed};
 ghost use Rattle.hm_cycles.specs.BadCycles.{HasNoBadCycle};
 ghost use Rattle.hm_typing.specs.Programs.{classes_in};
-ghost use Rattle.hm_types.specs.Courses.{classes_of};
+ghost use Rattle.hm_types_terms.specs.Courses.{classes_of};
 ghost use Rattle.hm_types.specs.Checks.{IsAccepted, IsAcceptedBy, IsFault, IsCycleTold, AreTwinsTold};
 
-use crate::body::{check_body, view_of};
 use crate::declaring::{behind, declared_of};
-use crate::fault::TypeFault;
-use crate::parts::{first_copy, parts};
-use crate::texts::{TextType, text_types};
 use crate::typed::Typed;
 use crate::unknown::check_texts;
 use hm_cycles::first_in_bad_cycle;
@@ -22,6 +18,7 @@ use hm_table::Table;
 use hm_terms::{Program, Term};
 use hm_text_lens::TextLens;
 use hm_tree::Memory;
+use hm_types_terms::{TextType, TypeFault, check_body, first_copy, parts, text_types, view_of};
 use std::alloc::Global;
 
 /// Checks that a program is typed over a schema: that there is each text lens that it names, that no definition is in a bad

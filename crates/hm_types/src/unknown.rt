@@ -3,14 +3,13 @@ ghost use Rattle.std.specs.Prelude.{◌≡◌, ◌++◌, ◌∷◌, [], OnOk, If
 ghost use Rattle.std.specs.Option.{option_map};
 ghost use Rattle.hm_terms.specs.Programs.{lens_of, lenses_of, program_value};
 ghost use Rattle.hm_typing.specs.TextNames.{text_names, text_names_of, program_text_names, AreKnown};
-ghost use Rattle.hm_types.specs.Courses.{classes_of};
-ghost use Rattle.hm_types.specs.TextTypes.{first_unknown};
+ghost use Rattle.hm_types_terms.specs.Courses.{classes_of};
+ghost use Rattle.hm_types_terms.specs.TextTypes.{first_unknown};
 ghost use Rattle.hm_types.specs.Checks.{IsTextTold};
 
-use crate::fault::TypeFault;
-use crate::texts::{TextType, classes_named};
 use hm_terms::{Program, Term};
 use hm_tree::Name;
+use hm_types_terms::{TextType, TypeFault, classes_named};
 
 /// Checks that there is each text lens that a program names. The fault has the first name, in reading order, that none has.
 pub fn check_texts(program: &Program, texts: &[TextType]) -> Result<(), TypeFault>

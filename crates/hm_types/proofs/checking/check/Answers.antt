@@ -4,9 +4,9 @@ use Rattle.hm_terms.specs.Programs.{program_value}
 use Rattle.hm_typing.specs.Forms.{form}
 use Rattle.hm_typing.specs.Typing.{Classes}
 use Rattle.hm_typing.specs.Programs.{classes_in, IsTyped}
-use Rattle.hm_types.specs.Courses.{classes_of}
+use Rattle.hm_types_terms.specs.Courses.{classes_of}
 use Rattle.hm_types.specs.Checks.{IsFault}
-use Rattle.hm_types.proofs.TextTypes.{classes_same}
+use Rattle.hm_types_terms.proofs.TextTypes.{classes_same}
 use Rattle.hm_types.proofs.checking.check.Goals as goal
 
 pub returns-clause-typed : goal.returns-clause-typed

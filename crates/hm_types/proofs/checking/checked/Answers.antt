@@ -11,12 +11,12 @@ use Rattle.hm_terms.specs.Programs.{lens_of, definition_value, program_value}
 use Rattle.hm_typing.specs.Forms.{form}
 use Rattle.hm_table.specs.Tables.{shift}
 use Rattle.hm_numbering.proofs.Twins.{numbered_plain}
-use Rattle.hm_types.specs.Courses.{classes_of, scoped, IsStart, IsView, IsAt}
-use Rattle.hm_types.specs.Bodies.{IsTypedBody, IsMistypedBody}
+use Rattle.hm_types_terms.specs.Courses.{classes_of, scoped, IsStart, IsView, IsAt}
+use Rattle.hm_types_terms.specs.Bodies.{IsTypedBody, IsMistypedBody}
 use Rattle.hm_types.specs.Checks.{IsMistyped, in_main}
 use Rattle.hm_types.proofs.Beginning.{base_is, begun, declared_inside}
 use Rattle.hm_types.proofs.CheckSteps.{IsChecked, body_start, body_view_inside, body_rows, body_typed, body_mistyped, checked_next, checked_none, main_start, main_rows, main_fault, main_sound, twins_left, program_typed, program_fits}
-use Rattle.hm_types.proofs.Telling.{mistyped_fault, twins_fault}
+use Rattle.hm_types.proofs.ProgramFaults.{mistyped_fault, twins_fault}
 use Rattle.hm_types.proofs.checking.checked.Goals as goal
 
 pub declared_of-requires-clause-sources : goal.declared_of-requires-clause-sources

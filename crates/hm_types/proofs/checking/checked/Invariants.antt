@@ -1,6 +1,6 @@
 use Rattle.std.proofs.Common.{◌≡◌, ◌+◌}
 use Rattle.hm_terms.specs.Programs.{program_value}
-use Rattle.hm_types.specs.Courses.{classes_of}
+use Rattle.hm_types_terms.specs.Courses.{classes_of}
 use Rattle.hm_types.proofs.CheckSteps.{IsBegun, IsChecked}
 use Rattle.hm_types.proofs.checking.checked.Given as goal
 

@@ -4,10 +4,10 @@ use Rattle.hm_terms.specs.Lenses.{among}
 use Rattle.hm_terms.specs.Programs.{lens_of, lenses_of}
 use Rattle.hm_terms.proofs.Rows.{each_items}
 use Rattle.hm_typing.specs.TextNames.{text_names}
-use Rattle.hm_types.specs.Courses.{classes_of}
-use Rattle.hm_types.specs.TextTypes.{first_unknown}
-use Rattle.hm_types.proofs.Falling.{rows_fall, row_falls}
-use Rattle.hm_types.proofs.TextTypes.{in_first, in_second, row_found, row_passed}
+use Rattle.hm_types_terms.specs.Courses.{classes_of}
+use Rattle.hm_types_terms.specs.TextTypes.{first_unknown}
+use Rattle.hm_types_terms.proofs.Falling.{rows_fall, row_falls}
+use Rattle.hm_types_terms.proofs.TextTypes.{in_first, in_second, row_found, row_passed}
 use Rattle.hm_types.proofs.unknown.+unknown.Goals as goal
 
 pub unknown-returns-in-Each : goal.unknown-returns-in-Each

@@ -2,9 +2,9 @@ use Rattle.std.proofs.Common.{rules, ◌≡◌, ◌<◌, length, slice_get, None
 use Rattle.std.proofs.lemmas.Option.{slice_get_read}
 use Rattle.hm_terms.specs.Programs.{lens_of}
 use Rattle.hm_typing.specs.TextNames.{text_names}
-use Rattle.hm_types.specs.Courses.{classes_of}
-use Rattle.hm_types.specs.TextTypes.{first_unknown}
-use Rattle.hm_types.proofs.TextTypes.{body_found, body_passed}
+use Rattle.hm_types_terms.specs.Courses.{classes_of}
+use Rattle.hm_types_terms.specs.TextTypes.{first_unknown}
+use Rattle.hm_types_terms.proofs.TextTypes.{body_found, body_passed}
 use Rattle.hm_types.proofs.unknown.unknown_in.Goals as goal
 
 pub returns-in-Some : goal.returns-in-Some

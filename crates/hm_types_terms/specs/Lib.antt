@@ -1,0 +1,10 @@
+pub mod Numbers
+pub mod Alike
+pub mod Parts
+pub mod Memos
+pub mod Courses
+pub mod TextTypes
+pub mod Pairs
+pub mod Below
+pub mod Told
+pub mod Bodies

@@ -1,0 +1,24 @@
+//! Whether a lens is typed at a node of a table that grows.
+//!
+//! The lenses of a definition are numbered (`specs/Numbers`), and each is checked at a node (`specs/Courses`): it goes from there
+//! to a node, whatever the definitions that it calls do, or a condition isn't met. `check_body` checks the body of a definition,
+//! and `view_of` gives the node of the views of a main lens.
+#![tactic(auto)]
+
+mod alike;
+mod body;
+mod course;
+mod fault;
+mod leaves;
+mod memo;
+mod numbers;
+mod over;
+mod part;
+mod texts;
+mod typing;
+mod unmet;
+
+pub use body::{check_body, view_of};
+pub use fault::TypeFault;
+pub use part::{Part, first_copy, parts};
+pub use texts::{TextType, classes_named, text_types};
