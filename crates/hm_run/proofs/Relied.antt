@@ -27,13 +27,13 @@ use Rattle.hm_outcome.proofs.Apart.{marks_differ}
 use Rattle.hm_outcome.proofs.Best.{outcome_maximal, outcome_only}
 use Rattle.hm_report.proofs.Explained.{explained}
 use Rattle.hm_sides.specs.SideReplicas.{ClosesOn}
-use Rattle.hm_run.specs.Handed.{Handed}
-use Rattle.hm_run.specs.Verdict.{Texts, Becomes, Closes, Plan, Plans, PlansFrom, VerdictOf, Verdict, conflicts_status, old_trio, new_trio}
+use Rattle.hm_sync.specs.Handed.{Handed}
+use Rattle.hm_sync.specs.Verdict.{Texts, Becomes, Closes, Plan, Plans, PlansFrom, VerdictOf, Verdict, conflicts_status, old_trio, new_trio}
 use Rattle.hm_run.specs.Endings.{IsDone, Works, Outside, HasPut, EndsAs, AreWritten, IsSynchronised, IsReported, IsCarriedOut, IsComplete}
-use Rattle.hm_run.specs.Reads.{AreOpened}
-use Rattle.hm_run.proofs.ArchiveDepths.{fits_shallow}
-use Rattle.hm_run.proofs.Opened.{all_opened}
-use Rattle.hm_run.proofs.Once.{verdict_once}
+use Rattle.hm_sync.specs.Reads.{AreOpened}
+use Rattle.hm_sync.proofs.ArchiveDepths.{fits_shallow}
+use Rattle.hm_sync.proofs.Opened.{all_opened}
+use Rattle.hm_sync.proofs.Once.{verdict_once}
 
 -- ---- what a plan begins with, and comes to
 

@@ -8,44 +8,13 @@ use Rattle.hm_files.specs.declared.stop.Refusal.{Refusal}
 use Rattle.hm_files.specs.declared.stop.Stop.{Stop}
 use Rattle.hm_files.specs.declared.stop.Stop.TheVariants.{Memory}
 use Rattle.hm_files.specs.Steps.{Stopped, Leaves, WhereTold, stops, goes_on}
-use Rattle.hm_files.specs.Files.{New, loads, measures, written, AreUnread, AreUnwritten}
+use Rattle.hm_files.specs.Files.{New, loads, written, AreUnread, AreUnwritten}
 use Rattle.hm_files.proofs.Steps.{stopped}
 use Rattle.hm_command.specs.declared.ending.Output.{Output}
 use Rattle.hm_command.specs.Words.{FileNames, slots}
-use Rattle.hm_run.specs.Handed.{Handed}
-use Rattle.hm_run.specs.Reads.{Before, ReadsAll}
-use Rattle.hm_run.specs.Verdict.{Synced, Texts, Plan, Plans, PlansFrom, VerdictOf, Becomes, Closes, IsReport, news_of, IsUnwritable, IsPlanned}
+use Rattle.hm_sync.specs.Handed.{Handed}
+use Rattle.hm_sync.specs.Verdict.{Plan, PlansFrom, VerdictOf, news_of, IsPlanned}
 use Rattle.hm_run.specs.Endings.{Synchronises, IsFault, IsStopState, IsDone, Works}
-
--- ---- a plan
-
-module _ (h : Handed) (files : FileNames) (all : List (List ℕ)) where
-  pub reads_first : (refusal : Refusal) → ReadsAll h all (Err refusal) → PlansFrom h files all (Err refusal)
-  unfolding PlansFrom
-  reads_first refusal r = stops r
-
-  module _ (before : Before) (reads : ReadsAll h all (Ok before)) where
-    pub unwritable : (refusal : Refusal) → IsUnwritable h before refusal → PlansFrom h files all (Err refusal)
-    unfolding PlansFrom Plans
-    unwritable refusal u = goes_on reads (goes_on u.becomes (stops u.closes))
-
-    module _ (after : Synced) (becomes : Becomes before after) (texts : Texts) (closes : Closes h before.sides before.replicas after (Ok texts))
-        (news : List New) (are : news ≡ news_of files texts) where
-      pub measures_first : (refusal : Refusal) → measures news ≡ Err refusal → PlansFrom h files all (Err refusal)
-      unfolding PlansFrom Plans
-      measures_first refusal m = goes_on reads (goes_on becomes (goes_on closes (stops (sym m ∙ ap measures are))))
-
-      pub planned : (output : Output) → measures news ≡ Ok tt → IsReport before after output → IsPlanned h files all news output
-      unfolding PlansFrom Plans
-      planned output sizes tells = record {
-        plan = record { files = files; before = before; after = after; texts = texts };
-        planned = goes_on reads (goes_on becomes (goes_on closes (goes_on (sym sizes ∙ ap measures are) refl)));
-        of = refl;
-        are = are;
-        tells = tells;
-      }
-
--- ---- the files
 
 loads_first : (h : Handed) (files : FileNames) (c : Contents) (refusal : Refusal) → loads c (slots files) ≡ Err refusal → VerdictOf h c (Ok files) (Err refusal)
 unfolding VerdictOf

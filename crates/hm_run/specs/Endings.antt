@@ -29,8 +29,8 @@ use Rattle.hm_command.specs.Words.{FileNames, slots, meaning}
 use Rattle.hm_command.specs.Lines.{output_of, refusal_status}
 use Rattle.hm_sides.specs.Formats.{HasFormat}
 use Rattle.hm_sides.specs.Sides.{SideValue}
-use Rattle.hm_run.specs.Handed.{Handed}
-use Rattle.hm_run.specs.Verdict.{Plan, Verdict, VerdictOf, IsReport, news_of, stop_state, TellsConflicts, old_trio, new_trio}
+use Rattle.hm_sync.specs.Handed.{Handed}
+use Rattle.hm_sync.specs.Verdict.{Plan, Verdict, VerdictOf, IsReport, news_of, stop_state, TellsConflicts, old_trio, new_trio}
 
 -- ---- what the work came to before its output is put, by what the words mean
 

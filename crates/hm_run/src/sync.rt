@@ -4,7 +4,7 @@ ghost use Rattle.hm_files.specs.Steps.{WhereTold};
 ghost use Rattle.hm_command.specs.declared.ending.Ending.{Ending as EndingOf};
 ghost use Rattle.hm_command.specs.Words.{meaning as word_meaning};
 ghost use Rattle.hm_command.specs.Lines.{status_of};
-ghost use Rattle.hm_run.specs.Handed.{handed};
+ghost use Rattle.hm_sync.specs.Handed.{handed};
 ghost use Rattle.hm_run.specs.Endings.{Works, HasPut, EndsAs, IsSynchronised, IsReported, IsComplete};
 
 use crate::work::synchronise;
