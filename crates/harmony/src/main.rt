@@ -35,25 +35,38 @@ fn words_of(alloc: Global, rt: &HostRuntime) -> Result<Vec<Name>, Memory> {
     Ok(words)
 }
 
-// The status of the words, with the formats and the text lenses of the program.
-fn status_of(alloc: Global, rt: &HostRuntime) -> Result<u8, Memory> {
-    let words = words_of(alloc, rt)?;
-    let mut formats: Vec<Box<dyn Format>> = Vec::new(alloc);
-    formats.push(Box::new(alloc, VCard)?)?;
-    formats.push(Box::new(alloc, ICalendar)?)?;
-    formats.push(Box::new(alloc, Csv)?)?;
-    formats.push(Box::new(alloc, Plain)?)?;
-    let mut texts: Vec<Box<dyn TextLens>> = Vec::new(alloc);
-    texts.push(Box::new(alloc, trim(alloc)?)?)?;
-    texts.push(Box::new(alloc, date(alloc)?)?)?;
-    texts.push(Box::new(alloc, email(alloc)?)?)?;
-    texts.push(Box::new(alloc, yes_no(alloc)?)?)?;
+// A text lens in a box.
+fn boxed<T: Drop>(alloc: Global, lens: Result<T, Memory>) -> Result<Box<T>, Memory> {
+    Ok(Box::new(alloc, lens?)?)
+}
+
+// The status of the words, with the formats and the text lenses of the program. They are made where they are lent, since
+// the gate takes no function that puts something behind a trait and gives it out.
+fn status_of(alloc: Global, rt: &HostRuntime, words: &[Name]) -> Result<u8, Memory> {
+    let formats: [Box<dyn Format>; 4] = [
+        Box::new(alloc, VCard)?,
+        Box::new(alloc, ICalendar)?,
+        Box::new(alloc, Csv)?,
+        Box::new(alloc, Plain)?,
+    ];
+    let lenses: [Box<dyn TextLens>; 4] = [
+        boxed(alloc, trim(alloc))?,
+        boxed(alloc, date(alloc))?,
+        boxed(alloc, email(alloc))?,
+        boxed(alloc, yes_no(alloc))?,
+    ];
     let mut out = StdSink::new(alloc, rt.stdout());
     let mut store = FileStore::new(alloc, rt);
-    Ok(hm_run::run(alloc, &words, &mut store, &mut out, &formats, &texts))
+    Ok(hm_run::run(alloc, words, &mut store, &mut out, &formats, &lenses))
+}
+
+// The status of what the program was called with.
+fn status(alloc: Global, rt: &HostRuntime) -> Result<u8, Memory> {
+    let words = words_of(alloc, rt)?;
+    status_of(alloc, rt, &words)
 }
 
 fn main(rt: HostRuntime) -> ExitCode {
     let alloc = rt.alloc();
-    ExitCode::from(status_of(alloc, &rt).unwrap_or(OUT_OF_MEMORY))
+    ExitCode::from(status(alloc, &rt).unwrap_or(OUT_OF_MEMORY))
 }
