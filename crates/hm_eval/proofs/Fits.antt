@@ -3,7 +3,7 @@ use Rattle.std.specs.Prelude.{Option, IfSome}
 use Rattle.hm_tree.specs.Nodes.{Tree}
 use Rattle.hm_terms.specs.Lenses.{Lens, Setting}
 use Rattle.hm_terms.specs.Fitting.{Fits}
-use Rattle.hm_eval.specs.Conditions.{IsShown, IsPut}
+use Rattle.hm_eval_terms.specs.Conditions.{IsShown, IsPut}
 
 module _ (S : Setting) (l : Lens) (C A : Tree → Type 0) (fits : Fits S l C A) where
   pub fits_shown : (c : Tree) → C c → IsShown S l c

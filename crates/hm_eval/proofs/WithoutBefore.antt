@@ -10,7 +10,7 @@ use Rattle.hm_terms.specs.Lenses.{Lens, Lenses, none, also, lens_at, Setting}
 use Rattle.hm_terms.specs.Programs.{lens_of, lenses_of}
 use Rattle.hm_terms.specs.Put.{none_before, Puts, put_identity, put_sequence, put_constant, put_hoist, put_plunge, put_fork, put_each, put_among, put_call, put_copy, put_merge, put_text, put_items_none, put_items_more, put_concrete_has, put_concrete_none, put_view_has, put_view_none}
 use Rattle.hm_terms.proofs.OnePut.{one_put}
-use Rattle.hm_eval.specs.Conditions.{IsPut}
+use Rattle.hm_eval_terms.specs.Conditions.{IsPut}
 use Rattle.hm_eval.specs.Oblivious.{IsOblivious, oblivious, oblivious_all}
 
 -- each of oblivious lenses is oblivious

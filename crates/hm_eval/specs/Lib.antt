@@ -1,7 +1,1 @@
-pub mod Terms
-pub mod Conditions
-pub mod Children
-pub mod Stages
-pub mod Texts
-pub mod Renaming
 pub mod Oblivious

@@ -9,7 +9,7 @@ use Rattle.hm_text_lens.specs.Meanings.{TextMeaning}
 use Rattle.hm_terms.specs.Lenses.{Lens}
 use Rattle.hm_terms.specs.Shown.{Shows}
 use Rattle.hm_terms.specs.Put.{Puts}
-use Rattle.hm_eval.specs.Conditions as may
+use Rattle.hm_eval_terms.specs.Conditions as may
 use Rattle.hm_eval.specs.Oblivious.{oblivious}
 use Rattle.hm_eval.proofs.WithoutBefore.{may_put_without, put_alike}
 use Rattle.hm_types.specs.Checks.{Trees}

@@ -2,7 +2,7 @@
 ghost use Rattle.std.specs.Prelude.{◌≡◌, IsTrue, IfOk, IfSome, MatchOption, Some, map};
 ghost use Rattle.std.specs.Option.{option_map};
 ghost use Rattle.hm_terms.specs.Put.{Puts};
-ghost use Rattle.hm_eval.specs.Conditions.{IsPut};
+ghost use Rattle.hm_eval_terms.specs.Conditions.{IsPut};
 ghost use Rattle.hm_types.specs.Checks.{Trees};
 ghost use Rattle.hm_replica.specs.Replicas.{ReplicaValue, main_in, setting_in, typed_value, IsTyped, IsReplica, Closes};
 

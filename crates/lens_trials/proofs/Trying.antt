@@ -9,7 +9,7 @@ use Rattle.hm_terms.specs.Shown.{Shows}
 use Rattle.hm_terms.specs.Put.{Puts}
 use Rattle.hm_terms.specs.Fitting.{Fits}
 use Rattle.hm_terms.specs.Programs.{ProgramValue, setting_of}
-use Rattle.hm_eval.specs.Conditions.{IsShown, IsPut}
+use Rattle.hm_eval_terms.specs.Conditions.{IsShown, IsPut}
 use Rattle.hm_types.specs.Checks.{Trees, IsAccepted}
 use Rattle.hm_types.specs.declared.typed.Typed.{Typed}
 use Rattle.lens_trials.specs.Trials.{FitsTrees}

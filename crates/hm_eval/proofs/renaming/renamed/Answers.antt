@@ -1,5 +1,0 @@
-use Rattle.std.proofs.Common.{rules}
-use Rattle.hm_eval.proofs.renaming.renamed.Goals as goal
-
-pub returns : goal.returns
-returns c = record { child = c.in-Some.child; there = search rules; text = search rules; is = search rules }
