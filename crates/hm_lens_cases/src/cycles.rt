@@ -1,4 +1,4 @@
-//! Programs of a few definitions, made by hand.
+//! Programs that no lens file describes.
 use hm_cycles::first_in_bad_cycle;
 use hm_schema::{NodeId, Options};
 use hm_terms::{Definition, Program, Term};
@@ -11,43 +11,23 @@ fn call(alloc: Global, name: &str) -> Result<Term, Memory> {
     Ok(Term::Call(Name::from_text(alloc, name)?))
 }
 
-fn map(alloc: Global, inner: Term) -> Result<Term, Memory> {
-    Ok(Term::Map(Box::new(alloc, inner)?))
-}
-
-fn list(alloc: Global, inner: Term) -> Result<Term, Memory> {
-    Ok(Term::List(Box::new(alloc, inner)?))
-}
-
-fn hoist(alloc: Global) -> Result<Box<Term>, Memory> {
-    Ok(Box::new(alloc, Term::Hoist(Name::from_text(alloc, "m")?))?)
-}
-
 // `hoist(m)`, and then another lens.
 fn after_hoist(alloc: Global, second: Term) -> Result<Term, Memory> {
-    let second = Box::new(alloc, second)?;
-    Ok(Term::Seq(hoist(alloc)?, second))
+    let first = Term::Hoist(Name::from_text(alloc, "m")?);
+    let first = Box::new(alloc, first)?;
+    Ok(Term::Seq(first, Box::new(alloc, second)?))
 }
 
-// One definition more.
-fn define(
-    alloc: Global,
-    definitions: &mut Vec<Definition>,
-    name: &str,
-    body: Term,
-) -> Result<(), Memory> {
+// The program whose one definition is A.
+fn program(alloc: Global, body: Term) -> Result<Program, Memory> {
+    let mut definitions = Vec::new(alloc);
     definitions.push(Definition {
-        name: Name::from_text(alloc, name)?,
+        name: Name::from_text(alloc, "A")?,
         source: NodeId { place: 0 },
         view: NodeId { place: 0 },
         body,
     })?;
-    Ok(())
-}
-
-// The first definition in a bad cycle, where these are all.
-fn first(alloc: Global, definitions: Vec<Definition>) -> Result<Option<usize>, Memory> {
-    let program = Program {
+    Ok(Program {
         format: Name::from_text(alloc, "text")?,
         options: Options {
             pairs: Vec::new(alloc),
@@ -56,75 +36,31 @@ fn first(alloc: Global, definitions: Vec<Definition>) -> Result<Option<usize>, M
         },
         definitions,
         main: Term::Id,
-    };
-    first_in_bad_cycle(alloc, &program)
+    })
 }
 
 #[test]
-fn no_definitions(rt: HostRuntime) -> Result<(), Fail> {
+fn a_call_of_a_definition_that_is_not_there(rt: HostRuntime) -> Result<(), Fail> {
     let alloc = rt.alloc();
-    assert_eq!(rt; first(alloc, Vec::new(alloc))?, None);
+    let program = program(alloc, call(alloc, "B")?)?;
+    assert_eq!(rt; first_in_bad_cycle(alloc, &program)?, None);
     Ok(())
 }
 
-// The same of one definition alone, L.
-fn first_alone(alloc: Global, body: Term) -> Result<Option<usize>, Memory> {
-    let mut all = Vec::new(alloc);
-    define(alloc, &mut all, "L", body)?;
-    first(alloc, all)
-}
-
-#[test]
-fn a_definition_calls_itself(rt: HostRuntime) -> Result<(), Fail> {
-    let alloc = rt.alloc();
-    assert_eq!(rt; first_alone(alloc, call(alloc, "L")?)?, Some(0));
-    assert_eq!(rt; first_alone(alloc, map(alloc, call(alloc, "L")?)?)?, None);
-    let behind = map(alloc, after_hoist(alloc, call(alloc, "L")?)?)?;
-    assert_eq!(rt; first_alone(alloc, behind)?, Some(0));
-    assert_eq!(rt; first_alone(alloc, call(alloc, "M")?)?, None);
-    Ok(())
-}
-
-#[test]
-fn one_of_two_calls_goes_down(rt: HostRuntime) -> Result<(), Fail> {
-    let alloc = rt.alloc();
-    let mut all = Vec::new(alloc);
-    define(alloc, &mut all, "A", map(alloc, call(alloc, "B")?)?)?;
-    define(alloc, &mut all, "B", call(alloc, "A")?)?;
-    assert_eq!(rt; first(alloc, all)?, None);
-    Ok(())
-}
-
-#[test]
-fn three_that_call_one_another(rt: HostRuntime) -> Result<(), Fail> {
-    let alloc = rt.alloc();
-    let mut all = Vec::new(alloc);
-    define(alloc, &mut all, "A", map(alloc, call(alloc, "B")?)?)?;
-    define(alloc, &mut all, "B", list(alloc, call(alloc, "C")?)?)?;
-    define(alloc, &mut all, "C", after_hoist(alloc, call(alloc, "A")?)?)?;
-    assert_eq!(rt; first(alloc, all)?, Some(0));
-    Ok(())
-}
-
-#[test]
-fn the_first_one_only_leads_there(rt: HostRuntime) -> Result<(), Fail> {
-    let alloc = rt.alloc();
-    let mut all = Vec::new(alloc);
-    define(alloc, &mut all, "A", call(alloc, "B")?)?;
-    define(alloc, &mut all, "B", call(alloc, "B")?)?;
-    assert_eq!(rt; first(alloc, all)?, Some(1));
-    Ok(())
+// A lens for each of two names.
+fn row(alloc: Global, one: (&str, Term), two: (&str, Term)) -> Result<Term, Memory> {
+    let mut lenses = Vec::new(alloc);
+    lenses.push((Name::from_text(alloc, one.0)?, one.1))?;
+    lenses.push((Name::from_text(alloc, two.0)?, two.1))?;
+    Ok(Term::Each(lenses))
 }
 
 #[test]
 fn the_first_lens_of_a_name_counts(rt: HostRuntime) -> Result<(), Fail> {
     let alloc = rt.alloc();
-    let mut row = Vec::new(alloc);
-    row.push((Name::from_text(alloc, "x")?, Term::Id))?;
     let shadowed = after_hoist(alloc, call(alloc, "A")?)?;
-    row.push((Name::from_text(alloc, "x")?, shadowed))?;
-    let mut all = Vec::new(alloc);
-    define(alloc, &mut all, "A", Term::Each(row))?;
-    assert_eq!(rt; first(alloc, all)?, None);
+    let body = row(alloc, ("x", Term::Id), ("x", shadowed))?;
+    let program = program(alloc, body)?;
+    assert_eq!(rt; first_in_bad_cycle(alloc, &program)?, None);
     Ok(())
 }

@@ -15,5 +15,3 @@ mod parts;
 mod sides;
 #[cfg(test)]
 mod terms;
-#[cfg(test)]
-mod text_lenses;
