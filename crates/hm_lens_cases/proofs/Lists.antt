@@ -1,5 +1,5 @@
 -- A tree that has items is a list.
-use Rattle.std.proofs.Common.{List, ◌∷◌}
+use Rattle.std.proofs.Common.{List}
 use Rattle.hm_tree.specs.Nodes.{Tree}
 use Rattle.hm_terms.specs.Parts.{IsList, no_items, an_item, HasItems, none_left, and_then}
 
