@@ -2,8 +2,8 @@
 use hm_focal::LensFault;
 use hm_format::FormatFault;
 use hm_schema_text::SchemaFault;
-use hm_spelling::append_path;
 use hm_tree::{Memory, Path};
+use hm_tree_spelling::append_path;
 use hm_tree_text::TextFault;
 use std::alloc::Global;
 

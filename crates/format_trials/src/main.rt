@@ -10,8 +10,10 @@
 //! write FORMAT KEY=VALUE.. TREE [BEFORE]      the file of a tree, behind the file from before; none is an empty one
 //! ```
 //!
-//! A format and its options are as a lens file has them, which declares the nodes of the file `nodes`, if that is there. What
-//! isn't read or written is told by its fault.
+//! A format and its options are as a lens file has them, which declares the nodes of the file `nodes`, if that is
+//! there. What isn't read or written is told by its fault. `tests/run-cases` runs it.
+//!
+//! Proved: that what it calls is called as the contracts ask. Nothing is said of what it prints.
 #![tactic(auto)]
 
 mod faults;

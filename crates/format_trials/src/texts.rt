@@ -5,9 +5,9 @@ ghost use Rattle.hm_format.specs.Options.{AreSound};
 
 use crate::faults::{lens_line, schema_line, text_line};
 use crate::options::read_options;
-use hm_node_writer::append_nodes;
 use hm_schema::{Options, Schema};
 use hm_schema_text::read_schema;
+use hm_schema_writer::append_nodes;
 use hm_tree::{Archive, Memory, Name, State};
 use hm_tree_text::{read_archive, read_tree, write_archive, write_tree};
 use std::alloc::Global;

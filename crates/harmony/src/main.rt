@@ -1,4 +1,9 @@
 //! Synchronises two files, each read through a lens file, with the archive of what they last agreed on.
+//!
+//! This is `main` alone, which knows which store and which sink are real, and which formats and text lenses there are.
+//!
+//! Proved: nothing of its own, but that what it calls is called as the contracts ask. That `main` hands in the words,
+//! the real files, the formats and the text lenses is shown by its stored run and by `tests/real-files`.
 #![tactic(auto)]
 
 use hm_csv::Csv;

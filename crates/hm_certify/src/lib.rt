@@ -2,7 +2,14 @@
 //!
 //! Each place of the new trees is looked at beside what stood there before (`standing`): whether the result is safe
 //! there (`safe`), whether the conflicts are those of the topmost marks (`marks`), and whether each shows why
-//! (`reasons`). The check knows no way to find an outcome, needs no code of who does, and takes no memory.
+//! (`reasons`). The check knows the definitions and no way to find an outcome, needs no code of `hm_reconcile`, and
+//! takes no memory.
+//!
+//! Proved, for a schema without twins and two members of it: `certify` answers true exactly where the result that is
+//! handed in is safe under the schema, its conflicts stand at its topmost marks in their order, and each shows why.
+//! Where it does, the result is maximal, and its two replicas are those of the outcome. The contract also says,
+//! whatever result is handed in and whatever the answer, that there is exactly one outcome, with exactly one list of
+//! conflicts.
 #![tactic(auto)]
 
 mod carried;

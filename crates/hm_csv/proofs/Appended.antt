@@ -2,10 +2,10 @@
 use Rattle.std.proofs.Common.{◌≡◌, ℕ, Bool, true, ◌+◌, ◌<◌, ◌&&◌, List, [], ◌∷◌, length, get_or, take, slice_get, Some, refl, sym, ap, ◌∙◌, subst}
 use Rattle.std.specs.Prelude.{IfOk, IsTrue, ◌↔◌, Result}
 use Rattle.std.proofs.lemmas.Option.{slice_get-get_or}
-use Rattle.hm_items.specs.declared.planned.Slot.{Slot}
-use Rattle.hm_records.specs.Rows.{Fields}
-use Rattle.hm_records.specs.Written.{HasWritten}
-use Rattle.hm_records.specs.declared.writer.RecordsWriter.{RecordsWriter}
+use Rattle.hm_book_items.specs.declared.planned.NewItem.{NewItem}
+use Rattle.hm_csv_records.specs.Rows.{Fields}
+use Rattle.hm_csv_records.specs.Written.{HasWritten}
+use Rattle.hm_csv_records.specs.declared.writer.RecordsWriter.{RecordsWriter}
 use Rattle.hm_csv.specs.declared.opening.Opened.{Opened}
 use Rattle.hm_csv.specs.Rewriting.{Lists, rows_in, header_in, others_in, row_in, slot_in, slot_rows, IsAppended}
 use Rattle.hm_csv.proofs.Slots.{rows_more, rows_so_many}
@@ -23,7 +23,7 @@ pub stands_there : (rows : List Fields) (from at : ℕ) → from < length rows �
 stands_there rows from at lt e = ((λ t. ap (slice_get rows) (sym e) ∙ slice_get-get_or rows from [] lt), (λ h. refl))
 
 -- the record of one slot more
-module _ (w : Opened) (lists : Lists) (slots : List Slot) (at : ℕ) (lt : at < length slots) (d : Slot) where
+module _ (w : Opened) (lists : Lists) (slots : List NewItem) (at : ℕ) (lt : at < length slots) (d : NewItem) where
   abbrev so_far : List Fields
   so_far = slot_rows w lists (take at slots)
 

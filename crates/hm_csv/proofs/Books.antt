@@ -6,10 +6,10 @@ use Rattle.csv.specs.Records.{Row, fields_of}
 use Rattle.hm_tree.specs.Names.{Name}
 use Rattle.hm_tree.specs.Nodes.{Tree, are_edges}
 use Rattle.hm_schema.specs.Values.{OptionsValue}
-use Rattle.hm_item_trees.specs.ItemTrees.{IsItemTree}
-use Rattle.hm_records.specs.Rows.{Fields}
-use Rattle.hm_columns.specs.declared.column.Column.{Column}
-use Rattle.hm_columns.specs.Records.{AreColumns, shown_by}
+use Rattle.hm_book_items.specs.ItemTrees.{IsItemTree}
+use Rattle.hm_csv_records.specs.Rows.{Fields}
+use Rattle.hm_csv_columns.specs.declared.column.Column.{Column}
+use Rattle.hm_csv_columns.specs.Records.{AreColumns, shown_by}
 use Rattle.hm_format.specs.declared.fault.FormatFault.{FormatFault}
 use Rattle.hm_format.specs.declared.fault.FormatFault.TheVariants.{BadOption, NotUtf8, BadItem, NoKey, TooDeep, Outside, Memory}
 use Rattle.hm_format.specs.Answers.{Reads}

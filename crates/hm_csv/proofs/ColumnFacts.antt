@@ -13,14 +13,14 @@ use Rattle.hm_tree.specs.Cleaned.{cleaned}
 use Rattle.hm_tree.specs.Nodes.{are_edges}
 use Rattle.hm_tree.proofs.Sorted.{name_one}
 use Rattle.hm_schema.specs.Values.{OptionsValue}
-use Rattle.hm_records.specs.Rows.{Fields, IsHeader, column}
-use Rattle.hm_columns.specs.declared.column.Column.{Column}
-use Rattle.hm_columns.specs.Records.{AreColumns, column_at, shown_by}
+use Rattle.hm_csv_records.specs.Rows.{Fields, IsHeader, column}
+use Rattle.hm_csv_columns.specs.declared.column.Column.{Column}
+use Rattle.hm_csv_columns.specs.Records.{AreColumns, column_at, shown_by}
 use Rattle.hm_format.specs.Options.{AreSound, is_among, bad_key}
-use Rattle.hm_format.proofs.Accepted.{equal}
 use Rattle.hm_csv.specs.Options.{csv_rules, key_name, many_names, shown_names, shown_of, column_names}
 use Rattle.hm_csv.proofs.ShownNames.{shown_are, key_apart}
 use Rattle.hm_csv.specs.Tables.{place_in, key_place, column_for, columns_of}
+use Rattle.hm_facts.proofs.Orderings.{equal}
 
 firsts : (f : Name → Bool) (names : List Name) → map (λ (s : Name × Bool). s.0) (map (λ (k : Name). (k, f k)) names) ≡ names
 firsts f [] = refl

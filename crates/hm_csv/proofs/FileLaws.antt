@@ -1,5 +1,5 @@
 -- The laws of the format: what is read is a book, and what is written is read as the tree.
-use Rattle.std.proofs.Common.{◌≡◌, ◌≢◌, ℕ, suc, Bool, true, false, T, List, [], ◌∷◌, ◌++◌, length, map, refl, sym, ap, ◌∙◌, subst, arith}
+use Rattle.std.proofs.Common.{◌≡◌, ◌≢◌, ℕ, suc, T, List, [], ◌∷◌, ◌++◌, length, map, refl, sym, ap, ◌∙◌, subst, arith}
 use Rattle.std.specs.Prelude.{All, IsUtf8, Some, None, Ok}
 use Rattle.std.proofs.lemmas.List.Elements.{All-nil, All-cons}
 use Rattle.std.proofs.lemmas.Str.{IsUtf8-from_is_utf8}
@@ -11,19 +11,19 @@ use Rattle.hm_tree.specs.States.{state}
 use Rattle.hm_tree.proofs.Sorted.{name_total, name_one}
 use Rattle.hm_schema.specs.Values.{OptionsValue}
 use Rattle.hm_schema.specs.Membership.{IsMember}
-use Rattle.hm_items.specs.Items.{Each, IsTree, IsRewritten, kept, added}
-use Rattle.hm_items.proofs.Fitting.{AllFit}
-use Rattle.hm_item_trees.specs.ItemTrees.{AreLists, IsItemTree}
-use Rattle.hm_item_trees.proofs.Laws.{lists_once}
-use Rattle.hm_records.specs.Rows.{Fields, IsHeader, AreGood}
-use Rattle.hm_records.specs.Reads.{IsSheet}
-use Rattle.hm_records.specs.Written.{written}
-use Rattle.hm_records.proofs.Laws.{records_text, records_filled, written_reads}
-use Rattle.hm_cards.specs.Cards.{Shown, IsCard}
-use Rattle.hm_cards.specs.Books as books
-use Rattle.hm_cards.proofs.Laws.{items_book, member_book, book_member}
-use Rattle.hm_columns.specs.Records.{AreColumns, card_of}
-use Rattle.hm_columns.proofs.Laws.{record_card}
+use Rattle.hm_book_items.specs.Items.{Each, IsTree, IsRewritten, kept, added}
+use Rattle.hm_book_items.proofs.Fitting.{AllFit}
+use Rattle.hm_book_items.specs.ItemTrees.{AreLists, IsItemTree}
+use Rattle.hm_book_items.proofs.Laws.{lists_once}
+use Rattle.hm_csv_records.specs.Rows.{Fields, IsHeader, AreGood}
+use Rattle.hm_csv_records.specs.Reads.{IsSheet}
+use Rattle.hm_csv_records.specs.Written.{written}
+use Rattle.hm_csv_records.proofs.Laws.{records_text, records_filled, written_reads}
+use Rattle.hm_book_cards.specs.Cards.{Shown, IsCard}
+use Rattle.hm_book_cards.specs.Books as books
+use Rattle.hm_book_cards.proofs.Laws.{items_book, member_book, book_member}
+use Rattle.hm_csv_columns.specs.Records.{AreColumns, card_of}
+use Rattle.hm_csv_columns.proofs.Laws.{record_card}
 use Rattle.hm_format.specs.Formats.{depth_over}
 use Rattle.hm_format.proofs.Limits.{shallow}
 use Rattle.hm_csv.specs.Options.{shown_of, column_names}
@@ -32,13 +32,10 @@ use Rattle.hm_csv.specs.Files.{IsBook, CsvReads}
 use Rattle.hm_csv.specs.Writing.{keyed, row_for, AreNewRows, IsWrittenAnew, CsvWrites, stays, anew, CsvKeeps}
 use Rattle.hm_csv.proofs.RowLaws.{shown_is, FitsTree, FitsFile, AreRows, new_rows, new_tree, rows_stay}
 use Rattle.hm_csv.proofs.ReadOnce.{mark_once, header_once, others_once}
+use Rattle.hm_facts.proofs.Booleans.{is_true}
 
 all_tail : {X : Type 0} (P : X → Type 0) (x : X) (xs : List X) → All P (x ∷ xs) → All P xs
 all_tail P x xs h = λ k d lt. h (suc k) d (omega (arith, lt))
-
-is_true : (b : Bool) → T b → b ≡ true
-is_true true h = refl
-is_true false h = absurd h
 
 -- ---- one text is written
 

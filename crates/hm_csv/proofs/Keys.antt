@@ -9,12 +9,11 @@ use Rattle.hm_tree.specs.Names.{Name}
 use Rattle.hm_tree.specs.Cleaned.{cleaned}
 use Rattle.hm_tree.specs.Classes.{IsFilled}
 use Rattle.hm_tree.specs.Nodes.{Tree}
-use Rattle.hm_tree.proofs.Classed.{cleaned-cleaned}
-use Rattle.hm_pieces.specs.Texts.{is_text}
-use Rattle.hm_pieces.proofs.Laws.{filled_shown}
-use Rattle.hm_records.specs.Rows.{Fields}
-use Rattle.hm_columns.specs.declared.column.Column.{Column}
-use Rattle.hm_columns.proofs.FieldLaws.{filled_text}
+use Rattle.hm_tree.proofs.Classed.{cleaned-cleaned, filled_text}
+use Rattle.hm_tree.specs.Classes.{is_text}
+use Rattle.hm_tree.proofs.Classed.{text_filled}
+use Rattle.hm_csv_records.specs.Rows.{Fields}
+use Rattle.hm_csv_columns.specs.declared.column.Column.{Column}
 use Rattle.hm_csv.specs.Reading.{IsKeyed, IsFirstKeyless, IsItem, item_by}
 
 -- a key that is a text isn't of spaces alone, and a key that isn't of spaces alone is a text
@@ -23,7 +22,7 @@ key_filled field name is e = filled_text (cleaned field) (cleaned-cleaned field)
 
 pub key_spaces : (field : List ℕ) (name : Name) → name ≡ cleaned field → is_text name ≡ false → ¬ (IsFilled (cleaned field))
 key_spaces field name is e filled =
-    let yes : is_text (cleaned field) ≡ true = ap is_text (sym (cleaned-cleaned field)) ∙ filled_shown (cleaned field) filled in
+    let yes : is_text (cleaned field) ≡ true = ap is_text (sym (cleaned-cleaned field)) ∙ text_filled (cleaned field) filled in
     let no : is_text (cleaned field) ≡ false = ap is_text (sym is) ∙ e in
     let bad : ⊥ = cc in
     bad

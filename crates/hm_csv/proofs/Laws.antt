@@ -3,12 +3,13 @@ use Rattle.std.proofs.Common.{◌≡◌, length, sym, subst}
 use Rattle.hm_tree.specs.Nodes.{Tree}
 use Rattle.hm_schema.specs.Values.{OptionsValue, SchemaValue}
 use Rattle.hm_schema.specs.Membership.{HasNoTwins}
-use Rattle.hm_records.specs.Rows.{Fields, IsHeader}
-use Rattle.hm_cards.specs.Books.{book_schema}
-use Rattle.hm_cards.proofs.Laws as cards
-use Rattle.hm_columns.specs.Records.{AreColumns}
+use Rattle.hm_csv_records.specs.Rows.{Fields, IsHeader}
+use Rattle.hm_book_cards.specs.Books.{book_schema}
+use Rattle.hm_book_cards.proofs.Laws as cards
+use Rattle.hm_csv_columns.specs.Records.{AreColumns}
 use Rattle.hm_format.specs.Options.{AreSound, bad_key}
-use Rattle.hm_format.specs.Formats.{HasSchema, IsMemberTree, IsLawful}
+use Rattle.hm_format.specs.Formats.{HasSchema, IsLawful}
+use Rattle.hm_schema.specs.Membership.{IsMemberTree}
 use Rattle.hm_format.proofs.Accepted.{schema_given}
 use Rattle.hm_format.proofs.Limits.{not_over}
 use Rattle.hm_csv.specs.Options.{csv_rules, shown_of, column_names}

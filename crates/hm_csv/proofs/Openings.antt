@@ -3,7 +3,7 @@ use Rattle.std.proofs.Common.{◌≡◌, List, [], ◌∷◌, map, slice_get, So
 use Rattle.std.specs.Prelude.{All, IsUtf8}
 use Rattle.csv.specs.Records.{Row, fields_of}
 use Rattle.hm_tree.specs.Names.{Name}
-use Rattle.hm_records.specs.Rows.{IsHeader, AreGood}
+use Rattle.hm_csv_records.specs.Rows.{IsHeader, AreGood}
 
 module _ (row : Row) where
   pub header_good : (names : List Name) (rows : List Row) → Some row ≡ slice_get rows 0 → AreGood names (map fields_of rows) → IsHeader names (fields_of row)

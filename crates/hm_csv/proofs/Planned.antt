@@ -2,7 +2,7 @@
 use Rattle.std.proofs.Common.{◌≡◌, ℕ, zero, suc, ◌+◌, ◌<◌, Bool, false, ◌&&◌, T, List, [], ◌∷◌, length, get_or, map, Option, Some, None, refl, sym, ap, ◌∙◌, subst, arith}
 use Rattle.std.specs.Prelude.{All, IfSome, IsTrue, ◌↔◌, MatchOption, Vec}
 use Rattle.std.specs.declared.alloc.Global.{Global}
-use Rattle.hm_records.specs.Written.{written}
+use Rattle.hm_csv_records.specs.Written.{written}
 use Rattle.std.specs.Option.{option_map, unwrap_or}
 use Rattle.std.specs.Ordering.{is_lt}
 use Rattle.std.specs.FinMap.{is_sorted}
@@ -11,14 +11,13 @@ use Rattle.std.proofs.lemmas.List.{get_or-map}
 use Rattle.std.proofs.lemmas.Option.{slice_get-get_or}
 use Rattle.hm_tree.specs.Names.{Name, name_cmp}
 use Rattle.hm_tree.specs.Nodes.{Tree, empty}
-use Rattle.hm_tree.proofs.Sorted.{name_total, name_one}
-use Rattle.hm_items.specs.declared.planned.Slot.{Slot}
-use Rattle.hm_items.specs.Items.{Each, below_key, IsRewritten}
-use Rattle.hm_items.specs.Plans.{numbered, places, slots_of, IsWithin, AreWithin}
-use Rattle.hm_items.proofs.Contents.{news}
-use Rattle.hm_items.proofs.Numbers.{keys_of, wanted_of, plan_read}
-use Rattle.hm_records.specs.Rows.{Fields}
-use Rattle.hm_cards.proofs.CardTrees.{found_at}
+use Rattle.hm_tree.proofs.Sorted.{name_total, name_one, found_in_order}
+use Rattle.hm_book_items.specs.declared.planned.NewItem.{NewItem}
+use Rattle.hm_book_items.specs.Items.{Each, below_key, IsRewritten}
+use Rattle.hm_book_items.specs.Plans.{numbered, places, slots_of, IsWithin, AreWithin}
+use Rattle.hm_book_items.proofs.Contents.{news}
+use Rattle.hm_book_items.proofs.Numbers.{keys_of, wanted_of, plan_read}
+use Rattle.hm_csv_records.specs.Rows.{Fields}
 use Rattle.hm_csv.specs.declared.opening.Opened.{Opened}
 use Rattle.hm_csv.specs.Rewriting.{Lists, header_in, others_in, IsAnew, key_in, keyed_in, counts_in, list_at, row_in, slot_in, slot_rows, IsInside, AreRowsFor}
 
@@ -64,7 +63,7 @@ keys_are key (row ∷ rows) = ap (λ ks. key_in key row ∷ ks) (keys_are key ro
 -- ---- slots
 
 module _ (w : Opened) (lists : Lists) (rise : T (is_sorted name_cmp lists)) where
-  inside_one : (s : Slot) → IsWithin (counts_in lists) (length (map (key_in w.key) (others_in w))) s → IsInside w lists s
+  inside_one : (s : NewItem) → IsWithin (counts_in lists) (length (map (key_in w.key) (others_in w))) s → IsInside w lists s
   inside_one s h =
       let n = so_many count_of lists in
       let edge = h.edge in
@@ -75,7 +74,7 @@ module _ (w : Opened) (lists : Lists) (rise : T (is_sorted name_cmp lists)) wher
         from = λ i is. let lt : i < length (map (key_in w.key) (others_in w)) = subst (λ (o : Option ℕ). IfSome o (λ i. i < length (map (key_in w.key) (others_in w)))) is h.from in omega (arith, lt, m);
       }
 
-  pub all_inside : (slots : List Slot) → AreWithin (counts_in lists) (length (map (key_in w.key) (others_in w))) slots → All (IsInside w lists) slots
+  pub all_inside : (slots : List NewItem) → AreWithin (counts_in lists) (length (map (key_in w.key) (others_in w))) slots → All (IsInside w lists) slots
   all_inside slots h = λ i s lt. inside_one (get_or slots i s) (h i s lt)
 
   -- the record from before at a number, and the card at a place of the list of a key
@@ -86,7 +85,7 @@ module _ (w : Opened) (lists : Lists) (rise : T (is_sorted name_cmp lists)) wher
   card_at k place = get_or (below_key name_cmp k lists) place empty
 
   below_is : (i : ℕ) (e : Name × List Tree) → i < length lists → e ≡ get_or lists i e → below_key name_cmp e.0 lists ≡ e.1
-  below_is i e lt is = ap (λ o. unwrap_or o []) (found_at lists rise i e (slice_get-get_or lists i e lt ∙ ap Some (sym is)))
+  below_is i e lt is = ap (λ o. unwrap_or o []) (found_in_order lists rise i e (slice_get-get_or lists i e lt ∙ ap Some (sym is)))
 
   cards_read : Each name_cmp (λ e. (i : ℕ) (a : Tree) → i < length e.1 → card_at e.0 (0 + i) ≡ get_or e.1 i a) lists
   unfolding card_at
@@ -116,7 +115,7 @@ module _ (w : Opened) (lists : Lists) (rise : T (is_sorted name_cmp lists)) wher
       ∙ sym (ap (λ (e : Name × Fields). e.1) (get_or-map (with_key key) (others_in w) i [] x (omega (arith, lt, m))))
 
   -- what a slot says is what its numbers say
-  slot_one : (s : Slot) → IsInside w lists s
+  slot_one : (s : NewItem) → IsInside w lists s
       → slot_in w lists s ≡ ((get_or (counts_in lists) s.edge ([], 0)).0, option_map old_at s.from, card_at (get_or (counts_in lists) s.edge ([], 0)).0 s.place)
   unfolding old_at card_at
   slot_one s inside =
@@ -133,13 +132,13 @@ module _ (w : Opened) (lists : Lists) (rise : T (is_sorted name_cmp lists)) wher
       same_read (l ∷ ls) zero d e lt = refl
       same_read (l ∷ ls) (suc i) d e lt = same_read ls i d e (omega (arith, lt))
 
-  rows_one : (slots : List Slot) → All (IsInside w lists) slots
+  rows_one : (slots : List NewItem) → All (IsInside w lists) slots
       → slot_rows w lists slots ≡ map (row_in w) (news name_cmp name_total name_one old_at card_at (slots_of (counts_in lists) slots))
   rows_one [] inside = refl
   rows_one (s ∷ slots) inside =
       λ i. row_in w (slot_one s (inside 0 s (omega arith)) i) ∷ rows_one slots (λ k d lt. inside (suc k) d (omega (arith, lt))) i
 
-  pub rows_for : (slots : List Slot) → All (IsInside w lists) slots
+  pub rows_for : (slots : List NewItem) → All (IsInside w lists) slots
       → IsRewritten name_cmp (numbered 0 (map (key_in w.key) (others_in w))) (places (counts_in lists)) (slots_of (counts_in lists) slots)
       → AreRowsFor w lists (slot_rows w lists slots)
   rows_for slots inside made = record {

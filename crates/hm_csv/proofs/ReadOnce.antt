@@ -1,37 +1,21 @@
 -- Bytes are read as one book, or refused for one fault.
-use Rattle.std.proofs.Common.{◌≡◌, ℕ, suc, ◌+◌, ◌≤◌, List, [], ◌∷◌, ◌++◌, length, refl, sym, ap, ◌∙◌, subst, arith}
+use Rattle.std.proofs.Common.{◌≡◌, ℕ, ◌+◌, ◌≤◌, List, ◌∷◌, sym, ap, ◌∙◌, subst, arith}
 use Rattle.std.specs.Prelude.{All, IsUtf8, Result, Ok, Err}
 use Rattle.hm_tree.specs.Nodes.{Tree, depth}
 use Rattle.hm_schema.specs.Values.{OptionsValue}
-use Rattle.hm_item_trees.specs.ItemTrees.{IsItemTree}
-use Rattle.hm_item_trees.proofs.Laws.{item_tree_once}
-use Rattle.hm_records.specs.Rows.{Fields}
-use Rattle.hm_records.specs.Reads.{Sheet, StopsAt, IsBadItem}
-use Rattle.hm_records.specs.declared.fault.RecordsFault.TheVariants as records
-use Rattle.hm_records.proofs.Laws.{records_once}
+use Rattle.hm_book_items.specs.ItemTrees.{IsItemTree}
+use Rattle.hm_book_items.proofs.Laws.{item_tree_once}
+use Rattle.hm_csv_records.specs.Rows.{Fields}
+use Rattle.hm_csv_records.specs.Reads.{Sheet, StopsAt, IsBadItem}
+use Rattle.hm_csv_records.specs.declared.fault.RecordsFault.TheVariants as records
+use Rattle.hm_csv_records.proofs.Laws.{records_once}
 use Rattle.hm_format.specs.declared.fault.FormatFault.{FormatFault}
 use Rattle.hm_format.specs.declared.fault.FormatFault.TheVariants.{BadOption, NotUtf8, BadItem, NoKey, TooDeep, Outside, Memory}
 use Rattle.hm_format.specs.Formats.{IsReadFault, deepest}
 use Rattle.hm_csv.specs.Options.{column_names}
 use Rattle.hm_csv.specs.Tables.{IsTable, HasKey, items_of}
 use Rattle.hm_csv.specs.Files.{IsBook, IsKeyless, IsTooDeep, CsvReads}
-
--- of two first ones that aren't such, the places are one
-first_break : {X : Type 0} (P : X → Type 0) (xs ys : List X) (x y : X) (us vs : List X) → xs ++ x ∷ us ≡ ys ++ y ∷ vs
-    → All P xs → ¬ (P x) → All P ys → ¬ (P y) → length xs ≡ length ys
-first_break P [] [] x y us vs e all breaks others ends = refl
-first_break P [] (z ∷ ys) x y us vs e all breaks others ends =
-    let same : x ≡ z = cc in absurd (breaks (subst P (sym same) (others 0 z (omega arith))))
-first_break P (z ∷ xs) [] x y us vs e all breaks others ends =
-    let same : z ≡ y = cc in absurd (ends (subst P same (all 0 z (omega arith))))
-first_break P (z ∷ xs) (w ∷ ys) x y us vs e all breaks others ends =
-    let rest : xs ++ x ∷ us ≡ ys ++ y ∷ vs = cc in
-    ap suc (first_break P xs ys x y us vs rest (λ k d lt. all (suc k) d (omega (arith, lt))) breaks (λ k d lt. others (suc k) d (omega (arith, lt))) ends)
-
--- where all are such, none breaks
-no_break : {X : Type 0} (P : X → Type 0) (xs us : List X) (x : X) → All P (xs ++ x ∷ us) → P x
-no_break P [] us x all = all 0 x (omega arith)
-no_break P (z ∷ xs) us x all = no_break P xs us x (λ k d lt. all (suc k) d (omega (arith, lt)))
+use Rattle.hm_facts.proofs.Lists.{first_break, no_break}
 
 module _ (o : OptionsValue) (bytes : List ℕ) where
   abbrev sheet_in : IsTable o bytes → Sheet

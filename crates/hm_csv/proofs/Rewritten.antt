@@ -8,19 +8,20 @@ use Rattle.csv.specs.Records.{Row, fields_of}
 use Rattle.hm_tree.specs.Names.{Name, name_cmp}
 use Rattle.hm_tree.specs.Nodes.{Tree, edges}
 use Rattle.hm_schema.specs.Values.{OptionsValue, SchemaValue}
-use Rattle.hm_items.specs.Items.{IsRewritten}
-use Rattle.hm_item_trees.specs.ItemTrees.{AreLists, HasLists}
-use Rattle.hm_item_trees.proofs.Laws.{lists_once, are_lists}
-use Rattle.hm_records.specs.Rows.{Fields}
-use Rattle.hm_records.specs.Written.{written}
-use Rattle.hm_cards.specs.Books as books
-use Rattle.hm_cards.proofs.Laws.{book_member}
-use Rattle.hm_columns.specs.Records.{AreColumns, AreSigns, rewritten, blank}
+use Rattle.hm_book_items.specs.Items.{IsRewritten}
+use Rattle.hm_book_items.specs.ItemTrees.{AreLists, HasLists}
+use Rattle.hm_book_items.proofs.Laws.{lists_once, are_lists}
+use Rattle.hm_csv_records.specs.Rows.{Fields}
+use Rattle.hm_csv_records.specs.Written.{written}
+use Rattle.hm_book_cards.specs.Books as books
+use Rattle.hm_book_cards.proofs.Laws.{book_member}
+use Rattle.hm_csv_columns.specs.Records.{AreColumns, AreSigns, rewritten, blank}
 use Rattle.hm_tree.specs.Cleaned.{cleaned}
 use Rattle.hm_format.specs.declared.fault.FormatFault.{FormatFault}
 use Rattle.hm_format.specs.declared.fault.FormatFault.TheVariants.{BadOption, NotUtf8, BadItem, NoKey, TooDeep, Outside, Memory}
 use Rattle.hm_format.specs.Options.{AreSound}
-use Rattle.hm_format.specs.Formats.{HasSchema, IsMemberTree, depth_over}
+use Rattle.hm_format.specs.Formats.{HasSchema, depth_over}
+use Rattle.hm_schema.specs.Membership.{IsMemberTree}
 use Rattle.hm_format.specs.Answers.{Writes}
 use Rattle.hm_csv.specs.declared.opening.Opened.{Opened}
 use Rattle.hm_csv.specs.Options.{shown_of, column_names}

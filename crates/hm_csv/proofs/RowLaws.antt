@@ -16,14 +16,14 @@ use Rattle.hm_tree.specs.Cleaned.{cleaned}
 use Rattle.hm_tree.specs.Nodes.{Tree, edges, are_edges}
 use Rattle.hm_tree.proofs.Sorted.{name_total, name_one}
 use Rattle.hm_schema.specs.Values.{OptionsValue}
-use Rattle.hm_items.specs.Items.{IsTree, IsGrouped, IsRewritten, Each, IsWriting, seen, written}
-use Rattle.hm_items.proofs.Fitting.{AllFit, put_get_fit, sound_fit, get_put_fit}
-use Rattle.hm_item_trees.specs.ItemTrees.{AreLists, IsItemTree}
-use Rattle.hm_records.specs.Rows.{Fields}
-use Rattle.hm_cards.specs.Cards.{Shown, IsCard, IsSound, AreSound, texts_at, no_texts}
-use Rattle.hm_cards.proofs.CardTrees.{card_texts, found_sound, suit_edges, suit_sound}
-use Rattle.hm_columns.specs.Records.{AreColumns, shown_by, card_of, blank}
-use Rattle.hm_columns.proofs.Laws.{record_shows, record_stays, rewritten_long, rewritten_text, rewritten_key}
+use Rattle.hm_book_items.specs.Items.{IsTree, IsGrouped, IsRewritten, Each, IsWriting, seen, written}
+use Rattle.hm_book_items.proofs.Fitting.{AllFit, put_get_fit, sound_fit, get_put_fit}
+use Rattle.hm_book_items.specs.ItemTrees.{AreLists, IsItemTree}
+use Rattle.hm_csv_records.specs.Rows.{Fields}
+use Rattle.hm_book_cards.specs.Cards.{Shown, IsCard, IsSound, AreSound, texts_at, no_texts}
+use Rattle.hm_book_cards.proofs.CardTrees.{card_texts, found_sound, suit_edges, suit_sound}
+use Rattle.hm_csv_columns.specs.Records.{AreColumns, shown_by, card_of, blank}
+use Rattle.hm_csv_columns.proofs.Laws.{record_shows, record_stays, rewritten_long, rewritten_text, rewritten_key}
 use Rattle.hm_csv.specs.Options.{shown_of}
 use Rattle.hm_csv.specs.Tables.{key_place, columns_of, column_for, key_of, HasKey, item_of, items_of}
 use Rattle.hm_csv.specs.Writing.{base, new_row, keyed, Slots, row_for}
@@ -35,10 +35,6 @@ shown_again header (s ∷ shown) = ap (λ l. s ∷ l) (shown_again header shown)
 
 pub shown_is : (o : OptionsValue) (header : Fields) → shown_by (columns_of o header) ≡ shown_of o
 shown_is o header = shown_again header (shown_of o)
-
-each_of : {X : Type 0} (P : X → Type 0) (xs : List X) → All P xs → Each name_cmp P xs
-each_of P [] h = tt
-each_of P (x ∷ xs) h = (h 0 x (omega arith), each_of P xs (λ k d lt. h (suc k) d (omega (arith, lt))))
 
 -- the texts of a card are UTF-8, below any name
 card_sound : (shown : Shown) (t : Tree) → T (are_edges shown) → IsCard shown t → (k : Name) → IsSound (texts_at k t)

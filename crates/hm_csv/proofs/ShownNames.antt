@@ -11,15 +11,15 @@ use Rattle.hm_tree.specs.Nodes.{are_edges}
 use Rattle.hm_tree.proofs.Sorted.{name_total}
 use Rattle.hm_tree.proofs.Ascending.{contains-ascending}
 use Rattle.hm_schema.specs.Values.{OptionsValue, SchemaValue}
-use Rattle.hm_cards.specs.Books.{book_schema}
-use Rattle.hm_cards.proofs.TextTrees.{set_edges}
-use Rattle.hm_columns.proofs.FieldLaws.{of_list}
+use Rattle.hm_book_cards.specs.Books.{book_schema}
+use Rattle.hm_book_cards.proofs.TextTrees.{set_edges}
 use Rattle.hm_format.specs.Options.{Rule, AreSound, is_among, values_of, bad_key}
 use Rattle.hm_format.specs.Formats.{HasSchema}
 use Rattle.hm_format.proofs.Accepted.{none_missing, no_bad_key}
 use Rattle.hm_format.proofs.Apart.{stands, apart, values_text}
 use Rattle.hm_csv.specs.Options.{csv_rules, first_name, key_name, many_names, shown_names, shown_of}
 use Rattle.hm_csv.specs.Writing.{csv}
+use Rattle.hm_tree.proofs.NameSets.{of_list}
 
 abbrev listed : OptionsValue → List Name
 listed o = values_of o.pairs (codes "show") ++ many_names o

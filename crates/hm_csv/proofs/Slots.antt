@@ -6,12 +6,12 @@ use Rattle.std.proofs.lemmas.List.{take_more, length-take-le, map-append, get_or
 use Rattle.csv.specs.Records.{Row, fields_of}
 use Rattle.hm_tree.specs.Names.{Name}
 use Rattle.hm_tree.specs.Nodes.{Tree, empty}
-use Rattle.hm_items.specs.declared.planned.Slot.{Slot}
-use Rattle.hm_records.specs.Rows.{Fields}
-use Rattle.hm_columns.specs.Records.{AreSigns, rewritten, blank}
-use Rattle.hm_columns.specs.declared.column.Column.{Column}
+use Rattle.hm_book_items.specs.declared.planned.NewItem.{NewItem}
+use Rattle.hm_csv_records.specs.Rows.{Fields}
+use Rattle.hm_csv_columns.specs.Records.{AreSigns, rewritten, blank}
+use Rattle.hm_csv_columns.specs.declared.column.Column.{Column}
 use Rattle.std.specs.Borrow.{Bor}
-use Rattle.hm_item_trees.specs.Lent.{LentList, lent_list, lent_lists}
+use Rattle.hm_book_items.specs.Lent.{LentList, lent_list, lent_lists}
 use Rattle.hm_csv.specs.declared.opening.Opened.{Opened}
 use Rattle.hm_csv.specs.Rewriting.{Lists, rows_in, header_in, others_in, key_in, list_at, row_in, slot_in, slot_rows, IsInside}
 
@@ -78,7 +78,7 @@ new_is w key card row d made new count some is long blank_is h =
     h ∙ ap (rewritten w.table.columns.items card) same
 
 -- what a slot says, by the list and the card at its place
-pub slot_parts : (w : Opened) (lists : Lists) (s : Slot) (key : Name) (card : Tree) → key ≡ (list_at lists s.edge).0 → card ≡ get_or (list_at lists s.edge).1 s.place empty
+pub slot_parts : (w : Opened) (lists : Lists) (s : NewItem) (key : Name) (card : Tree) → key ≡ (list_at lists s.edge).0 → card ≡ get_or (list_at lists s.edge).1 s.place empty
     → slot_in w lists s ≡ (key, option_map (λ i. get_or (others_in w) i []) s.from, card)
 slot_parts w lists s key card here there = λ i. (sym here i, option_map (λ j. get_or (others_in w) j []) s.from, sym there i)
 
@@ -88,19 +88,19 @@ behind_first [] (suc i) d = refl
 behind_first (x ∷ xs) i d = let e : suc i ≡ i + 1 = omega arith in ap (λ j. get_or (x ∷ xs) j d) e
 
 -- the record of a slot that comes from one from before, and of one that doesn't
-pub old_is : (w : Opened) (lists : Lists) (s : Slot) (key : Name) (card : Tree) (item : ℕ)
+pub old_is : (w : Opened) (lists : Lists) (s : NewItem) (key : Name) (card : Tree) (item : ℕ)
     → slot_in w lists s ≡ (key, option_map (λ i. get_or (others_in w) i []) s.from, card) → s.from ≡ Some item
     → rewritten w.table.columns.items card (get_or (rows_in w) (item + 1) []) ≡ row_in w (slot_in w lists s)
 old_is w lists s key card item parts from =
     sym (ap (row_in w) parts ∙ ap (λ o. row_in w (key, option_map (λ i. get_or (others_in w) i []) o, card)) from
     ∙ ap (rewritten w.table.columns.items card) (behind_first (rows_in w) item []))
 
-pub fresh_is : (w : Opened) (lists : Lists) (s : Slot) (key : Name) (card : Tree)
+pub fresh_is : (w : Opened) (lists : Lists) (s : NewItem) (key : Name) (card : Tree)
     → slot_in w lists s ≡ (key, option_map (λ i. get_or (others_in w) i []) s.from, card) → s.from ≡ None → row_in w (key, None, card) ≡ row_in w (slot_in w lists s)
 fresh_is w lists s key card parts from =
     sym (ap (row_in w) parts ∙ ap (λ o. row_in w (key, option_map (λ i. get_or (others_in w) i []) o, card)) from)
 
-module _ (w : Opened) (lists : List LentList) (s : Slot) (inside : IsInside w (lent_lists lists) s) (l : LentList) (is : l ≡ get_or lists s.edge l) where
+module _ (w : Opened) (lists : List LentList) (s : NewItem) (inside : IsInside w (lent_lists lists) s) (l : LentList) (is : l ≡ get_or lists s.edge l) where
   list_is : list_at (lent_lists lists) s.edge ≡ lent_list l
   list_is =
       let lt = inside.edge in
@@ -128,19 +128,19 @@ module _ (w : Opened) (lists : List LentList) (s : Slot) (inside : IsInside w (l
 
 -- ---- the records of slots
 
-module _ (w : Opened) (lists : Lists) (slots : List Slot) (at : ℕ) (lt : at < length slots) (d : Slot) (row : Fields)
+module _ (w : Opened) (lists : Lists) (slots : List NewItem) (at : ℕ) (lt : at < length slots) (d : NewItem) (row : Fields)
     (row_is : row ≡ row_in w (slot_in w lists (get_or slots at d))) where
   pub rows_more : slot_rows w lists (take (at + 1) slots) ≡ slot_rows w lists (take at slots) ++ row ∷ []
   rows_more =
       ap (slot_rows w lists) (take_more slots at d lt)
-      ∙ map-append (λ (s : Slot). row_in w (slot_in w lists s)) (take at slots) (get_or slots at d ∷ [])
+      ∙ map-append (λ (s : NewItem). row_in w (slot_in w lists s)) (take at slots) (get_or slots at d ∷ [])
       ∙ ap (λ (r : Fields). slot_rows w lists (take at slots) ++ r ∷ []) (sym row_is)
 
   pub rows_so_many : length (slot_rows w lists (take at slots)) ≡ at
-  rows_so_many = mapped (λ (s : Slot). row_in w (slot_in w lists s)) (take at slots) ∙ length-take-le at slots (omega (arith, lt))
+  rows_so_many = mapped (λ (s : NewItem). row_in w (slot_in w lists s)) (take at slots) ∙ length-take-le at slots (omega (arith, lt))
 
-pub all_rows : (w : Opened) (lists : Lists) (slots : List Slot) → length (slot_rows w lists slots) ≡ length slots
-all_rows w lists slots = mapped (λ (s : Slot). row_in w (slot_in w lists s)) slots
+pub all_rows : (w : Opened) (lists : Lists) (slots : List NewItem) → length (slot_rows w lists slots) ≡ length slots
+all_rows w lists slots = mapped (λ (s : NewItem). row_in w (slot_in w lists s)) slots
 
 pub rows_long : (w : Opened) → length (rows_in w) ≡ length w.rows.items
 rows_long w = mapped fields_of w.rows.items

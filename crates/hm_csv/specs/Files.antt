@@ -2,9 +2,9 @@
 use Rattle.std.specs.Prelude.{◌≡◌, ℕ, ◌+◌, ◌<◌, ◌≤◌, List, ◌∷◌, ◌++◌, length, All, Result, Ok, Err, IsUtf8}
 use Rattle.hm_tree.specs.Nodes.{Tree, depth}
 use Rattle.hm_schema.specs.Values.{OptionsValue}
-use Rattle.hm_item_trees.specs.ItemTrees.{IsItemTree}
-use Rattle.hm_records.specs.Rows.{Fields}
-use Rattle.hm_records.specs.Reads.{StopsAt, IsBadItem}
+use Rattle.hm_book_items.specs.ItemTrees.{IsItemTree}
+use Rattle.hm_csv_records.specs.Rows.{Fields}
+use Rattle.hm_csv_records.specs.Reads.{StopsAt, IsBadItem}
 use Rattle.hm_format.specs.declared.fault.FormatFault.{FormatFault}
 use Rattle.hm_format.specs.declared.fault.FormatFault.TheVariants.{BadOption, NotUtf8, BadItem, NoKey, TooDeep, Outside, Memory}
 use Rattle.hm_format.specs.Formats.{deepest}

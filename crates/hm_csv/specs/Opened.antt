@@ -3,9 +3,9 @@ use Rattle.std.specs.Prelude.{◌≡◌, ℕ, List, ◌∷◌, map, length, All,
 use Rattle.csv.specs.Records.{fields_of}
 use Rattle.hm_tree.specs.Names.{Name}
 use Rattle.hm_schema.specs.Values.{OptionsValue}
-use Rattle.hm_records.specs.Rows.{Fields}
-use Rattle.hm_records.specs.Reads.{IsSheet, StopsAt, IsBadItem}
-use Rattle.hm_columns.specs.Records.{AreSigns}
+use Rattle.hm_csv_records.specs.Rows.{Fields}
+use Rattle.hm_csv_records.specs.Reads.{IsSheet, StopsAt, IsBadItem}
+use Rattle.hm_csv_columns.specs.Records.{AreSigns}
 use Rattle.hm_format.specs.declared.fault.FormatFault.{FormatFault}
 use Rattle.hm_format.specs.declared.fault.FormatFault.TheVariants.{BadOption, NotUtf8, BadItem, NoKey, TooDeep, Outside, Memory}
 use Rattle.hm_csv.specs.Options.{column_names}

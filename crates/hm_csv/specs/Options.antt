@@ -5,7 +5,7 @@ use Rattle.hm_tree.specs.Names.{Name, name_cmp}
 use Rattle.hm_tree.specs.Sets.{ascending}
 use Rattle.hm_schema.specs.Values.{OptionsValue}
 use Rattle.hm_format.specs.Options.{Rules, values_of, is_among}
-use Rattle.hm_cards.specs.Cards.{Shown}
+use Rattle.hm_book_cards.specs.Cards.{Shown}
 
 abbrev pub csv_rules : Rules
 csv_rules =

@@ -4,10 +4,10 @@ use Rattle.hm_tree.specs.Names.{Name}
 use Rattle.hm_tree.specs.Cleaned.{cleaned}
 use Rattle.hm_tree.specs.Classes.{IsFilled}
 use Rattle.hm_tree.specs.Nodes.{Tree}
-use Rattle.hm_item_trees.specs.ItemTrees.{IsShallow, IsTooDeep}
-use Rattle.hm_records.specs.Rows.{Fields}
-use Rattle.hm_columns.specs.declared.column.Column.{Column}
-use Rattle.hm_columns.specs.Records.{card_of}
+use Rattle.hm_book_items.specs.ItemTrees.{IsShallow, IsTooDeep}
+use Rattle.hm_csv_records.specs.Rows.{Fields}
+use Rattle.hm_csv_columns.specs.declared.column.Column.{Column}
+use Rattle.hm_csv_columns.specs.Records.{card_of}
 use Rattle.hm_format.specs.declared.fault.FormatFault.{FormatFault}
 use Rattle.hm_format.specs.declared.fault.FormatFault.TheVariants.{BadOption, NotUtf8, BadItem, NoKey, TooDeep, Outside, Memory}
 use Rattle.hm_format.specs.Formats.{deepest}

@@ -6,12 +6,12 @@ use Rattle.csv.specs.Records.{fields_of}
 use Rattle.hm_tree.specs.Names.{Name, name_cmp}
 use Rattle.hm_tree.specs.Cleaned.{cleaned}
 use Rattle.hm_tree.specs.Nodes.{Tree, empty}
-use Rattle.hm_items.specs.declared.planned.Slot.{Slot}
-use Rattle.hm_items.specs.Items.{IsRewritten}
-use Rattle.hm_records.specs.Rows.{Fields}
-use Rattle.hm_records.specs.Written.{written, HasWritten}
-use Rattle.hm_records.specs.declared.writer.RecordsWriter.{RecordsWriter}
-use Rattle.hm_columns.specs.Records.{AreSigns, rewritten, blank}
+use Rattle.hm_book_items.specs.declared.planned.NewItem.{NewItem}
+use Rattle.hm_book_items.specs.Items.{IsRewritten}
+use Rattle.hm_csv_records.specs.Rows.{Fields}
+use Rattle.hm_csv_records.specs.Written.{written, HasWritten}
+use Rattle.hm_csv_records.specs.declared.writer.RecordsWriter.{RecordsWriter}
+use Rattle.hm_csv_columns.specs.Records.{AreSigns, rewritten, blank}
 use Rattle.hm_csv.specs.declared.opening.Opened.{Opened}
 use Rattle.hm_csv.specs.Writing.{Slots}
 
@@ -60,14 +60,14 @@ row_in w s = rewritten w.table.columns.items s.2 (base_in w s.0 s.1)
 abbrev pub list_at : Lists → ℕ → Name × List Tree
 list_at lists edge = get_or lists edge ([], [])
 
-abbrev pub slot_in : Opened → Lists → Slot → Name × Option Fields × Tree
+abbrev pub slot_in : Opened → Lists → NewItem → Name × Option Fields × Tree
 slot_in w lists s = ((list_at lists s.edge).0, option_map (λ i. get_or (others_in w) i []) s.from, get_or (list_at lists s.edge).1 s.place empty)
 
-abbrev pub slot_rows : Opened → Lists → List Slot → List Fields
+abbrev pub slot_rows : Opened → Lists → List NewItem → List Fields
 slot_rows w lists slots = map (λ s. row_in w (slot_in w lists s)) slots
 
 -- a slot is of a list, at one of its places, and comes from one of the records from before, if from any
-pub record IsInside (w : Opened) (lists : Lists) (s : Slot) : Type 0 where
+pub record IsInside (w : Opened) (lists : Lists) (s : NewItem) : Type 0 where
   pub edge : s.edge < length lists
   pub place : s.place < length (list_at lists s.edge).1
   pub from : (i : ℕ) → s.from ≡ Some i → i < length (others_in w)

@@ -5,10 +5,10 @@ use Rattle.hm_tree.specs.Cleaned.{cleaned}
 use Rattle.hm_tree.specs.Classes.{IsFilled}
 use Rattle.hm_tree.specs.Nodes.{Tree}
 use Rattle.hm_schema.specs.Values.{OptionsValue}
-use Rattle.hm_records.specs.Rows.{Fields, column}
-use Rattle.hm_records.specs.Reads.{IsSheet}
-use Rattle.hm_columns.specs.declared.column.Column.{Column}
-use Rattle.hm_columns.specs.Records.{card_of}
+use Rattle.hm_csv_records.specs.Rows.{Fields, column}
+use Rattle.hm_csv_records.specs.Reads.{IsSheet}
+use Rattle.hm_csv_columns.specs.declared.column.Column.{Column}
+use Rattle.hm_csv_columns.specs.Records.{card_of}
 use Rattle.hm_csv.specs.Options.{key_name, shown_of, column_names}
 
 abbrev pub place_in : Fields → Name → ℕ

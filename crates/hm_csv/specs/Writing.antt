@@ -3,15 +3,15 @@ use Rattle.std.specs.Prelude.{◌≡◌, ℕ, List, ◌∷◌, map, length, Opti
 use Rattle.hm_tree.specs.Names.{Name, name_cmp}
 use Rattle.hm_tree.specs.Nodes.{Tree, edges}
 use Rattle.hm_schema.specs.Values.{OptionsValue}
-use Rattle.hm_items.specs.Items.{IsRewritten}
-use Rattle.hm_item_trees.specs.ItemTrees.{AreLists}
-use Rattle.hm_records.specs.Rows.{Fields}
-use Rattle.hm_records.specs.Reads.{IsSheet}
-use Rattle.hm_records.specs.Written.{written}
-use Rattle.hm_columns.specs.Records.{rewritten, blank}
+use Rattle.hm_book_items.specs.Items.{IsRewritten}
+use Rattle.hm_book_items.specs.ItemTrees.{AreLists}
+use Rattle.hm_csv_records.specs.Rows.{Fields}
+use Rattle.hm_csv_records.specs.Reads.{IsSheet}
+use Rattle.hm_csv_records.specs.Written.{written}
+use Rattle.hm_csv_columns.specs.Records.{rewritten, blank}
 use Rattle.hm_format.specs.Options.{accepted, bad_key}
 use Rattle.hm_format.specs.Formats.{FormatMeaning, depth_over}
-use Rattle.hm_cards.specs.Books.{book_schema}
+use Rattle.hm_book_cards.specs.Books.{book_schema}
 use Rattle.hm_csv.specs.Options.{csv_rules, shown_of, column_names}
 use Rattle.hm_csv.specs.Tables.{key_place, columns_of, key_of, IsTable}
 use Rattle.hm_csv.specs.Files.{CsvReads}

@@ -2,18 +2,18 @@
 ghost use Rattle.std.specs.Prelude.{◌≡◌, ◌<◌, ◌∷◌, All, IsUtf8, IfOk, IfErr, drop, length, map};
 ghost use Rattle.csv.specs.Records.{fields_of};
 ghost use Rattle.hm_schema.specs.Values.{options_value};
-ghost use Rattle.hm_records.specs.Rows.{IsHeader};
-ghost use Rattle.hm_records.specs.Reads.{IsSheet, sheet_of};
-ghost use Rattle.hm_columns.specs.Records.{AreSigns};
+ghost use Rattle.hm_csv_records.specs.Rows.{IsHeader};
+ghost use Rattle.hm_csv_records.specs.Reads.{IsSheet, sheet_of};
+ghost use Rattle.hm_csv_columns.specs.Records.{AreSigns};
 ghost use Rattle.hm_csv.specs.Options as spec;
 ghost use Rattle.hm_csv.specs.Tables as tables;
 ghost use Rattle.hm_csv.specs.Opened.{IsOpened, Hinders};
 
 use crate::options::{column_names, shown_of};
 use csv::ByteRecord;
-use hm_columns::{Column, Table};
+use hm_csv_columns::{Column, Table};
+use hm_csv_records::{Records, RecordsFault, columns, read_records};
 use hm_format::FormatFault;
-use hm_records::{Records, RecordsFault, columns, read_records};
 use hm_schema::Options;
 use hm_tree::{Memory, Name};
 use std::alloc::Global;

@@ -7,7 +7,7 @@ ghost use Rattle.hm_format.specs.Answers.{GivesSchema};
 ghost use Rattle.hm_csv.specs.Options as spec;
 ghost use Rattle.hm_csv.specs.Writing.{csv};
 
-use hm_cards::book_schema;
+use hm_book_cards::book_schema;
 use hm_format::{FormatFault, Key, first_bad_key, values_of};
 use hm_schema::{Options, Schema, append_copies, copy_names};
 use hm_tree::{Memory, Name, NameSet};
@@ -86,7 +86,7 @@ pub(crate) fn column_names(
     Ok(names)
 }
 
-// The name of the key's column.
+// The name of the key's column. Options that were judged have one; without it there is no column of that name.
 fn key_name(alloc: Global, options: &Options) -> Result<Name, Memory>
     ensures { IfOk result (λ name. name ≡ spec.key_name (options_value options.now)) }
 {

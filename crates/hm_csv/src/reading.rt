@@ -3,7 +3,7 @@ ghost use Rattle.std.specs.Prelude.{◌≡◌, All, IfOk, IfErr, T, map};
 ghost use Rattle.csv.specs.Records.{fields_of};
 ghost use Rattle.hm_tree.specs.Nodes.{are_edges};
 ghost use Rattle.hm_schema.specs.Values.{options_value};
-ghost use Rattle.hm_columns.specs.Records.{shown_by};
+ghost use Rattle.hm_csv_columns.specs.Records.{shown_by};
 ghost use Rattle.hm_format.specs.Formats.{MayRead};
 ghost use Rattle.hm_format.specs.Answers.{Reads};
 ghost use Rattle.hm_csv.specs.Files.{CsvReads};
@@ -12,17 +12,13 @@ ghost use Rattle.hm_csv.specs.Writing.{csv};
 
 use crate::opening::open;
 use csv::ByteRecord;
-use hm_columns::{Column, card_of};
+use hm_book_items::{ItemTreeFault, item_tree};
+use hm_csv_columns::{Column, card_of};
+use hm_csv_records::field;
 use hm_format::FormatFault;
-use hm_item_trees::{ItemTreeFault, item_tree};
-use hm_pieces::{is_text, text_of};
-use hm_records::field;
 use hm_schema::Options;
-use hm_tree::{Memory, Name, Tree};
+use hm_tree::{DEEPEST, Memory, Name, Tree};
 use std::alloc::Global;
-
-// How deep a tree may be.
-const DEEPEST: usize = 1000;
 
 /// The address book of a file, or why it has none.
 pub fn read_book(alloc: Global, options: &Options, bytes: &[u8]) -> Result<Tree, FormatFault>
@@ -68,8 +64,8 @@ fn item(
     requires row { Suits columns.now key (fields_of row.now) }
     ensures { IfOk result (IsItem key columns.now (fields_of row.now)) }
 {
-    let name = text_of(alloc, field(row, key))?;
-    if !is_text(&name) {
+    let name = Name::cleaned_bytes(alloc, field(row, key))?;
+    if !name.is_text() {
         return Ok(None);
     }
     Ok(Some((name, card_of(alloc, columns, row)?)))

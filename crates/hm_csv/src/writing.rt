@@ -4,10 +4,10 @@ ghost use Rattle.std.specs.FinMap.{is_sorted};
 ghost use Rattle.csv.specs.Records.{fields_of};
 ghost use Rattle.hm_tree.specs.Names.{name_cmp};
 ghost use Rattle.hm_schema.specs.Values.{options_value};
-ghost use Rattle.hm_items.specs.Lent.{lent_counts};
-ghost use Rattle.hm_item_trees.specs.Lent.{lent_lists};
-ghost use Rattle.hm_records.specs.Written.{written};
-ghost use Rattle.hm_columns.specs.Records.{rewritten};
+ghost use Rattle.hm_book_items.specs.LentKeys.{lent_counts};
+ghost use Rattle.hm_book_items.specs.Lent.{lent_lists};
+ghost use Rattle.hm_csv_records.specs.Written.{written};
+ghost use Rattle.hm_csv_columns.specs.Records.{rewritten};
 ghost use Rattle.hm_format.specs.Formats.{MayWrite, depth_over};
 ghost use Rattle.hm_format.specs.Answers.{Writes};
 ghost use Rattle.hm_csv.specs.Writing.{csv, CsvWrites};
@@ -15,18 +15,13 @@ ghost use Rattle.hm_csv.specs.Rewriting as spec;
 
 use crate::opening::{Opened, open};
 use csv::ByteRecord;
-use hm_columns::{blank, rewrite};
+use hm_book_items::{NewItem, item_lists, plan};
+use hm_csv_columns::{blank, rewrite};
+use hm_csv_records::{RecordsWriter, field};
 use hm_format::FormatFault;
-use hm_item_trees::item_lists;
-use hm_items::{Slot, plan};
-use hm_pieces::text_of;
-use hm_records::{RecordsWriter, field};
 use hm_schema::Options;
-use hm_tree::{Memory, Name, Tree};
+use hm_tree::{DEEPEST, Memory, Name, Tree};
 use std::alloc::Global;
-
-// How deep a tree may be.
-const DEEPEST: usize = 1000;
 
 /// The bytes of a tree behind those from before, which stay where they are read as the tree.
 pub fn write_book(
@@ -82,7 +77,7 @@ fn keys_of(alloc: Global, rows: &[ByteRecord], key: usize) -> Result<Vec<Name>, 
 {
     let mut keys = Vec::new(alloc);
     for at in 1..rows.len() {
-        keys.push(text_of(alloc, field(&rows[at], key))?)?;
+        keys.push(Name::cleaned_bytes(alloc, field(&rows[at], key))?)?;
     }
     Ok(keys)
 }
@@ -106,7 +101,7 @@ fn rewrite_all<'a>(
     alloc: Global,
     opened: &Opened,
     lists: &[(&'a Name, Vec<&'a Tree>)],
-    slots: &[Slot],
+    slots: &[NewItem],
 ) -> Result<(Vec<u8>, bool), Memory>
     requires even { spec.IsEven opened.now }
     requires inside { All (spec.IsInside opened.now (lent_lists lists.now)) slots.now }
@@ -136,7 +131,7 @@ fn append_slot<'a>(
     writer: &mut RecordsWriter,
     opened: &Opened,
     lists: &[(&'a Name, Vec<&'a Tree>)],
-    slot: &Slot,
+    slot: &NewItem,
     at: usize,
 ) -> Result<bool, Memory>
     requires even { spec.IsEven opened.now }

@@ -5,10 +5,10 @@ ghost use Rattle.hm_terms.specs.Put.{Puts};
 ghost use Rattle.hm_eval_terms.specs.Conditions.{IsPut};
 
 use hm_eval_terms::{Run, bodies_of, put_by, put_changed};
-use hm_parts::copied;
 use hm_terms::Program;
 use hm_text_lens::TextLens;
 use hm_tree::{Memory, Tree};
+use hm_tree_parts::copied;
 
 /// What the lens of a program puts of a view, with the tree from before or with none.
 pub fn put(

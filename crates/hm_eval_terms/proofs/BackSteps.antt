@@ -8,9 +8,10 @@ use Rattle.hm_tree.specs.Archives.{under}
 use Rattle.hm_terms.specs.declared.term.Term.{Term}
 use Rattle.hm_terms.specs.Lenses.{Lens, items, call, Setting, body_of}
 use Rattle.hm_terms.specs.Programs.{lens_of}
-use Rattle.hm_terms.specs.Parts.{IsList, head, tail}
+use Rattle.hm_tree_parts.specs.Lists.{IsList, head, tail}
 use Rattle.hm_terms.specs.Put.{Puts, put_items_none, put_items_more, put_call}
-use Rattle.hm_terms.proofs.Maps.{beside, below-head, below-tail, below-nil}
+use Rattle.hm_tree_parts.proofs.Maps.{beside}
+use Rattle.hm_tree_parts.proofs.OneList.{below-head, below-tail, below-nil}
 use Rattle.hm_eval_terms.specs.declared.children.Child.{Child}
 use Rattle.hm_eval_terms.specs.Terms.{option_lens}
 use Rattle.hm_eval_terms.specs.Conditions.{GivesBack, neither, given_back}

@@ -4,20 +4,16 @@ use Rattle.std.specs.Ordering.{eq_by_cmp, is_lt}
 use Rattle.std.specs.Str.{is_utf8}
 use Rattle.std.specs.FinMap.{find}
 use Rattle.std.proofs.lemmas.Option.{same_Some, none-some}
-use Rattle.std.specs.Cmp.{Equal-is}
 use Rattle.hm_tree.specs.Names.{Name, name_cmp}
 use Rattle.hm_tree.specs.Nodes.{Tree, node, edges, below, are_edges, edges_head, edges_below, edges_tail, edges_cons, below_all, first, second, both}
 use Rattle.hm_tree.specs.NodeLaws.{edges-node, edges_are}
-use Rattle.hm_tree.proofs.Sorted.{name_one}
-use Rattle.hm_terms.specs.Parts.{names}
+use Rattle.hm_tree_parts.specs.Edges.{names}
 use Rattle.hm_eval_terms.proofs.Paired.{Paired, no_more, one_more}
+use Rattle.hm_tree.proofs.NameSets.{tied_one}
 
 pub record NamedBy (R : Name → Tree → Tree → Type 0) (e f : Name × Tree) : Type 0 where
   pub name : e.0 ≡ f.0
   pub is : R e.0 e.1 f.1
-
-tie : (k n : Name) → eq_by_cmp name_cmp k n ≡ true → k ≡ n
-tie k n t = name_one k n ((Equal-is (name_cmp k n)).0 t)
 
 module _ {R : Name → Tree → Tree → Type 0} where
   beside_names : {es fs : List (Name × Tree)} → Paired (NamedBy R) es fs → map (λ (e : Name × Tree). e.0) es ≡ map (λ (e : Name × Tree). e.0) fs
@@ -46,7 +42,7 @@ module _ {R : Name → Tree → Tree → Type 0} where
           → cond t (Some f.1) (find name_cmp k fs) ≡ Some y
           → (find name_cmp k es ≡ Some x → find name_cmp k fs ≡ Some y → R k x y) → R k x y
       go true t at there rest =
-          subst (λ k. R k x y) (sym (tie k e.0 t)) (subst (λ x. R e.0 x y) (same_Some e.1 x at) (subst (R e.0 e.1) (same_Some f.1 y there) r.is))
+          subst (λ k. R k x y) (sym (tied_one k e.0 t)) (subst (λ x. R e.0 x y) (same_Some e.1 x at) (subst (R e.0 e.1) (same_Some f.1 y there) r.is))
       go false t at there rest = rest at there
 
 -- a tree with something beside each child of a tree

@@ -5,18 +5,19 @@ use Rattle.std.specs.declared.alloc.Global.{Global}
 use Rattle.std.specs.List.{insert}
 use Rattle.std.specs.Option.{option_map, option_or}
 use Rattle.std.specs.Ordering.{eq_by_cmp}
-use Rattle.std.specs.Cmp.{Equal-is}
 use Rattle.std.specs.FinMap.{find, put, is_sorted}
 use Rattle.std.specs.FinMap.Entries.{find-put}
 use Rattle.std.proofs.Math.Seq.{take-suc}
 use Rattle.hm_tree.specs.Names.{Name, name_cmp}
 use Rattle.hm_tree.specs.Edges.{rank, IsPlaceOf, IsGapFor}
-use Rattle.hm_tree.proofs.Sorted.{name_total, name_one, put_rank, sorted_put}
+use Rattle.hm_tree.proofs.Sorted.{name_total, put_rank, sorted_put}
 use Rattle.hm_terms.specs.declared.term.Term.{Term}
 use Rattle.hm_terms.specs.declared.term.Definition.{Definition}
 use Rattle.hm_terms.specs.Lenses.{Lens, DefinitionValue, body_of}
 use Rattle.hm_terms.specs.Programs.{lens_of, definition_value}
 use Rattle.hm_eval_terms.specs.Terms.{option_lens, IsIndex}
+use Rattle.hm_facts.proofs.Options.{or_none}
+use Rattle.hm_tree.proofs.NameSets.{tied_one}
 
 pub same_items : (v w : Vec (Name × Bor Term) Global) → v ≡ w → v.items ≡ w.items
 same_items v w e = ap (λ (v : Vec (Name × Bor Term) Global). v.items) e
@@ -43,13 +44,6 @@ body_last (x ∷ xs) d n = go (eq_by_cmp name_cmp n x.name) (body_last xs d n)
     go true rest = refl
     go false rest = rest
 
-or_none : {A : Type 0} (x : Option A) → x ≡ option_or x None
-or_none None = refl
-or_none (Some a) = refl
-
-tie : (k n : Name) → eq_by_cmp name_cmp k n ≡ true → k ≡ n
-tie k n t = name_one k n ((Equal-is (name_cmp k n)).0 t)
-
 module _ (ds : List Definition) (i : ℕ) (d : Definition) (bodies : List (Name × Bor Term)) (below : i < length ds) (is : d ≡ get_or ds i d)
     (so : IsIndex (take i ds) bodies) where
   one_further : take (i + 1) ds ≡ take i ds ++ d ∷ []
@@ -75,7 +69,7 @@ module _ (ds : List Definition) (i : ℕ) (d : Definition) (bodies : List (Name 
       go : (n : Name) (b : Bool) → eq_by_cmp name_cmp n k ≡ b → option_lens (cond b (Some t) (find name_cmp n bodies)) ≡ option_or (body_by (take i ds) n)
           (last_body d n)
       go n true e =
-          let gone : body_by (take i ds) n ≡ None = sym (so.all n) ∙ ap option_lens (ap (λ m. find name_cmp m bodies) (tie n k e) ∙ none) in
+          let gone : body_by (take i ds) n ≡ None = sym (so.all n) ∙ ap option_lens (ap (λ m. find name_cmp m bodies) (tied_one n k e) ∙ none) in
           let here : eq_by_cmp name_cmp n d.name ≡ true = ap (eq_by_cmp name_cmp n) (sym same) ∙ e in
           ap (λ x. Some (lens_of x)) body ∙ sym (ap (λ x. option_or x (last_body d n)) gone ∙ ap (λ b. cond b (Some (lens_of d.body)) None) here)
       go n false e =
@@ -100,6 +94,6 @@ module _ (ds : List Definition) (i : ℕ) (d : Definition) (bodies : List (Name 
       go n false e = or_none (body_by (take i ds) n)
       go n true e =
           let w = there bodies (subst (λ l. IsPlaceOf d.name l p) seen found) in
-          let some : body_by (take i ds) n ≡ Some (lens_of w.0.now) = sym (so.all n) ∙ ap option_lens (ap (λ m. find name_cmp m bodies) (tie n d.name e)
+          let some : body_by (take i ds) n ≡ Some (lens_of w.0.now) = sym (so.all n) ∙ ap option_lens (ap (λ m. find name_cmp m bodies) (tied_one n d.name e)
           ∙ w.1) in
           some ∙ sym (ap (λ x. option_or x (Some (lens_of d.body))) some)

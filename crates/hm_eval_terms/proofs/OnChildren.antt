@@ -12,7 +12,7 @@ use Rattle.hm_terms.specs.declared.term.Term.{Term, Map, Each}
 use Rattle.hm_terms.specs.Lenses.{Lens, lens_at, Setting}
 use Rattle.hm_terms.specs.Programs.{lens_of}
 use Rattle.hm_terms.specs.Shown.{Shows, by_each, by_among}
-use Rattle.hm_terms.proofs.Maps.{beside}
+use Rattle.hm_tree_parts.proofs.Maps.{beside}
 use Rattle.hm_terms.proofs.Rows.{each_items}
 use Rattle.hm_eval_terms.specs.declared.children.Child.{Child}
 use Rattle.hm_eval_terms.specs.Terms.{option_lens}

@@ -13,7 +13,7 @@ use Rattle.hm_terms.specs.declared.term.Term.{Term}
 use Rattle.hm_terms.specs.Lenses.{Lens, lens_at, Setting}
 use Rattle.hm_terms.specs.Programs.{lens_of}
 use Rattle.hm_terms.specs.Put.{Puts, put_each, put_among}
-use Rattle.hm_terms.proofs.Maps.{beside}
+use Rattle.hm_tree_parts.proofs.Maps.{beside}
 use Rattle.hm_eval_terms.specs.declared.children.Child.{Child}
 use Rattle.hm_eval_terms.specs.Terms.{option_lens}
 use Rattle.hm_eval_terms.specs.Conditions.{IsPut}

@@ -3,9 +3,9 @@ use Rattle.std.proofs.Common.{◌≡◌, List, [], ◌∷◌, ◌++◌, Option, 
 use Rattle.hm_tree.specs.Nodes.{Tree}
 use Rattle.hm_tree.specs.Archives.{under}
 use Rattle.hm_terms.specs.Lenses.{Lens, items, Setting}
-use Rattle.hm_terms.specs.Parts.{IsList, no_items, an_item, HasItems, none_left, and_then, head, tail}
+use Rattle.hm_tree_parts.specs.Lists.{IsList, no_items, an_item, HasItems, none_left, and_then, head, tail}
 use Rattle.hm_terms.specs.Put.{Puts, put_items_none, put_items_more}
-use Rattle.hm_terms.proofs.Maps.{one_head, one_tail, nil_item}
+use Rattle.hm_tree_parts.proofs.OneList.{one_head, one_tail, nil_item}
 use Rattle.hm_eval_terms.specs.Conditions.{IsPut}
 
 -- item by item, with the item at its place in a list from before

@@ -9,10 +9,12 @@ use Rattle.hm_tree.specs.Archives.{under}
 use Rattle.hm_tree.specs.Parts.{part, IsSplit, AreApart, Joins}
 use Rattle.hm_schema.specs.Values.{Names}
 use Rattle.hm_terms.specs.Lenses.{Lens, hoist, fork, merge, on_concrete, on_view, call, Setting, body_of}
-use Rattle.hm_terms.specs.Parts.{IsEdge, with_name, without_name}
-use Rattle.hm_terms.specs.Put.{Puts, MergedFrom, of_none, of_same, of_other, put_hoist, put_fork, put_merge, put_concrete_has, put_concrete_none, put_view_has, put_view_none, put_call}
+use Rattle.hm_tree_parts.specs.Edges.{IsEdge}
+use Rattle.hm_terms.specs.Before.{with_name, without_name}
+use Rattle.hm_terms.specs.Put.{Puts, put_hoist, put_fork, put_merge, put_concrete_has, put_concrete_none, put_view_has, put_view_none, put_call}
+use Rattle.hm_tree_parts.specs.Twins.{MergedFrom, of_none, of_same, of_other}
 use Rattle.hm_terms.proofs.OnePut.{one_put}
-use Rattle.hm_parts.specs.Conditions.{HasBoth, IsMergedBack}
+use Rattle.hm_tree_parts.specs.Twins.{HasBoth, IsMergedBack}
 use Rattle.hm_eval_terms.specs.Conditions.{IsPut, IsSplitBefore}
 
 both_from : (m n : Name) (x y : Tree) (b : Option Tree) → MergedFrom m n x b y → IfSome b (HasBoth m n)

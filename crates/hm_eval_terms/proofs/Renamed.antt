@@ -14,10 +14,11 @@ use Rattle.hm_tree.proofs.NameSets.{tied_one, tied_self}
 use Rattle.hm_tree.proofs.Sorted.{below_with, not_None}
 use Rattle.hm_schema.specs.Values.{Names}
 use Rattle.hm_terms.specs.Lenses.{Lens, identity, sequence, hoist, plunge, fork, Setting}
-use Rattle.hm_terms.specs.Parts.{IsEdge}
+use Rattle.hm_tree_parts.specs.Edges.{IsEdge}
 use Rattle.hm_terms.specs.Shown.{Shows, by_identity, by_sequence, by_hoist, by_plunge, by_fork}
 use Rattle.hm_terms.specs.Put.{Puts, put_identity, put_sequence, put_hoist, put_plunge, put_fork}
-use Rattle.hm_terms.proofs.Maps.{same_children, below-part}
+use Rattle.hm_tree_parts.proofs.Maps.{same_children}
+use Rattle.hm_tree.proofs.Parted.{below-part}
 use Rattle.std.proofs.Common.{Box}
 use Rattle.std.specs.declared.alloc.Global.{Global}
 use Rattle.hm_terms.specs.declared.term.Term.{Term, Id, Seq, Hoist, Plunge, Fork}

@@ -6,9 +6,10 @@ use Rattle.hm_tree.specs.Nodes.{Tree, below, without_edge}
 use Rattle.hm_tree.specs.Parts.{IsSplit, AreApart, Joins}
 use Rattle.hm_schema.specs.Values.{Names}
 use Rattle.hm_terms.specs.Lenses.{Lens, sequence, plunge, merge, fork, items, on_concrete, on_view, call, Setting, body_of}
-use Rattle.hm_terms.specs.Parts.{IsEdge, IsList, no_items, an_item, HasItems, none_left, and_then}
+use Rattle.hm_tree_parts.specs.Edges.{IsEdge}
+use Rattle.hm_tree_parts.specs.Lists.{IsList, no_items, an_item, HasItems, none_left, and_then}
 use Rattle.hm_terms.specs.Shown.{Shows, by_sequence, by_plunge, by_merge, by_fork, by_items_none, by_items_more, by_concrete_has, by_concrete_none, by_view_has, by_view_none, by_call}
-use Rattle.hm_terms.proofs.Maps.{one_head, one_tail, nil_item}
+use Rattle.hm_tree_parts.proofs.OneList.{one_head, one_tail, nil_item}
 use Rattle.hm_terms.proofs.OneShown.{one_shown}
 use Rattle.std.specs.declared.alloc.Global.{Global}
 use Rattle.hm_terms.specs.declared.term.Term.{Term, ByConcrete, ByView}

@@ -7,10 +7,10 @@ use Rattle.hm_tree.specs.Nodes.{Tree}
 use Rattle.hm_text_lens.specs.Meanings.{TextMeaning, IsFrom, IsInto, IsBefore}
 use Rattle.hm_text_lens.specs.Naming.{first_named}
 use Rattle.hm_terms.specs.Lenses.{text, Setting}
-use Rattle.hm_terms.specs.Parts.{IsValue, names}
+use Rattle.hm_tree_parts.specs.Edges.{IsValue, names}
 use Rattle.hm_terms.specs.Shown.{Shows, by_text}
 use Rattle.hm_terms.specs.Put.{Puts, ValueBefore, no_value_before, value_before, put_text}
-use Rattle.hm_parts.specs.Conditions.{HasOneEdge}
+use Rattle.hm_tree_parts.specs.Edges.{HasOneEdge}
 use Rattle.hm_eval_terms.specs.Conditions.{IsShown, IsPut}
 use Rattle.hm_eval_terms.specs.Texts.{IsNameBefore, no_name, its_name}
 

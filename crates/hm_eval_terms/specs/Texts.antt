@@ -2,7 +2,7 @@
 use Rattle.std.specs.Prelude.{◌≡◌, [], ◌∷◌, Option, Some, None}
 use Rattle.hm_tree.specs.Names.{Name}
 use Rattle.hm_tree.specs.Nodes.{Tree}
-use Rattle.hm_terms.specs.Parts.{names}
+use Rattle.hm_tree_parts.specs.Edges.{names}
 
 -- the one name of a tree from before, if there is one
 pub data IsNameBefore : Option Tree → Option Name → Type 0 where

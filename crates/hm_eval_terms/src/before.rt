@@ -3,12 +3,13 @@ ghost use Rattle.std.specs.Prelude.{◌≡◌, T, IfOk, IfSome, cond, is_some};
 ghost use Rattle.std.specs.FinMap.{find, is_sorted};
 ghost use Rattle.hm_tree.specs.Archives.{under};
 ghost use Rattle.hm_tree.specs.Names.{name_cmp, Name as NameValue};
-ghost use Rattle.hm_terms.specs.Parts.{IsList, head, tail, with_name, without_name};
+ghost use Rattle.hm_tree_parts.specs.Lists.{IsList, head, tail};
+ghost use Rattle.hm_terms.specs.Before.{with_name, without_name};
 ghost use Rattle.hm_terms.specs.Put.{before_or};
 ghost use Rattle.hm_eval_terms.specs.Conditions.{IsSplitBefore};
 
-use hm_parts::take_first;
 use hm_tree::{Memory, Name, NameSet, Tree};
+use hm_tree_parts::take_first;
 use std::alloc::Global;
 use std::collections::VecDeque;
 

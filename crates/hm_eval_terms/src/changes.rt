@@ -10,9 +10,9 @@ use crate::bodies::body;
 use crate::children::children;
 use crate::putting::put_by;
 use crate::running::Run;
-use hm_parts::{into_items, list_build};
 use hm_terms::Term;
 use hm_tree::{Memory, Tree, take_under};
+use hm_tree_parts::{into_items, list_build};
 
 /// What a lens puts, by so many levels of recursion at most, given what it showed of the tree from before. It goes into
 /// items and children, each with what stood there before and what was shown of that. Both loops stand here, since functions

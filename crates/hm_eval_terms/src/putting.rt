@@ -12,9 +12,9 @@ use crate::renaming::{renamed, renaming};
 use crate::running::Run;
 use crate::stages::stages_before;
 use crate::texts::put_text;
-use hm_parts::{into_child, into_items, list_build, merge_into, under, without_edge};
 use hm_terms::Term;
 use hm_tree::{Memory, Tree, take_under};
+use hm_tree_parts::{into_child, into_items, list_build, merge_into, under, without_edge};
 
 /// What a lens puts, by so many levels of recursion at most. Each kind of lens has its steps here, since functions that call
 /// one another may not be lent text lenses of unknown types.

@@ -10,9 +10,9 @@ use crate::children::{children, chosen};
 use crate::renaming::{renamed, renaming};
 use crate::running::Run;
 use crate::texts::show_text;
-use hm_parts::{into_child, into_items, list_build, under, with_copy, without_edge};
 use hm_terms::Term;
 use hm_tree::{Memory, Tree};
+use hm_tree_parts::{into_child, into_items, list_build, under, with_copy, without_edge};
 
 /// What a lens shows of a tree, by so many levels of recursion at most. Each kind of lens has its steps here, since
 /// functions that call one another may not be lent text lenses of unknown types.

@@ -5,15 +5,15 @@ ghost use Rattle.hm_text_lens.specs.Naming.{first_named};
 ghost use Rattle.hm_terms.specs.Lenses.{text};
 ghost use Rattle.hm_terms.specs.Shown.{Shows};
 ghost use Rattle.hm_terms.specs.Put.{Puts};
-ghost use Rattle.hm_parts.specs.Conditions.{HasOneEdge};
+ghost use Rattle.hm_tree_parts.specs.Edges.{HasOneEdge};
 ghost use Rattle.hm_eval_terms.specs.Conditions.{IsShown, IsPut};
 ghost use Rattle.hm_eval_terms.specs.Terms.{setting_in};
 ghost use Rattle.hm_eval_terms.specs.Texts.{IsNameBefore};
 
 use crate::running::Run;
-use hm_parts::{value, value_of};
 use hm_text_lens::{TextLens, first_named};
 use hm_tree::{Memory, Name, Tree};
+use hm_tree_parts::{value, value_of};
 use std::alloc::Global;
 
 /// What the text lens of a name shows of a value.

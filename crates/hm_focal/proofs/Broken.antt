@@ -6,7 +6,7 @@ use Rattle.std.proofs.lemmas.List.{length-append}
 use Rattle.std.proofs.Math.Seq.{take-append_seam}
 use Rattle.bstr.specs.Text.{lines_of, no_cr, without_terminator}
 use Rattle.bstr.proofs.lemmas.LineLemmas.{lines-append, lines-one, lines-nil}
-use Rattle.hm_node_lines.specs.Entries.{texts_of}
+use Rattle.hm_schema_lines.specs.Entries.{texts_of}
 use Rattle.hm_focal.specs.Writing.{ended}
 use Rattle.hm_focal.proofs.OneLine.{IsOneLine}
 

@@ -10,10 +10,10 @@ use Rattle.hm_schema.specs.Values.{node_value}
 use Rattle.hm_terms.specs.declared.term.Term.{Term}
 use Rattle.hm_terms.specs.declared.term.Definition.{Definition}
 use Rattle.hm_terms.specs.Programs.{definition_value, program_value}
-use Rattle.hm_node_lines.specs.declared.entry.Entry.{Entry}
-use Rattle.hm_node_lines.specs.Entries.{entry_value, entry_values, texts_of}
-use Rattle.hm_node_lines.specs.FirstBad.{HasNoBad, IsFirstBad, IsTold, at, behind_all}
-use Rattle.hm_node_lines.specs.Nodes.{AreTypeNames, AreNodesOf}
+use Rattle.hm_schema_lines.specs.declared.entry.Entry.{Entry}
+use Rattle.hm_schema_lines.specs.Entries.{entry_value, entry_values, texts_of}
+use Rattle.hm_schema_lines.specs.FirstBad.{HasNoBad, IsFirstBad, IsTold, at, behind_all}
+use Rattle.hm_schema_lines.specs.Nodes.{AreTypeNames, AreNodesOf}
 use Rattle.hm_focal.specs.declared.own.Own.{Own}
 use Rattle.hm_focal.specs.declared.own.FormatLine.{FormatLine}
 use Rattle.hm_focal.specs.declared.program.Parts.{Parts}

@@ -6,7 +6,7 @@ use Rattle.std.specs.Borrow.{Bor}
 use Rattle.std.specs.declared.alloc.Global.{Global}
 use Rattle.hm_tree.specs.Names.{Name}
 use Rattle.hm_schema.specs.Values.{pair_value}
-use Rattle.hm_node_lines.specs.declared.token.Token.TheVariants.{Word}
+use Rattle.hm_schema_lines.specs.declared.token.Token.TheVariants.{Word}
 use Rattle.hm_focal.specs.Front.{IsFrontWord, IsFrontEdge, IsGap, IsWordBefore, IsReadFront}
 use Rattle.hm_focal.specs.OwnLines.{AreEdges, last, more, IsPair, IsOption, AreOptions, no_option, an_option, IsFormat}
 use Rattle.hm_focal.proofs.Fronts.{one_word, one_edge, one_gap, one_word_before, front_within, gap_front, gap_shorter}

@@ -2,24 +2,21 @@
 use Rattle.std.proofs.Common.{◌≡◌, ℕ, zero, suc, ◌<◌, List, [], ◌∷◌, ◌++◌, length, get_or, map, take, slice_get, filter_map, Option, Some, None, refl, sym, ap, ◌∙◌, subst, arith}
 use Rattle.std.specs.List.{AllZip, Contains, cons_option}
 use Rattle.std.proofs.lemmas.List.Elements.{Contains-append_left, Contains-append_right}
-use Rattle.std.proofs.lemmas.Option.{slice_get_within, slice_get-get_or}
+use Rattle.std.proofs.lemmas.Option.{slice_get_within, slice_get-get_or, same_Some}
 use Rattle.hm_tree.specs.Names.{Name}
 use Rattle.hm_terms.specs.Lenses.{Lens, DefinitionValue}
 use Rattle.hm_terms.specs.Programs.{ProgramValue}
 use Rattle.hm_terms.specs.WellFormedPrograms.{HasCall, HasOnce, IsLensOf, a_body, the_main, IsWellFormed}
-use Rattle.hm_node_lines.specs.Entries.{EntryValue, texts_of}
-use Rattle.hm_node_lines.specs.BadLines.{IsBadNodeLine}
-use Rattle.hm_node_lines.specs.Firsts.{place_in}
-use Rattle.hm_node_lines.specs.FirstBad.{HasNoBad}
-use Rattle.hm_node_lines.proofs.Laws.{at_place, there, not_there, type_count, type_names_once, types_formed, own_in_range}
+use Rattle.hm_schema_lines.specs.Entries.{EntryValue, texts_of}
+use Rattle.hm_schema_lines.specs.BadLines.{IsBadNodeLine}
+use Rattle.hm_schema_lines.specs.Firsts.{place_in}
+use Rattle.hm_schema_lines.specs.FirstBad.{HasNoBad}
+use Rattle.hm_schema_lines.proofs.Laws.{at_place, there, not_there, type_count, type_names_once, types_formed, own_in_range}
 use Rattle.hm_focal.specs.OwnLines.{term, LensValue, OwnValue, nothing, header, format, lens, main, body_in, lens_in, name_in, nodes_in, lens_names, named_nodes, IsBody}
 use Rattle.hm_focal.specs.Lines.{IsOwnBehind}
 use Rattle.hm_focal.specs.BadLines.{HasBody, DeclaresLens, of_node, declared_twice, calls_no_lens}
 use Rattle.hm_focal.specs.LensFiles.{IsDefinitionOf, IsLensFile}
 use Rattle.hm_focal.proofs.Rows.{AreSound, text_rows}
-
-same_some : {X : Type 0} (x y : X) → Some x ≡ Some y → x ≡ y
-same_some x y e = cc
 
 -- ---- lens lines
 
@@ -42,7 +39,7 @@ lens_at (o ∷ os) k d e = go o k e (lens_at os)
 
     go : (o : OwnValue) (k : ℕ) → slice_get (filter_map lens_in (o ∷ os)) k ≡ Some d
         → ((k : ℕ) (d : LensValue) → slice_get (filter_map lens_in os) k ≡ Some d → IsLensAt os k d) → IsLensAt (o ∷ os) k d
-    go (lens f) zero e rest = let same : f ≡ d = same_some f d e in record { line = 0; is = ap (λ z. Some (lens z)) same; before = refl }
+    go (lens f) zero e rest = let same : f ≡ d = same_Some f d e in record { line = 0; is = ap (λ z. Some (lens z)) same; before = refl }
     go (lens f) (suc k) e rest = let l = rest k d e in record { line = suc l.line; is = l.is; before = ap suc l.before }
     go nothing k e rest = next nothing refl k (rest k d e)
     go header k e rest = next header refl k (rest k d e)
@@ -55,7 +52,7 @@ pub zip_at : {X Y : Type 0} (P : X → Y → Type 0) (xs : List X) (ys : List Y)
 zip_at P [] [] h k y e = let f : ⊥ = cc in absurd f
 zip_at P [] (z ∷ ys) h k y e = absurd h
 zip_at P (x ∷ xs) [] h k y e = absurd h
-zip_at P (x ∷ xs) (z ∷ ys) h zero y e = (x, refl, subst (P x) (same_some z y e) h.0)
+zip_at P (x ∷ xs) (z ∷ ys) h zero y e = (x, refl, subst (P x) (same_Some z y e) h.0)
 zip_at P (x ∷ xs) (z ∷ ys) h (suc k) y e = zip_at P xs ys h.1 k y e
 
 zip_names : (es : List EntryValue) (ds : List LensValue) (vs : List (Name × DefinitionValue)) → AllZip (IsDefinitionOf es) ds vs
@@ -84,7 +81,7 @@ declares_before : (os : List OwnValue) (i j : ℕ) (d : LensValue) → slice_get
 declares_before [] i j d e below = let f : ⊥ = cc in absurd f
 declares_before (o ∷ os) i zero d e below = absurd (omega (arith, below))
 declares_before (o ∷ os) zero (suc j) d e below =
-    let same : o ≡ lens d = same_some o (lens d) e in
+    let same : o ≡ lens d = same_Some o (lens d) e in
     subst (λ (z : OwnValue). Contains (cons_option (name_in z) (lens_names (take j os))) d.name) (sym same) (0, omega arith, refl)
 declares_before (o ∷ os) (suc i) (suc j) d e below = further o (declares_before os i j d e (omega (arith, below)))
   where
@@ -100,7 +97,7 @@ named_in : (os : List OwnValue) (i : ℕ) (d : LensValue) (w : Name) → slice_g
     → Contains (named_nodes os) w
 named_in [] i d w e c = let f : ⊥ = cc in absurd f
 named_in (o ∷ os) zero d w e c =
-    let same : o ≡ lens d = same_some o (lens d) e in
+    let same : o ≡ lens d = same_Some o (lens d) e in
     subst (λ (z : OwnValue). Contains (nodes_in z ++ named_nodes os) w) (sym same) (Contains-append_left (d.source ∷ d.view ∷ []) (named_nodes os) w c)
 named_in (o ∷ os) (suc i) d w e c = Contains-append_right (nodes_in o) (named_nodes os) w (named_in os i d w e c)
 
@@ -129,7 +126,7 @@ module _ (bytes : List ℕ) (p : ProgramValue) (h : IsLensFile bytes p) where
           by : (ds : List LensValue) (k : ℕ) → slice_get (map (λ (d : LensValue). d.name) ds) k ≡ Some n
               → (d : LensValue) × (slice_get ds k ≡ Some d) × (d.name ≡ n)
           by [] k e = let f : ⊥ = cc in absurd f
-          by (d ∷ ds) zero e = (d, refl, same_some d.name n e)
+          by (d ∷ ds) zero e = (d, refl, same_Some d.name n e)
           by (d ∷ ds) (suc k) e = by ds k e
 
   lens_names_once : HasOnce (lens_names h.own)
@@ -191,11 +188,11 @@ module _ (bytes : List ℕ) (p : ProgramValue) (h : IsLensFile bytes p) where
     where
       go : (o : OwnValue) → IsOwnBehind (take i h.entries) (take i h.own) (get_or (texts_of bytes) i []) o → body_in o ≡ Some (term l) → AreSound l
       go (lens d) k e =
-          let same : d.body ≡ term l = same_some d.body (term l) e in
+          let same : d.body ≡ term l = same_Some d.body (term l) e in
           let b = subst (IsBody k.0.0) same k.0.2 in
           text_rows k.0.0 l b.2
       go (main c) k e =
-          let same : c ≡ term l = same_some c (term l) e in
+          let same : c ≡ term l = same_Some c (term l) e in
           let b = subst (IsBody k.0.0) same k.0.2 in
           text_rows k.0.0 l b.2
       go nothing k e = let f : ⊥ = cc in absurd f

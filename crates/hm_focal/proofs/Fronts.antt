@@ -1,5 +1,5 @@
 -- What stands at the front of bytes is determined by them.
-use Rattle.std.proofs.Common.{◌≡◌, ◌≢◌, ℕ, ◌<◌, ◌≤◌, Bool, true, false, T, List, [], ◌∷◌, ◌++◌, length, take, drop, Option, Some, None, Result, Ok, Err, refl, sym, ap, ◌∙◌, subst, arith}
+use Rattle.std.proofs.Common.{◌≡◌, ◌≢◌, ℕ, ◌<◌, ◌≤◌, true, false, T, List, [], ◌∷◌, ◌++◌, length, take, drop, Option, Some, None, Result, Ok, Err, sym, ap, ◌∙◌, subst, arith}
 use Rattle.std.specs.Prelude.{◌==◌, IsUtf8, IfOk}
 use Rattle.std.specs.List.{prefix_len, list_all}
 use Rattle.std.proofs.lemmas.List.{take-append-drop, length-take, length-append}
@@ -7,14 +7,15 @@ use Rattle.std.proofs.lemmas.List.Sums.{prefix_len-le-length}
 use Rattle.std.proofs.lemmas.Bool.{and_parts}
 use mathlib.Core.Bool.{true≢false}
 use Rattle.hm_tree.specs.Names.{Name}
-use Rattle.hm_spelling.specs.Spelling.{spelled}
-use Rattle.hm_node_lines.specs.declared.token.Token.{Token}
-use Rattle.hm_node_lines.specs.declared.token.Token.TheVariants.{Word, Quoted, Question, Plus}
-use Rattle.hm_node_lines.specs.Tokens.{is_word_byte, is_word, begins_word, token_text, IsToken, Stops}
-use Rattle.hm_node_lines.specs.Reading.{IsFirstQuoted}
-use Rattle.hm_node_lines.specs.NodeLines.{edge_name}
-use Rattle.hm_node_lines.proofs.Laws.{one_token, gaps_one, no_space, run_passes, run_stops, spaces_are, spaces_some}
+use Rattle.hm_tree_spelling.specs.Spelling.{spelled}
+use Rattle.hm_schema_lines.specs.declared.token.Token.{Token}
+use Rattle.hm_schema_lines.specs.declared.token.Token.TheVariants.{Word, Quoted, Question, Plus}
+use Rattle.hm_schema_lines.specs.Tokens.{is_word_byte, is_word, begins_word, token_text, IsToken, Stops}
+use Rattle.hm_schema_lines.specs.Reading.{IsFirstQuoted}
+use Rattle.hm_schema_lines.specs.NodeLines.{edge_name}
+use Rattle.hm_schema_lines.proofs.Laws.{one_token, gaps_one, no_space, run_passes, run_stops, spaces_are, spaces_some}
 use Rattle.hm_focal.specs.Front.{IsFront, IsFrontWord, IsFrontEdge, IsGap, IsWordBefore, IsFirstEdge}
+use Rattle.hm_facts.proofs.Booleans.{is_true}
 
 -- ---- tokens
 
@@ -34,10 +35,6 @@ one_edge bytes k j r s f g =
     let both : Some k ≡ Some j = sym f.1 ∙ ap edge_name same.0 ∙ g.1 in
     let name : k ≡ j = cc in
     (name, same.1)
-
-is_true : (b : Bool) → T b → b ≡ true
-is_true true h = refl
-is_true false h = absurd h
 
 -- bytes that begin with a word begin with a byte of one
 pub word_begins : (bytes : List ℕ) (w : Name) (rest : List ℕ) → IsFrontWord bytes w rest → begins_word bytes ≡ true

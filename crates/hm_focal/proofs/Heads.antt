@@ -3,7 +3,7 @@ use Rattle.std.proofs.Common.{◌≡◌, ◌≢◌, ℕ, List, [], ◌∷◌, re
 use Rattle.std.specs.Prelude.{codes}
 use mathlib.Core.Bool.{true≢false}
 use Rattle.hm_tree.specs.Names.{Name}
-use Rattle.hm_node_lines.specs.Tokens.{begins_word}
+use Rattle.hm_schema_lines.specs.Tokens.{begins_word}
 use Rattle.hm_focal.specs.Front.{IsGap, IsWordBefore}
 use Rattle.hm_focal.specs.OwnLines.{BodyValue, LensValue, IsHeaded, equals, word, IsBody, IsLensLine, IsMainLine}
 use Rattle.hm_focal.proofs.Fronts.{word_begins, one_gap, one_word_before}

@@ -7,11 +7,11 @@ use Rattle.std.specs.BTreeMap.{BTreeMap}
 use Rattle.std.specs.declared.alloc.Global.{Global}
 use Rattle.std.proofs.lemmas.Option.{slice_get_within, get_or_from_slice_get}
 use Rattle.std.proofs.lemmas.List.Sums.{count_by_more_yes, count_by_more_no}
-use Rattle.hm_node_lines.specs.NodeLines.{NodeLineValue}
-use Rattle.hm_node_lines.specs.Entries.{EntryValue, skipped, unknown, says}
-use Rattle.hm_node_lines.specs.Firsts.{AreFirsts}
-use Rattle.hm_node_lines.specs.BadLines.{IsBadNodeLine}
-use Rattle.hm_node_lines.proofs.Laws.{bad_says}
+use Rattle.hm_schema_lines.specs.NodeLines.{NodeLineValue}
+use Rattle.hm_schema_lines.specs.Entries.{EntryValue, skipped, unknown, says}
+use Rattle.hm_schema_lines.specs.Firsts.{AreFirsts}
+use Rattle.hm_schema_lines.specs.BadLines.{IsBadNodeLine}
+use Rattle.hm_schema_lines.proofs.Laws.{bad_says}
 use Rattle.hm_focal.specs.OwnLines.{BodyValue, term, oversized, LensValue, OwnValue, nothing, header, format, lens, main, is_lens, body_in, lens_names}
 use Rattle.hm_focal.specs.BadLines.{HasBody, IsBadLine, unreadable, of_node, declared_twice, names_no_source, names_no_view, calls_no_lens, too_many_lenses, too_large, too_long}
 use Rattle.hm_focal.specs.Judging.{IsBadBody, IsBadLens, too_many, not_first, no_source, no_view, bad_body, IsBadOwn}

@@ -4,10 +4,10 @@ use Rattle.std.specs.List.{AllZip, Contains}
 use Rattle.hm_tree.specs.Names.{Name}
 use Rattle.hm_terms.specs.Lenses.{DefinitionValue}
 use Rattle.hm_terms.specs.Programs.{ProgramValue}
-use Rattle.hm_node_lines.specs.Entries.{EntryValue, texts_of}
-use Rattle.hm_node_lines.specs.FirstBad.{HasNoBad, IsTold, at, behind_all}
-use Rattle.hm_node_lines.specs.Nodes.{IsPlaceOf, AreTypeNames, AreNodesOf}
-use Rattle.hm_node_lines.proofs.Laws.{at_place, counted_below, names_are_one, nodes_once, place_once, told_once, zip_once}
+use Rattle.hm_schema_lines.specs.Entries.{EntryValue, texts_of}
+use Rattle.hm_schema_lines.specs.FirstBad.{HasNoBad, IsTold, at, behind_all}
+use Rattle.hm_schema_lines.specs.Nodes.{IsPlaceOf, AreTypeNames, AreNodesOf}
+use Rattle.hm_schema_lines.proofs.Laws.{at_place, counted_below, names_are_one, nodes_once, place_once, told_once, zip_once}
 use Rattle.hm_focal.specs.OwnLines.{term, LensValue, OwnValue, format, main, is_format, is_main, lens_in, named_nodes}
 use Rattle.hm_focal.specs.BadLines.{IsBadLine, of_node, Lacks, IsFirstBadLine}
 use Rattle.hm_focal.specs.LensFiles.{IsDefinitionOf, IsLensFile, ReadsLens}

@@ -12,8 +12,8 @@ use Rattle.std.proofs.lemmas.Option.{slice_get_read, slice_get-map}
 use Rattle.std.proofs.Math.Seq.{take-suc}
 use mathlib.Core.List.{append-nil}
 use Rattle.hm_tree.specs.Names.{Name}
-use Rattle.hm_node_lines.specs.Firsts.{place_in, kept_first, AreFirsts}
-use Rattle.hm_node_lines.proofs.Laws.{place_next, there, not_there, first_at, not_before}
+use Rattle.hm_schema_lines.specs.Firsts.{place_in, kept_first, AreFirsts}
+use Rattle.hm_schema_lines.proofs.Laws.{place_next, there, not_there, first_at, not_before}
 use Rattle.hm_focal.specs.declared.own.Own.{Own}
 use Rattle.hm_focal.specs.OwnLines.{LensValue, OwnValue, nothing, header, format, lens, main, own_value, own_values, is_lens, name_in, lens_names}
 use Rattle.hm_focal.specs.BadLines.{DeclaresLens}

@@ -3,11 +3,11 @@ use Rattle.std.proofs.Common.{◌≡◌, ◌≢◌, inl, inr, ℕ, List, ◌∷�
 use Rattle.std.specs.Prelude.{codes}
 use Rattle.std.proofs.lemmas.Option.{slice_get_within, get_or_from_slice_get}
 use Rattle.hm_tree.specs.Names.{Name}
-use Rattle.hm_node_lines.specs.declared.token.Token.{Token}
-use Rattle.hm_node_lines.specs.declared.token.Token.TheVariants.{Word}
-use Rattle.hm_node_lines.specs.Tokens.{Spaced}
-use Rattle.hm_node_lines.specs.NodeLines.{NodeLineValue, node, edge, other, shape, AreItsTokens, indent, IsNodeLine}
-use Rattle.hm_node_lines.specs.Entries.{IsSkipped, IsEntry, unknown, says}
+use Rattle.hm_schema_lines.specs.declared.token.Token.{Token}
+use Rattle.hm_schema_lines.specs.declared.token.Token.TheVariants.{Word}
+use Rattle.hm_schema_lines.specs.Tokens.{Spaced}
+use Rattle.hm_schema_lines.specs.NodeLines.{NodeLineValue, node, edge, other, shape, AreItsTokens, indent, IsNodeLine}
+use Rattle.hm_schema_lines.specs.Entries.{IsSkipped, IsEntry, unknown, says}
 use Rattle.hm_focal.specs.OwnLines.{OwnValue, nothing, header, format, lens, main, IsOwn, IsReadOwn}
 use Rattle.hm_focal.proofs.Owns.{letter, letter_of, spaced_front}
 

@@ -7,10 +7,10 @@ use Rattle.std.proofs.lemmas.Option.{slice_get_within, slice_get-get_or}
 use Rattle.hm_tree.specs.Names.{Name}
 use Rattle.hm_tree.proofs.Kept.{take_more}
 use Rattle.hm_terms.specs.Lenses.{Lens}
-use Rattle.hm_term_text.proofs.Laws.{one_term}
-use Rattle.hm_node_lines.specs.Entries.{EntryValue, skipped, unknown, says, IsSkipped}
-use Rattle.hm_node_lines.specs.BadLines.{is_counted}
-use Rattle.hm_node_lines.proofs.Laws.{line_once, more_before, at_place}
+use Rattle.hm_focal_terms.proofs.Laws.{one_term}
+use Rattle.hm_schema_lines.specs.Entries.{EntryValue, skipped, unknown, says, IsSkipped}
+use Rattle.hm_schema_lines.specs.BadLines.{is_counted}
+use Rattle.hm_schema_lines.proofs.Laws.{line_once, more_before, at_place}
 use Rattle.hm_focal.specs.OwnLines.{BodyValue, term, oversized, LensValue, OwnValue, nothing, header, format, lens, main, is_main, IsBody, IsLensLine, IsMainLine, IsOwn}
 use Rattle.hm_focal.specs.Lines.{MayStand, IsEntryBehind, IsOwnBehind, AreLines}
 use Rattle.hm_focal.proofs.Formats.{format_once}

@@ -6,15 +6,15 @@ use Rattle.std.specs.Char.{digit_char}
 use Rattle.std.proofs.lemmas.Bool.{or_cases, or_parts, and_parts, not-true, eqb-true, ltb-false}
 use Rattle.std.proofs.lemmas.Bool.Decides.{nat_tests}
 use Rattle.hm_tree.specs.Names.{Name}
-use Rattle.hm_spelling.specs.Spelling.{is_quote_or_backslash, is_control, is_plain, spelled_byte, escaped, spelled}
-use Rattle.hm_spelling.specs.SpellingLaws.{Kind, plain, backslashed, control, kind}
+use Rattle.hm_tree_spelling.specs.Spelling.{is_quote_or_backslash, is_control, is_plain, spelled_byte, escaped, spelled}
+use Rattle.hm_tree_spelling.specs.SpellingLaws.{Kind, plain, backslashed, control, kind}
 use Rattle.hm_tree.specs.Nodes.{Shape, bare, mark, edge}
 use Rattle.hm_tree_text.specs.Text.{Position, whole, below, further, text}
-use Rattle.hm_node_lines.specs.declared.token.Token.{Token}
-use Rattle.hm_node_lines.specs.declared.token.Token.TheVariants.{Word, Quoted, Question, Plus}
-use Rattle.hm_node_lines.specs.Tokens.{is_word_byte, is_word, token_text, IsToken, AreSpaces, one, more, Spaced, alone, before}
-use Rattle.hm_node_lines.specs.NodeLines.{NodeLineValue, node, edge as edge_line, other, shape, indent, IsNodeLine}
-use Rattle.hm_node_lines.proofs.Laws.{is_true}
+use Rattle.hm_schema_lines.specs.declared.token.Token.{Token}
+use Rattle.hm_schema_lines.specs.declared.token.Token.TheVariants.{Word, Quoted, Question, Plus}
+use Rattle.hm_schema_lines.specs.Tokens.{is_word_byte, is_word, token_text, IsToken, AreSpaces, one, more, Spaced, alone, before}
+use Rattle.hm_schema_lines.specs.NodeLines.{NodeLineValue, node, edge as edge_line, other, shape, indent, IsNodeLine}
+use Rattle.hm_facts.proofs.Booleans.{is_true}
 
 abbrev pub IsOneLine : List ℕ → Type 0
 IsOneLine [] = Unit {0}

@@ -2,9 +2,9 @@
 use Rattle.std.proofs.Common.{ℕ, List, ◌∷◌, sym, subst, arith}
 use Rattle.hm_tree.specs.Names.{Name}
 use Rattle.hm_terms.specs.Lenses.{Lens}
-use Rattle.hm_node_lines.specs.declared.token.Token.{Token}
-use Rattle.hm_node_lines.specs.declared.token.Token.TheVariants.{Word}
-use Rattle.hm_node_lines.specs.Tokens.{token_text}
+use Rattle.hm_schema_lines.specs.declared.token.Token.{Token}
+use Rattle.hm_schema_lines.specs.declared.token.Token.TheVariants.{Word}
+use Rattle.hm_schema_lines.specs.Tokens.{token_text}
 use Rattle.hm_focal.specs.Front.{IsFront, IsGap, IsWordBefore}
 use Rattle.hm_focal.specs.OwnLines.{term, AreEdges, last, more, AreOptions, no_option, an_option, IsFormat, IsHeaded, equals, word, IsLensLine, IsMainLine}
 use Rattle.hm_focal.proofs.OneLine.{IsOneLine, line_both, token_line, spaces_line}

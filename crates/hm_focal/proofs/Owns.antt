@@ -3,9 +3,9 @@ use Rattle.std.proofs.Common.{◌≡◌, ℕ, List, [], ◌∷◌, ◌++◌, sli
 use Rattle.std.specs.Prelude.{codes}
 use mathlib.Core.List.{append-nil}
 use Rattle.hm_tree.specs.Names.{Name}
-use Rattle.hm_node_lines.specs.declared.token.Token.{Token}
-use Rattle.hm_node_lines.specs.declared.token.Token.TheVariants.{Word}
-use Rattle.hm_node_lines.specs.Tokens.{Spaced, alone, before, token_text}
+use Rattle.hm_schema_lines.specs.declared.token.Token.{Token}
+use Rattle.hm_schema_lines.specs.declared.token.Token.TheVariants.{Word}
+use Rattle.hm_schema_lines.specs.Tokens.{Spaced, alone, before, token_text}
 use Rattle.hm_focal.specs.OwnLines.{BodyValue, LensValue, OwnValue, nothing, header, format, lens, main, IsHeader, IsFormat, IsHeaded, word, IsLensLine, IsMainLine, IsOwn}
 
 abbrev pub letter : OwnValue → ℕ

@@ -2,12 +2,12 @@
 use Rattle.std.proofs.Common.{◌≡◌, ℕ, ◌+◌, ◌<◌, ◌≤◌, Bool, true, false, cond, List, [], ◌∷◌, ◌++◌, length, take, slice_get, count_by, Some, refl, sym, ap, ◌∙◌, subst, arith, append_assoc, inl, inr}
 use mathlib.Core.List.{append-nil}
 use Rattle.std.proofs.lemmas.Grind.{common_steps}
-use Rattle.std.proofs.lemmas.Option.{gets, slice_get_within}
+use Rattle.std.proofs.lemmas.Option.{gets, slice_get_within, same_Some}
 use Rattle.std.proofs.lemmas.Bool.{cases_lt}
 use Rattle.std.proofs.lemmas.List.{length_push, take_all}
 use Rattle.std.proofs.lemmas.List.Sums.{sum_by-cons}
-use Rattle.hm_node_lines.specs.Entries.{EntryValue, skipped, unknown, says, IsEntry}
-use Rattle.hm_node_lines.specs.BadLines.{is_counted}
+use Rattle.hm_schema_lines.specs.Entries.{EntryValue, skipped, unknown, says, IsEntry}
+use Rattle.hm_schema_lines.specs.BadLines.{is_counted}
 use Rattle.hm_focal.specs.declared.lines.Stage.{Stage}
 use Rattle.hm_focal.specs.declared.lines.Stage.TheVariants.{Header, Format, Nodes, Lenses, End}
 use Rattle.hm_focal.specs.OwnLines.{OwnValue, nothing, header, format, lens, main, is_main, ends_nodes, IsOwn, IsReadOwn}
@@ -175,9 +175,6 @@ module _ {X : Type 0} where
   pub get_last : (xs : List X) (x : X) (n : ℕ) → n ≡ length xs → slice_get (xs ++ x ∷ []) n ≡ Some x
   get_last xs x n is = grind (arith, common_steps, gets)
 
-same_some : {X : Type 0} (x y : X) → Some x ≡ Some y → x ≡ y
-same_some x y e = cc
-
 module _ (ts : List (List ℕ)) (es : List EntryValue) (os : List OwnValue) (h : AreLines ts es os) (line : List ℕ) (e : EntryValue) (o : OwnValue)
     (ke : IsEntryBehind es os line e) (ko : IsOwnBehind es os line o) where
   le : length es ≡ length ts
@@ -196,8 +193,8 @@ module _ (ts : List (List ℕ)) (es : List EntryValue) (os : List OwnValue) (h :
     | inr above ↦
         let within = slice_get_within (ts ++ line ∷ []) i t at in
         let last : i ≡ length ts = omega (arith, length_push ts line) in
-        let text : line ≡ t = same_some line t (sym (get_last ts line i last) ∙ at) in
-        let here : e ≡ x = same_some e x (sym (get_last es e i (last ∙ sym le)) ∙ is) in
+        let text : line ≡ t = same_Some line t (sym (get_last ts line i last) ∙ at) in
+        let here : e ≡ x = same_Some e x (sym (get_last es e i (last ∙ sym le)) ∙ is) in
         subst (λ (z : (List EntryValue × List OwnValue) × (List ℕ × EntryValue)). IsEntryBehind z.0.0 z.0.1 z.1.0 z.1.1)
         (λ j. (
           (
@@ -219,8 +216,8 @@ module _ (ts : List (List ℕ)) (es : List EntryValue) (os : List OwnValue) (h :
     | inr above ↦
         let within = slice_get_within (ts ++ line ∷ []) i t at in
         let last : i ≡ length ts = omega (arith, length_push ts line) in
-        let text : line ≡ t = same_some line t (sym (get_last ts line i last) ∙ at) in
-        let here : o ≡ x = same_some o x (sym (get_last os o i (last ∙ sym lo)) ∙ is) in
+        let text : line ≡ t = same_Some line t (sym (get_last ts line i last) ∙ at) in
+        let here : o ≡ x = same_Some o x (sym (get_last os o i (last ∙ sym lo)) ∙ is) in
         subst (λ (z : (List EntryValue × List OwnValue) × (List ℕ × OwnValue)). IsOwnBehind z.0.0 z.0.1 z.1.0 z.1.1)
         (λ j. (
           (

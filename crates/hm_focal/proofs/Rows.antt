@@ -5,9 +5,9 @@ use Rattle.hm_tree.specs.Nodes.{Tree}
 use Rattle.hm_schema.specs.Values.{Names}
 use Rattle.hm_terms.specs.Lenses.{Lens, Lenses, identity, sequence, constant, hoist, plunge, fork, each, among, none, also, items, copy, merge, on_concrete, on_view, text, call}
 use Rattle.hm_terms.specs.WellFormedPrograms.{StandsIn, itself, in_first, in_second, inside, outside, in_each, in_among, in_items, where_it_has, where_it_lacks, where_it_showed, where_it_did_not, IsAmong, here, further, row_names, HasOnce, IsSoundRow}
-use Rattle.hm_node_lines.specs.BadLines.{HasDouble}
-use Rattle.hm_term_text.specs.declared.keyword.Keyword.{Keyword}
-use Rattle.hm_term_text.specs.TermText.{names_of, IsTerm, one_part, more_parts, IsPart, in_parentheses, by_keyword, IsForm, id_form, const_form, hoist_form, plunge_form, fork_form, map_form, each_form, list_form, copy_form, merge_form, concrete_form, view_form, text_form, call_form, filter_form, prune_form, focus_form, add_form, rename_form, BehindSign, behind_sign, InParentheses, parentheses, TwoTerms, two_terms, ArePairs, last_pair, more_pairs, IsTermText}
+use Rattle.hm_schema_lines.specs.BadLines.{HasDouble}
+use Rattle.hm_focal_terms.specs.declared.keyword.Keyword.{Keyword}
+use Rattle.hm_focal_terms.specs.TermText.{names_of, IsTerm, one_part, more_parts, IsPart, in_parentheses, by_keyword, IsForm, id_form, const_form, hoist_form, plunge_form, fork_form, map_form, each_form, list_form, copy_form, merge_form, concrete_form, view_form, text_form, call_form, filter_form, prune_form, focus_form, add_form, rename_form, BehindSign, behind_sign, InParentheses, parentheses, TwoTerms, two_terms, ArePairs, last_pair, more_pairs, IsTermText}
 
 abbrev pub AreSound : Lens → Type 0
 AreSound l = (ls : Lenses) → StandsIn (among ls) l → IsSoundRow ls

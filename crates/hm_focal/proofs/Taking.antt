@@ -12,9 +12,9 @@ use Rattle.hm_schema.specs.Values.{pair_value}
 use Rattle.hm_terms.specs.declared.term.Term.{Term}
 use Rattle.hm_terms.specs.declared.term.Definition.{Definition}
 use Rattle.hm_terms.specs.Programs.{lens_of, definition_value}
-use Rattle.hm_node_lines.specs.Entries.{EntryValue}
-use Rattle.hm_node_lines.specs.FirstBad.{HasNoBad}
-use Rattle.hm_node_lines.proofs.Laws.{at_place, from_place, is_node}
+use Rattle.hm_schema_lines.specs.Entries.{EntryValue}
+use Rattle.hm_schema_lines.specs.FirstBad.{HasNoBad}
+use Rattle.hm_schema_lines.proofs.Laws.{at_place, from_place, is_node}
 use Rattle.hm_focal.specs.declared.own.FormatLine.{FormatLine}
 use Rattle.hm_focal.specs.declared.program.Parts.{Parts}
 use Rattle.hm_focal.specs.OwnLines.{BodyValue, term, oversized, LensValue, OwnValue, nothing, header, format, lens, main, is_format, is_main, body_in, lens_in}

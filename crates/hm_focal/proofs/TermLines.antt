@@ -8,11 +8,11 @@ use Rattle.hm_tree.specs.Nodes.{Tree}
 use Rattle.hm_schema.specs.Values.{Names}
 use Rattle.hm_terms.specs.Lenses.{Lens, Lenses}
 use Rattle.hm_tree_text.specs.Text.{whole, text}
-use Rattle.hm_node_lines.specs.declared.token.Token.{Token}
-use Rattle.hm_node_lines.specs.Tokens.{token_text}
-use Rattle.hm_term_text.specs.declared.keyword.Keyword.{Keyword}
-use Rattle.hm_term_text.specs.Fronts.{unspaced, IsSign, IsFront, IsWord, IsEdge, IsTree, AreNames, no_names, a_name, IsSet, Behind, One, Two}
-use Rattle.hm_term_text.specs.TermText.{IsTerm, one_part, more_parts, IsPart, in_parentheses, by_keyword, IsForm, id_form, const_form, hoist_form, plunge_form, fork_form, map_form, each_form, list_form, copy_form, merge_form, concrete_form, view_form, text_form, call_form, filter_form, prune_form, focus_form, add_form, rename_form, BehindSign, behind_sign, InParentheses, parentheses, TwoTerms, two_terms, ArePairs, last_pair, more_pairs, IsTermText}
+use Rattle.hm_schema_lines.specs.declared.token.Token.{Token}
+use Rattle.hm_schema_lines.specs.Tokens.{token_text}
+use Rattle.hm_focal_terms.specs.declared.keyword.Keyword.{Keyword}
+use Rattle.hm_focal_terms.specs.Fronts.{unspaced, IsSign, IsFront, IsWord, IsEdge, IsTree, AreNames, no_names, a_name, IsSet, Behind, One, Two}
+use Rattle.hm_focal_terms.specs.TermText.{IsTerm, one_part, more_parts, IsPart, in_parentheses, by_keyword, IsForm, id_form, const_form, hoist_form, plunge_form, fork_form, map_form, each_form, list_form, copy_form, merge_form, concrete_form, view_form, text_form, call_form, filter_form, prune_form, focus_form, add_form, rename_form, BehindSign, behind_sign, InParentheses, parentheses, TwoTerms, two_terms, ArePairs, last_pair, more_pairs, IsTermText}
 use Rattle.hm_focal.proofs.OneLine.{IsOneLine, line_both, token_line, text_line}
 
 -- ---- what stands at the front of bytes

@@ -9,8 +9,8 @@ use Rattle.hm_tree.specs.Names.{Name}
 use Rattle.hm_terms.specs.Lenses.{DefinitionValue}
 use Rattle.hm_terms.specs.declared.term.Definition.{Definition}
 use Rattle.hm_terms.specs.Programs.{ProgramValue, definition_value}
-use Rattle.hm_node_writer.specs.Writing.{line_text}
-use Rattle.hm_node_writer.specs.WrittenNodes.{nodes_lines, nodes_text}
+use Rattle.hm_schema_writer.specs.Writing.{line_text}
+use Rattle.hm_schema_writer.specs.WrittenNodes.{nodes_lines, nodes_text}
 use Rattle.hm_focal.specs.Writing.{header_text, format_text, definition_text, main_text, ended, lens_text}
 
 -- a definition, by its parts

@@ -9,20 +9,20 @@ use Rattle.hm_tree.specs.Names.{Name}
 use Rattle.hm_terms.specs.Lenses.{Lens, DefinitionValue}
 use Rattle.hm_terms.specs.Programs.{ProgramValue}
 use Rattle.hm_terms.specs.WellFormedPrograms.{IsLensOf, a_body, the_main, IsWellFormed}
-use Rattle.hm_term_text.specs.TermText.{IsTermText}
-use Rattle.hm_term_text.specs.Written.{term_text}
-use Rattle.hm_term_text.proofs.Laws.{written_reads}
-use Rattle.hm_node_lines.specs.declared.token.Token.TheVariants.{Word}
-use Rattle.hm_node_lines.specs.Tokens.{IsToken}
-use Rattle.hm_node_lines.specs.NodeLines.{NodeLineValue, node, IsNodeLine}
-use Rattle.hm_node_lines.specs.Entries.{EntryValue, unknown, says, texts_of}
-use Rattle.hm_node_lines.specs.BadLines.{Says, IsNode, begins_node, IsBadNodeLine, declares_empty}
-use Rattle.hm_node_lines.specs.FirstBad.{HasNoBad}
-use Rattle.hm_node_lines.specs.Nodes.{IsPlaceOf, declared, empty, NamesEmpty}
-use Rattle.hm_node_writer.specs.Writing.{line_text}
-use Rattle.hm_node_writer.specs.WrittenNodes.{name_at, nodes_lines, IsWritable, AreOfNodes}
-use Rattle.hm_node_lines.proofs.Laws.{at_place, from_place, names_empty_or, type_place}
-use Rattle.hm_node_writer.proofs.Laws.{readable_nodes, rewritten_nodes, written_reads as written_nodes_read, written_sound, written_places, written_nodes, written_type_names}
+use Rattle.hm_focal_terms.specs.TermText.{IsTermText}
+use Rattle.hm_focal_terms.specs.Written.{term_text}
+use Rattle.hm_focal_terms.proofs.Laws.{written_reads}
+use Rattle.hm_schema_lines.specs.declared.token.Token.TheVariants.{Word}
+use Rattle.hm_schema_lines.specs.Tokens.{IsToken}
+use Rattle.hm_schema_lines.specs.NodeLines.{NodeLineValue, node, IsNodeLine}
+use Rattle.hm_schema_lines.specs.Entries.{EntryValue, unknown, says, texts_of}
+use Rattle.hm_schema_lines.specs.BadLines.{Says, IsNode, begins_node, IsBadNodeLine, declares_empty}
+use Rattle.hm_schema_lines.specs.FirstBad.{HasNoBad}
+use Rattle.hm_schema_lines.specs.Nodes.{IsPlaceOf, declared, empty, NamesEmpty}
+use Rattle.hm_schema_writer.specs.Writing.{line_text}
+use Rattle.hm_schema_writer.specs.WrittenNodes.{name_at, nodes_lines, IsWritable, AreOfNodes}
+use Rattle.hm_schema_lines.proofs.Laws.{at_place, from_place, names_empty_or, type_place}
+use Rattle.hm_schema_writer.proofs.Laws.{readable_nodes, rewritten_nodes, written_reads as written_nodes_read, written_sound, written_places, written_nodes, written_type_names}
 use Rattle.hm_focal.specs.OwnLines.{BodyValue, term, oversized, LensValue, OwnValue, nothing, header, format, lens, main, body_in, lens_in, lens_names, named_nodes, IsHeaded, equals, word, IsBody, IsLensLine}
 use Rattle.hm_focal.specs.Lines.{IsOwnBehind, AreLines}
 use Rattle.hm_focal.specs.BadLines.{HasBody, IsBadLine, unreadable, of_node, declared_twice, names_no_source, names_no_view, calls_no_lens, too_many_lenses, too_large, too_long}

@@ -5,10 +5,10 @@ use mathlib.Core.List.{append-nil}
 use Rattle.hm_tree.specs.Names.{Name}
 use Rattle.hm_terms.specs.Lenses.{DefinitionValue}
 use Rattle.hm_terms.specs.Programs.{ProgramValue}
-use Rattle.hm_node_lines.specs.NodeLines.{NodeLineValue, IsNodeLine}
-use Rattle.hm_node_lines.specs.Entries.{EntryValue, unknown, says}
-use Rattle.hm_node_writer.specs.Writing.{line_text}
-use Rattle.hm_node_writer.specs.WrittenNodes.{name_at, nodes_lines}
+use Rattle.hm_schema_lines.specs.NodeLines.{NodeLineValue, IsNodeLine}
+use Rattle.hm_schema_lines.specs.Entries.{EntryValue, unknown, says}
+use Rattle.hm_schema_writer.specs.Writing.{line_text}
+use Rattle.hm_schema_writer.specs.WrittenNodes.{name_at, nodes_lines}
 use Rattle.hm_focal.specs.declared.lines.Stage.{Stage}
 use Rattle.hm_focal.specs.declared.lines.Stage.TheVariants.{Header, Format, Nodes, Lenses}
 use Rattle.hm_focal.specs.OwnLines.{BodyValue, term, LensValue, OwnValue, nothing, header, format, lens, main, IsFormat, IsLensLine, IsMainLine, IsOwn, IsReadOwn}

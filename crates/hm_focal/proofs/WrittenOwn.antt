@@ -3,20 +3,21 @@ use Rattle.std.proofs.Common.{◌≡◌, ◌≢◌, ℕ, ◌-◌, false, List, [
 use Rattle.std.specs.Prelude.{codes, flat_map, IsUtf8}
 use Rattle.std.proofs.lemmas.List.{length_push}
 use Rattle.hm_tree.specs.Names.{Name}
-use Rattle.hm_spelling.specs.Spelling.{spelled}
+use Rattle.hm_tree_spelling.specs.Spelling.{spelled}
 use Rattle.hm_terms.specs.Lenses.{Lens, DefinitionValue, identity, sequence, constant, hoist, plunge, fork, each, among, items, copy, merge, on_concrete, on_view, text as text_lens, call}
-use Rattle.hm_term_text.specs.TermText.{IsTermText}
-use Rattle.hm_term_text.specs.Limits.{IsOversized}
-use Rattle.hm_term_text.specs.Written.{set_text, spelled_tree, is_sequence, opening, closing, term_text, pairs_text}
-use Rattle.hm_node_lines.specs.declared.token.Token.{Token}
-use Rattle.hm_node_lines.specs.declared.token.Token.TheVariants.{Word, Quoted, Question, Plus}
-use Rattle.hm_node_lines.specs.Tokens.{is_word, begins_word, IsToken, one, alone, before}
-use Rattle.hm_node_lines.specs.NodeLines.{edge_name}
-use Rattle.hm_node_writer.specs.WrittenNodes.{name_at}
-use Rattle.hm_node_lines.proofs.Laws.{is_true, not_word, word_utf8}
+use Rattle.hm_focal_terms.specs.TermText.{IsTermText}
+use Rattle.hm_focal_terms.specs.Limits.{IsOversized}
+use Rattle.hm_focal_terms.specs.Written.{set_text, spelled_tree, is_sequence, opening, closing, term_text, pairs_text}
+use Rattle.hm_schema_lines.specs.declared.token.Token.{Token}
+use Rattle.hm_schema_lines.specs.declared.token.Token.TheVariants.{Word, Quoted, Question, Plus}
+use Rattle.hm_schema_lines.specs.Tokens.{is_word, begins_word, IsToken, one, alone, before}
+use Rattle.hm_schema_lines.specs.NodeLines.{edge_name}
+use Rattle.hm_schema_writer.specs.WrittenNodes.{name_at}
+use Rattle.hm_schema_lines.proofs.Laws.{not_word, word_utf8}
 use Rattle.hm_focal.specs.Front.{IsFrontEdge, IsGap, IsWordBefore}
 use Rattle.hm_focal.specs.OwnLines.{term, AreEdges, last, more, AreOptions, no_option, an_option, IsFormat, IsHeader, IsHeaded, equals, word, IsTrimmed, IsLensLine, IsMainLine}
 use Rattle.hm_focal.specs.Writing.{header_text, edges_text, option_text, format_text, definition_text, main_text}
+use Rattle.hm_facts.proofs.Booleans.{is_true}
 
 pub header_reads : IsHeader header_text
 header_reads = before (omega arith, tt) one (before (omega arith, tt) one (alone (omega arith, tt)))

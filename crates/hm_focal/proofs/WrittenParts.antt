@@ -6,10 +6,10 @@ use Rattle.std.proofs.lemmas.List.Elements.{Contains-append_right}
 use Rattle.std.proofs.lemmas.Option.{same_Some}
 use Rattle.hm_tree.specs.Names.{Name}
 use Rattle.hm_terms.specs.Lenses.{DefinitionValue}
-use Rattle.hm_node_lines.specs.NodeLines.{NodeLineValue}
-use Rattle.hm_node_lines.specs.Entries.{unknown, says}
-use Rattle.hm_node_writer.specs.WrittenNodes.{name_at, SaysNothing}
-use Rattle.hm_node_lines.proofs.Laws.{at_place}
+use Rattle.hm_schema_lines.specs.NodeLines.{NodeLineValue}
+use Rattle.hm_schema_lines.specs.Entries.{unknown, says}
+use Rattle.hm_schema_writer.specs.WrittenNodes.{name_at, SaysNothing}
+use Rattle.hm_schema_lines.proofs.Laws.{at_place}
 use Rattle.hm_focal.specs.OwnLines.{BodyValue, LensValue, OwnValue, nothing, lens, main, lens_in, lens_names, named_nodes}
 use Rattle.hm_focal.proofs.WrittenLines.{lens_line, own_line}
 

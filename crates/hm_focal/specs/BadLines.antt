@@ -4,10 +4,10 @@ use Rattle.std.specs.List.{Contains}
 use Rattle.hm_tree.specs.Names.{Name}
 use Rattle.hm_terms.specs.Lenses.{Lens}
 use Rattle.hm_terms.specs.WellFormedPrograms.{HasCall}
-use Rattle.hm_term_text.specs.Limits.{IsLong}
-use Rattle.hm_node_lines.specs.Entries.{EntryValue, unknown, texts_of}
-use Rattle.hm_node_lines.specs.BadLines.{IsNode, IsBadNodeLine}
-use Rattle.hm_node_lines.specs.FirstBad.{IsTold}
+use Rattle.hm_focal_terms.specs.Limits.{IsLong}
+use Rattle.hm_schema_lines.specs.Entries.{EntryValue, unknown, texts_of}
+use Rattle.hm_schema_lines.specs.BadLines.{IsNode, IsBadNodeLine}
+use Rattle.hm_schema_lines.specs.FirstBad.{IsTold}
 use Rattle.hm_focal.specs.OwnLines.{BodyValue, term, oversized, LensValue, OwnValue, nothing, lens, is_format, is_lens, is_main, body_in, lens_names}
 use Rattle.hm_focal.specs.Lines.{AreLines}
 

@@ -4,8 +4,8 @@ use Rattle.std.specs.List.{AllZip, Contains, cons_option}
 use Rattle.hm_schema.specs.Values.{pair_value}
 use Rattle.hm_terms.specs.declared.term.Definition.{Definition}
 use Rattle.hm_terms.specs.Programs.{lens_of, definition_value}
-use Rattle.hm_node_lines.specs.Entries.{EntryValue}
-use Rattle.hm_node_lines.specs.BadLines.{IsNode}
+use Rattle.hm_schema_lines.specs.Entries.{EntryValue}
+use Rattle.hm_schema_lines.specs.BadLines.{IsNode}
 use Rattle.hm_focal.specs.declared.program.Parts.{Parts}
 use Rattle.hm_focal.specs.OwnLines.{term, oversized, LensValue, OwnValue, nothing, header, format, lens, main, is_format, is_main, lens_in}
 use Rattle.hm_focal.specs.LensFiles.{IsDefinitionOf}

@@ -2,10 +2,10 @@
 use Rattle.std.specs.Prelude.{◌≡◌, ◌≢◌, ℕ, ◌≤◌, List, ◌∷◌, ◌++◌, length, drop, Option, Some, None}
 use Rattle.std.specs.Borrow.{Bor}
 use Rattle.hm_tree.specs.Names.{Name}
-use Rattle.hm_node_lines.specs.declared.token.Token.{Token}
-use Rattle.hm_node_lines.specs.declared.token.Token.TheVariants.{Word}
-use Rattle.hm_node_lines.specs.Tokens.{token_text, IsToken, Stops, AreSpaces}
-use Rattle.hm_node_lines.specs.NodeLines.{edge_name}
+use Rattle.hm_schema_lines.specs.declared.token.Token.{Token}
+use Rattle.hm_schema_lines.specs.declared.token.Token.TheVariants.{Word}
+use Rattle.hm_schema_lines.specs.Tokens.{token_text, IsToken, Stops, AreSpaces}
+use Rattle.hm_schema_lines.specs.NodeLines.{edge_name}
 
 -- a token
 pub record IsFront (bytes : List ℕ) (t : Token) (rest : List ℕ) : Type 0 where

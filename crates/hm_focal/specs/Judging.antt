@@ -5,9 +5,9 @@ use Rattle.std.specs.declared.alloc.Global.{Global}
 use Rattle.hm_tree.specs.Names.{Name}
 use Rattle.hm_terms.specs.Lenses.{Lens}
 use Rattle.hm_terms.specs.WellFormedPrograms.{HasCall}
-use Rattle.hm_term_text.specs.Limits.{IsLong}
-use Rattle.hm_node_lines.specs.Entries.{EntryValue}
-use Rattle.hm_node_lines.specs.BadLines.{IsNode}
+use Rattle.hm_focal_terms.specs.Limits.{IsLong}
+use Rattle.hm_schema_lines.specs.Entries.{EntryValue}
+use Rattle.hm_schema_lines.specs.BadLines.{IsNode}
 use Rattle.hm_focal.specs.OwnLines.{BodyValue, term, oversized, LensValue, OwnValue, nothing, header, format, lens, main}
 
 -- a lens calls one whose name isn't in a table

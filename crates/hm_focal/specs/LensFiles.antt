@@ -4,9 +4,9 @@ use Rattle.std.specs.List.{AllZip, Contains}
 use Rattle.hm_tree.specs.Names.{Name}
 use Rattle.hm_terms.specs.Lenses.{DefinitionValue}
 use Rattle.hm_terms.specs.Programs.{ProgramValue}
-use Rattle.hm_node_lines.specs.Entries.{EntryValue, texts_of}
-use Rattle.hm_node_lines.specs.FirstBad.{HasNoBad}
-use Rattle.hm_node_lines.specs.Nodes.{IsPlaceOf, AreTypeNames, AreNodesOf}
+use Rattle.hm_schema_lines.specs.Entries.{EntryValue, texts_of}
+use Rattle.hm_schema_lines.specs.FirstBad.{HasNoBad}
+use Rattle.hm_schema_lines.specs.Nodes.{IsPlaceOf, AreTypeNames, AreNodesOf}
 use Rattle.hm_focal.specs.declared.fault.LensFault.{LensFault}
 use Rattle.hm_focal.specs.declared.fault.LensFault.TheVariants.{BadLens, Memory}
 use Rattle.hm_focal.specs.OwnLines.{term, LensValue, OwnValue, format, main, lens_in, named_nodes}

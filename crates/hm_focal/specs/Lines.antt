@@ -1,8 +1,8 @@
 -- The lines of a lens file, each in its place: the header, the format line, lines of nodes, lens lines, the main line.
 use Rattle.std.specs.Prelude.{◌≡◌, ℕ, ◌≤◌, List, length, take, slice_get, count_by, Some}
-use Rattle.hm_node_lines.specs.NodeLines.{NodeLineValue, IsNodeLine}
-use Rattle.hm_node_lines.specs.Entries.{EntryValue, skipped, unknown, says, IsSkipped}
-use Rattle.hm_node_lines.specs.BadLines.{is_counted}
+use Rattle.hm_schema_lines.specs.NodeLines.{NodeLineValue, IsNodeLine}
+use Rattle.hm_schema_lines.specs.Entries.{EntryValue, skipped, unknown, says, IsSkipped}
+use Rattle.hm_schema_lines.specs.BadLines.{is_counted}
 use Rattle.hm_focal.specs.OwnLines.{OwnValue, nothing, header, format, lens, main, is_main, ends_nodes, IsOwn}
 
 -- which lines may stand behind others: the header behind none but skipped ones, the format line behind one, lines of nodes behind two

@@ -5,10 +5,10 @@ use Rattle.hm_tree.specs.Names.{Name}
 use Rattle.hm_schema.specs.Values.{pair_value}
 use Rattle.hm_terms.specs.Lenses.{Lens}
 use Rattle.hm_terms.specs.Programs.{lens_of}
-use Rattle.hm_term_text.specs.TermText.{IsTermText}
-use Rattle.hm_term_text.specs.Limits.{IsOversized}
-use Rattle.hm_node_lines.specs.declared.token.Token.TheVariants.{Word}
-use Rattle.hm_node_lines.specs.Tokens.{Spaced}
+use Rattle.hm_focal_terms.specs.TermText.{IsTermText}
+use Rattle.hm_focal_terms.specs.Limits.{IsOversized}
+use Rattle.hm_schema_lines.specs.declared.token.Token.TheVariants.{Word}
+use Rattle.hm_schema_lines.specs.Tokens.{Spaced}
 use Rattle.hm_focal.specs.declared.own.Own.{Own}
 use Rattle.hm_focal.specs.declared.own.Own.TheVariants.{Nothing, Header, Format, Lens as LensOf, Main}
 use Rattle.hm_focal.specs.declared.own.Body.{Body}

@@ -1,7 +1,7 @@
 -- Which lines may stand next in a lens file, as the reader keeps it.
 use Rattle.std.specs.Prelude.{◌≡◌, ◌<◌, ◌≤◌, Bool, true, false, cond, List, count_by}
-use Rattle.hm_node_lines.specs.Entries.{EntryValue, skipped, unknown, says}
-use Rattle.hm_node_lines.specs.BadLines.{is_counted}
+use Rattle.hm_schema_lines.specs.Entries.{EntryValue, skipped, unknown, says}
+use Rattle.hm_schema_lines.specs.BadLines.{is_counted}
 use Rattle.hm_focal.specs.declared.lines.Stage.{Stage}
 use Rattle.hm_focal.specs.declared.lines.Stage.TheVariants.{Header, Format, Nodes, Lenses, End}
 use Rattle.hm_focal.specs.OwnLines.{OwnValue, nothing, header, format, lens, main, is_main, ends_nodes}

@@ -1,14 +1,14 @@
 -- How a lens file is written: one space between two tokens, names of edges between quotes, and a line feed behind each line.
 use Rattle.std.specs.Prelude.{ℕ, List, [], ◌∷◌, ◌++◌, map, flat_map, codes}
 use Rattle.hm_tree.specs.Names.{Name}
-use Rattle.hm_spelling.specs.Spelling.{spelled}
+use Rattle.hm_tree_spelling.specs.Spelling.{spelled}
 use Rattle.hm_terms.specs.Lenses.{Lens, DefinitionValue}
 use Rattle.hm_terms.specs.Programs.{ProgramValue}
 use Rattle.hm_terms.specs.WellFormedPrograms.{IsLensOf}
-use Rattle.hm_term_text.specs.Limits.{IsOversized}
-use Rattle.hm_term_text.specs.Written.{term_text}
-use Rattle.hm_node_writer.specs.Writing.{line_text}
-use Rattle.hm_node_writer.specs.WrittenNodes.{name_at, nodes_lines}
+use Rattle.hm_focal_terms.specs.Limits.{IsOversized}
+use Rattle.hm_focal_terms.specs.Written.{term_text}
+use Rattle.hm_schema_writer.specs.Writing.{line_text}
+use Rattle.hm_schema_writer.specs.WrittenNodes.{name_at, nodes_lines}
 
 -- ---- lines
 

@@ -3,7 +3,7 @@ ghost use Rattle.std.specs.Prelude.{◌↔◌, IsTrue};
 ghost use Rattle.hm_terms.specs.Programs.{lens_of};
 ghost use Rattle.hm_focal.specs.Judging.{CallsOther};
 
-use hm_node_lines::first_place;
+use hm_schema_lines::first_place;
 use hm_terms::Term;
 use std::collections::BTreeMap;
 use std::string::String;

@@ -6,7 +6,7 @@ ghost use Rattle.hm_focal.specs.OwnLines.{names_value, AreEdges, IsPair, IsOptio
 
 use crate::front::{behind_gap, behind_sign, front_edge, front_word, word_before};
 use crate::own::FormatLine;
-use hm_node_lines::is_word;
+use hm_schema_lines::is_word;
 use hm_tree::{Memory, Name};
 use std::alloc::Global;
 

@@ -1,10 +1,10 @@
 //! What stands at the front of some bytes: words, names of edges, and spaces.
 ghost use Rattle.std.specs.Prelude.{◌≡◌, ◌≢◌, ◌∷◌, IfOk, MatchOption, List, ℕ};
 ghost use Rattle.hm_tree.specs.Names.{Name};
-ghost use Rattle.hm_node_lines.specs.declared.token.Token.TheVariants.{Word};
+ghost use Rattle.hm_schema_lines.specs.declared.token.Token.TheVariants.{Word};
 ghost use Rattle.hm_focal.specs.Front.{IsFrontWord, IsFrontEdge, IsGap, IsWordBefore, IsReadName, IsFirstEdge};
 
-use hm_node_lines::{Token, behind, first_quoted, first_word, gap_length};
+use hm_schema_lines::{Token, behind, first_quoted, first_word, gap_length};
 use hm_tree::{Memory, Name};
 use std::alloc::Global;
 

@@ -6,8 +6,8 @@ ghost use Rattle.hm_focal.specs.OwnLines.{names_value, IsHeaded, IsTrimmed, IsRe
 
 use crate::front::{behind_gap, behind_sign, word_before};
 use crate::own::{Body, LensLine};
-use hm_node_lines::is_word;
-use hm_term_text::{TermRead, read_term};
+use hm_focal_terms::{TermRead, read_term};
+use hm_schema_lines::is_word;
 use hm_tree::{Memory, Name};
 use std::alloc::Global;
 use std::collections::VecDeque;

@@ -1,9 +1,9 @@
 //! The first bad line of a lens file.
 ghost use Rattle.std.specs.Prelude.{◌≡◌, ◌↔◌, ◌<◌, IsTrue, IfOk, MatchOption, length, take, count_by};
-ghost use Rattle.hm_node_lines.specs.Entries.{entry_value, entry_values, unknown};
-ghost use Rattle.hm_node_lines.specs.FirstBad.{HasNoBad, IsFirstBad};
-ghost use Rattle.hm_node_lines.specs.Firsts.{AreFirsts, node_names};
-ghost use Rattle.hm_node_lines.specs.Judging.{IsKnown, lines_of};
+ghost use Rattle.hm_schema_lines.specs.Entries.{entry_value, entry_values, unknown};
+ghost use Rattle.hm_schema_lines.specs.FirstBad.{HasNoBad, IsFirstBad};
+ghost use Rattle.hm_schema_lines.specs.Firsts.{AreFirsts, node_names};
+ghost use Rattle.hm_schema_lines.specs.Judging.{IsKnown, lines_of};
 ghost use Rattle.hm_focal.specs.OwnLines.{body_value, lens_value, own_value, own_values, nothing, is_lens, lens_names};
 ghost use Rattle.hm_focal.specs.BadLines.{IsBadLine};
 ghost use Rattle.hm_focal.specs.Judging.{IsBadBody, IsBadLens, IsBadOwn};
@@ -11,10 +11,10 @@ ghost use Rattle.hm_focal.specs.Judging.{IsBadBody, IsBadLens, IsBadOwn};
 use crate::calls::calls_other;
 use crate::lenses::declared_lenses;
 use crate::own::{Body, LensLine, Own};
-use hm_node_lines::{
+use hm_focal_terms::is_long;
+use hm_schema_lines::{
     Before, Entry, Line, is_bad_line, is_first, is_node, read_section, section_at,
 };
-use hm_term_text::is_long;
 use hm_tree::Memory;
 use std::alloc::Global;
 use std::collections::BTreeMap;

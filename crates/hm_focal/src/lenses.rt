@@ -1,10 +1,10 @@
 //! The names of the lenses of a file.
 ghost use Rattle.std.specs.Prelude.{◌≡◌, IfOk, option_copied};
-ghost use Rattle.hm_node_lines.specs.Firsts.{AreFirsts};
+ghost use Rattle.hm_schema_lines.specs.Firsts.{AreFirsts};
 ghost use Rattle.hm_focal.specs.OwnLines.{own_value, own_values, name_in, lens_names};
 
 use crate::own::Own;
-use hm_node_lines::keep_first;
+use hm_schema_lines::keep_first;
 use hm_tree::{Memory, Name};
 use std::alloc::Global;
 use std::collections::BTreeMap;

@@ -1,14 +1,14 @@
 //! The lines of a lens file, each in its place.
 ghost use Rattle.std.specs.Prelude.{◌≡◌, IfOk};
-ghost use Rattle.hm_node_lines.specs.Entries.{entry_value, entry_values, texts_of};
-ghost use Rattle.hm_node_lines.specs.BadLines.{is_counted};
+ghost use Rattle.hm_schema_lines.specs.Entries.{entry_value, entry_values, texts_of};
+ghost use Rattle.hm_schema_lines.specs.BadLines.{is_counted};
 ghost use Rattle.hm_focal.specs.OwnLines.{own_value, own_values};
 ghost use Rattle.hm_focal.specs.Lines.{AreLines};
 ghost use Rattle.hm_focal.specs.Stages.{takes_nodes, takes_lenses, takes_own, placed_entry, placed_own, next_stage};
 
 use crate::own::{Own, read_own};
 use bstr::ByteSlice;
-use hm_node_lines::{Entry, is_counted, read_entry};
+use hm_schema_lines::{Entry, is_counted, read_entry};
 use hm_tree::Memory;
 use std::alloc::Global;
 

@@ -1,11 +1,11 @@
 //! The lines of a lens file that aren't of nodes.
 ghost use Rattle.std.specs.Prelude.{◌≡◌, ◌↔◌, ◌∷◌, [], Some, slice_get, IsTrue, IfOk, codes};
-ghost use Rattle.hm_node_lines.specs.declared.token.Token.TheVariants.{Word};
+ghost use Rattle.hm_schema_lines.specs.declared.token.Token.TheVariants.{Word};
 ghost use Rattle.hm_focal.specs.OwnLines.{own_value, IsHeader, IsReadOwn};
 
 use crate::format::read_format;
 use crate::head::{read_lens_line, read_main_line};
-use hm_node_lines::{Token, is_word, lone_word, read_tokens};
+use hm_schema_lines::{Token, is_word, lone_word, read_tokens};
 use hm_terms::Term;
 use hm_tree::{Memory, Name};
 use std::alloc::Global;

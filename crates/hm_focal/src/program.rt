@@ -1,11 +1,11 @@
 //! The program that the lines of a lens file describe.
 ghost use Rattle.std.specs.Prelude.{◌≡◌, ◌⊎◌, ◌++◌, [], Some, None, IfOk, MatchOption, OnOk, length, map};
 ghost use Rattle.std.specs.List.{cons_option};
-ghost use Rattle.hm_node_lines.specs.Entries.{entry_value, entry_values};
-ghost use Rattle.hm_node_lines.specs.FirstBad.{HasNoBad};
-ghost use Rattle.hm_node_lines.specs.Firsts.{AreFirsts, node_names, begun_name};
-ghost use Rattle.hm_node_lines.specs.BadLines.{IsNode};
-ghost use Rattle.hm_node_lines.specs.Nodes.{AreTypeNames};
+ghost use Rattle.hm_schema_lines.specs.Entries.{entry_value, entry_values};
+ghost use Rattle.hm_schema_lines.specs.FirstBad.{HasNoBad};
+ghost use Rattle.hm_schema_lines.specs.Firsts.{AreFirsts, node_names, begun_name};
+ghost use Rattle.hm_schema_lines.specs.BadLines.{IsNode};
+ghost use Rattle.hm_schema_lines.specs.Nodes.{AreTypeNames};
 ghost use Rattle.hm_terms.specs.Programs.{definition_value};
 ghost use Rattle.hm_focal.specs.OwnLines.{lens_value, own_value, own_values, nodes_in, named_nodes};
 ghost use Rattle.hm_focal.specs.BadLines.{IsBadLine};
@@ -13,7 +13,7 @@ ghost use Rattle.hm_focal.specs.LensFiles.{IsDefinitionOf};
 ghost use Rattle.hm_focal.specs.Building.{IsBuiltDefinition, AreNamed, IsTaken, AreBuilt};
 
 use crate::own::{Body, FormatLine, LensLine, Own};
-use hm_node_lines::{Entry, begun, is_empty_named, node_of};
+use hm_schema_lines::{Entry, begun, is_empty_named, node_of};
 use hm_terms::{Definition, Term};
 use hm_tree::{Memory, Name};
 use std::alloc::Global;

@@ -10,8 +10,8 @@ use crate::fault::LensFault;
 use crate::judge::first_bad;
 use crate::lines::read_lines;
 use crate::program::{build_parts, named_nodes, type_names};
-use hm_node_lines::{build_nodes, declared_nodes};
 use hm_schema::Options;
+use hm_schema_lines::{build_nodes, declared_nodes};
 use hm_terms::Program;
 use std::alloc::Global;
 

@@ -1,19 +1,19 @@
 //! Lens files, written.
 ghost use Rattle.std.specs.Prelude.{◌≡◌, ◌++◌, ◌∷◌, ◌<◌, All, List, ℕ, IfOk, OnOk, codes, flat_map, length, map};
-ghost use Rattle.hm_spelling.specs.Spelling.{spelled};
+ghost use Rattle.hm_tree_spelling.specs.Spelling.{spelled};
 ghost use Rattle.hm_schema.specs.Values.{pair_value};
 ghost use Rattle.hm_terms.specs.Programs.{definition_value, program_value};
-ghost use Rattle.hm_term_text.specs.Written.{term_text};
-ghost use Rattle.hm_node_writer.specs.WrittenNodes.{name_at};
+ghost use Rattle.hm_focal_terms.specs.Written.{term_text};
+ghost use Rattle.hm_schema_writer.specs.WrittenNodes.{name_at};
 ghost use Rattle.hm_focal.specs.LensFiles.{IsLensFile};
 ghost use Rattle.hm_focal.specs.Writing.{edges_text, option_text, format_text, definition_text, ended, lens_text, HasSmallTexts};
 
-use hm_node_writer::append_nodes;
+use hm_focal_terms::append_term;
 use hm_schema::NodeId;
-use hm_spelling::append_spelled;
-use hm_term_text::append_term;
+use hm_schema_writer::append_nodes;
 use hm_terms::{Definition, Program};
 use hm_tree::{Memory, Name};
+use hm_tree_spelling::append_spelled;
 
 // Names of edges, each behind a comma.
 fn put_more_edges(text: &mut Vec<u8>, names: &[Name]) -> Result<(), Memory>

@@ -2,9 +2,7 @@
 use Rattle.std.proofs.Common.{◌≡◌, ℕ, suc, ◌<◌, Bool, true, false, not, cond, ◌&&◌, ◌||◌, IsTrue, List, [], ◌∷◌, ◌++◌, length, unwrap_or, Option, Some, None, Ok, refl, sym, ap, ◌∙◌, arith}
 use Rattle.std.specs.List.{find, list_all, list_any}
 use Rattle.std.specs.Option.{option_map, option_or}
-use Rattle.std.specs.declared.cmp.Ordering.{Ordering}
-use Rattle.std.specs.declared.cmp.Ordering.TheVariants.{Less, Equal, Greater}
-use Rattle.std.specs.Ordering.{eq_by_cmp, is_eq}
+use Rattle.std.specs.Ordering.{eq_by_cmp}
 use Rattle.std.proofs.lemmas.Bool.Decides.{nat_tests}
 use Rattle.std.specs.FinMap as map
 use Rattle.std.specs.FinSet.{contains-from_list}
@@ -12,11 +10,7 @@ use Rattle.hm_tree.specs.Names.{Name, name_cmp}
 use Rattle.hm_tree.proofs.Sorted.{name_total, name_one}
 use Rattle.hm_schema.specs.Values.{OptionsValue, SchemaValue}
 use Rattle.hm_format.specs.Options.{Rule, Rules, Pairs, is_among, has_double, exceeds, values_of, breaks, is_bad, first_bad, is_missing, bad_key, accepted, place_of}
-
-pub equal : (o : Ordering) → is_eq o ≡ true → o ≡ Equal
-equal Less e = let no : ⊥ = cc in absurd no
-equal Equal e = refl
-equal Greater e = let no : ⊥ = cc in absurd no
+use Rattle.hm_facts.proofs.Orderings.{equal}
 
 pub neither : (a b : Bool) → (a || b) ≡ false → (a ≡ false) × (b ≡ false)
 neither true b e = let no : ⊥ = cc in absurd no

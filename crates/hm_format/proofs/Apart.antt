@@ -13,7 +13,8 @@ use Rattle.hm_tree.specs.Names.{Name, name_cmp}
 use Rattle.hm_tree.proofs.Sorted.{name_total, name_one}
 use Rattle.hm_schema.specs.Values.{OptionsValue}
 use Rattle.hm_format.specs.Options.{Rule, Rules, Pairs, AreSound, is_among, has_double, exceeds, all_values, values_of, breaks, is_bad, first_bad, bad_key}
-use Rattle.hm_format.proofs.Accepted.{equal, neither, not_false, first_none}
+use Rattle.hm_format.proofs.Accepted.{neither, not_false, first_none}
+use Rattle.hm_facts.proofs.Orderings.{equal}
 
 -- a name stands among others
 abbrev pub stands : Name → List Name → Bool

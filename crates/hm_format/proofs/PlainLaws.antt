@@ -17,7 +17,8 @@ use Rattle.hm_schema.specs.Membership.{IsOutside, IsFirstOutside, HasNoTwins}
 use Rattle.hm_format.specs.declared.fault.FormatFault.{FormatFault}
 use Rattle.hm_format.specs.declared.fault.FormatFault.TheVariants.{BadOption, NotUtf8, BadItem, NoKey, TooDeep, Outside, Memory}
 use Rattle.hm_format.specs.Options.{AreSound, bad_key}
-use Rattle.hm_format.specs.Formats.{IsLawful, IsMemberTree, IsReadFault, HasSchema}
+use Rattle.hm_format.specs.Formats.{IsLawful, IsReadFault, HasSchema}
+use Rattle.hm_schema.specs.Membership.{IsMemberTree}
 use Rattle.hm_format.proofs.Limits.{shallow, not_over}
 use Rattle.hm_format.proofs.Accepted.{schema_given, no_bad_key}
 use Rattle.hm_format.specs.Plain.{IsOutsideText, PlainReads, plain, plain_rules, plain_schema}

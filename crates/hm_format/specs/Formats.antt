@@ -2,9 +2,8 @@
 use Rattle.std.specs.Prelude.{◌≡◌, ℕ, nat_lt, cond, List, Option, Some, None, Result, Ok, Err}
 use Rattle.hm_tree.specs.Names.{Name}
 use Rattle.hm_tree.specs.Nodes.{Tree, depth}
-use Rattle.hm_tree.specs.States.{state}
 use Rattle.hm_schema.specs.Values.{SchemaValue, OptionsValue}
-use Rattle.hm_schema.specs.Membership.{IsMember, HasNoTwins}
+use Rattle.hm_schema.specs.Membership.{HasNoTwins, IsMemberTree}
 use Rattle.hm_format.specs.declared.fault.FormatFault.{FormatFault}
 use Rattle.hm_format.specs.declared.fault.FormatFault.TheVariants.{BadOption, NotUtf8, BadItem, NoKey, TooDeep, Outside, Memory}
 use Rattle.hm_format.specs.Options.{AreSound}
@@ -32,9 +31,6 @@ pub record FormatMeaning : Type 1 where
 -- options are those of a format, and this is their schema
 abbrev pub HasSchema : FormatMeaning → OptionsValue → SchemaValue → Type 0
 HasSchema m o s = m.schema_of o ≡ Ok s
-
-abbrev pub IsMemberTree : SchemaValue → Tree → Type 0
-IsMemberTree s t = IsMember s s.root (state (Some t))
 
 -- sound options that are those of a format
 pub record MayRead (m : FormatMeaning) (o : OptionsValue) : Type 0 where

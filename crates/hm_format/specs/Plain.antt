@@ -13,7 +13,8 @@ use Rattle.hm_schema.specs.Membership.{IsFirstOutside}
 use Rattle.hm_format.specs.declared.fault.FormatFault.{FormatFault}
 use Rattle.hm_format.specs.declared.fault.FormatFault.TheVariants.{BadOption, NotUtf8, BadItem, NoKey, TooDeep, Outside, Memory}
 use Rattle.hm_format.specs.Options.{Rules, AreSound, accepted, bad_key, values_of, place_of}
-use Rattle.hm_format.specs.Formats.{FormatMeaning, IsMemberTree, depth_over}
+use Rattle.hm_format.specs.Formats.{FormatMeaning, depth_over}
+use Rattle.hm_schema.specs.Membership.{IsMemberTree}
 
 -- ---- the options: one node that the lens file declares
 

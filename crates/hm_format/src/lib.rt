@@ -4,9 +4,17 @@
 //! takes and the schema of its trees under these, what bytes are read as, and which bytes are written of a tree behind
 //! those from before. Its laws are those of a lens between files and trees (TOPLAS 2007, section 3): what is written is
 //! read as the tree, and where the tree is the one that was read the bytes stay. Options are judged by a table of the
-//! keys that a format has (`specs/Options`).
+//! keys that a format has (`keys`, `specs/Options`). A format has no state: what it has read of a file it doesn't know
+//! when the file is written. It knows no lenses.
 //!
 //! `Plain` is the format of files that are the text of a tree (`hm_tree_text`), which hide nothing.
+//!
+//! Proved: each object of the trait meets its laws (`specs/Formats`): bytes are read as one tree or refused for one
+//! fault, what is read is a member of the schema of the options, what is written is read as the tree, keeps what trees
+//! don't show, and is the bytes from before where these are read as the tree. `first_bad_key` gives the first key for
+//! which options aren't those of a format with a table of keys, or none where they are (`specs/Options`). Of `Plain`
+//! the first byte that isn't UTF-8, the fault of `read_tree`, or the first path whose names aren't permitted is told
+//! exactly (`specs/Plain`).
 #![tactic(auto)]
 
 mod fault;

@@ -8,13 +8,11 @@ use crate::fault::FormatFault;
 use crate::format::Format;
 use crate::keys::{Key, first_bad_key, same_text, values_of};
 use hm_schema::{NodeId, Options, Schema, copy_nodes};
-use hm_tree::{Memory, Name, Tree};
+use hm_tree::{DEEPEST, Memory, Name, Tree};
 use hm_tree_text::{TextFault, read_tree, write_tree};
 use std::alloc::Global;
 
-// How deep a tree may be, and how deep one is told to be that is too deep to be read.
-const DEEPEST: usize = 1000;
-
+// How deep a tree is told to be that is too deep to be read.
 const TOO_DEEP: usize = 1001;
 
 // The one key: the node of the root.

@@ -1,8 +1,8 @@
 //! Items with an empty key, as no format has them.
 use crate::setting::{expect, names_of};
-use hm_item_trees::item_tree;
-use hm_parts::value;
+use hm_book_items::item_tree;
 use hm_tree::{Name, Path};
+use hm_tree_parts::value;
 use std::test::Fail;
 
 #[test]

@@ -5,7 +5,7 @@ use Rattle.std.specs.List.{AllZip}
 use Rattle.std.proofs.lemmas.Option.{same_Some}
 use Rattle.std.proofs.lemmas.List.Elements.{length_all_zip}
 use Rattle.hm_graph.specs.declared.sameness.Vertex.{Vertex}
-use Rattle.hm_graph.specs.Same.{Graph, label_at, next_at, edges_of, face, reached, seen_along, Match, AreSame, AreAlike}
+use Rattle.hm_graph.specs.Same.{Graph, label_at, next_at, edges_of, face, reached, seen_along, Match, AreBisimilar, AreAlike}
 use Rattle.hm_graph.specs.Forests.{up, Climbs}
 use Rattle.hm_graph.specs.Forests.Climbs.{here, above}
 
@@ -81,5 +81,5 @@ module _ (g : Graph) where
   paired_along paired closed (k ∷ way) i j t =
       edges_see (λ c d. IsTrue (paired c d)) way (paired_along paired closed way) (next_at g i) (next_at g j) (closed i j t).next k
 
-  pub same_alike : (i j : ℕ) → AreSame g i j → AreAlike g i j
+  pub same_alike : (i j : ℕ) → AreBisimilar g i j → AreAlike g i j
   same_alike i j s = record { along = λ way. paired_along s.paired s.closed way i j s.here }

@@ -4,7 +4,7 @@ use Rattle.std.specs.List.{zip}
 use Rattle.std.proofs.lemmas.Bool.{cases_eq, cases_lt}
 use Rattle.std.proofs.lemmas.List.Elements.{All-head}
 use Rattle.std.proofs.lemmas.Option.{same_Some}
-use Rattle.hm_graph.specs.Same.{Graph, IsClosed, label_at, next_at, AreSame, AreAlike}
+use Rattle.hm_graph.specs.Same.{Graph, IsClosed, label_at, next_at, AreBisimilar, AreAlike}
 use Rattle.hm_graph.specs.Forests.{up, Climbs, AreRoots}
 use Rattle.hm_graph.specs.Forests.Climbs.{here, above}
 use Rattle.hm_graph.proofs.Pairs.{all_right}
@@ -88,7 +88,7 @@ own_parents_at k (v ∷ vs) (suc i) d e = own_parents_at (suc k) vs i d (omega a
 
 module _ (g : Graph) (i j : ℕ) (closed : IsClosed g) (one : i < length g) (two : j < length g) where
   abbrev Found : Type 0
-  Found = AreSame g i j ⊎ ¬ (AreAlike g i j)
+  Found = AreBisimilar g i j ⊎ ¬ (AreAlike g i j)
 
   abbrev FoundWithin : ℕ → Type 0
   FoundWithin n = (parents : List ℕ) (todo : List (ℕ × ℕ)) → IsSearch g i j parents todo → length todo + owed 0 parents g < n → Found
@@ -131,5 +131,5 @@ module _ (g : Graph) (i j : ℕ) (closed : IsClosed g) (one : i < length g) (two
       (search_begins g i j parents (own_parents_long 0 g) (λ a. own_parents_at 0 g a a (sym (zero-add a))) one two) (omega arith)
 
   -- what is alike is the same
-  pub alike_same : AreAlike g i j → AreSame g i j
+  pub alike_same : AreAlike g i j → AreBisimilar g i j
   alike_same h = elim alike_found [ inl s ↦ s | inr n ↦ absurd (n h) ]

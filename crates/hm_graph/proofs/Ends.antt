@@ -4,7 +4,7 @@ use Rattle.std.specs.List.{AllZip}
 use Rattle.std.proofs.lemmas.Bool.{and_parts, and_from, ltb-true, lt-ltb}
 use Rattle.std.proofs.lemmas.Bool.Decides.{Decides-eqb}
 use Rattle.std.proofs.lemmas.List.Elements.{All-nil}
-use Rattle.hm_graph.specs.Same.{Graph, IsClosed, label_at, next_at, Match, AreSame}
+use Rattle.hm_graph.specs.Same.{Graph, IsClosed, label_at, next_at, Match, AreBisimilar}
 use Rattle.hm_graph.specs.Forests.{up}
 use Rattle.hm_graph.proofs.Pairs.{zip_refl, zip_sym, zip_trans, zip_inside}
 use Rattle.hm_graph.proofs.Forests.{climb, climb_respects, along}
@@ -28,7 +28,7 @@ along_zip g parents f h (suc n) a =
     (along_zip g parents f h n (up parents a))
 
 pub search_ends : (g : Graph) (i j : ℕ) (parents : List ℕ) → IsClosed g → i < length g → j < length g → IsSearch g i j parents []
-    → AreSame g i j
+    → AreBisimilar g i j
 search_ends g i j parents closed one two h = record {
   paired = have_one_root g parents;
   closed = pairs;

@@ -1,7 +1,7 @@
 pub mod Pairs
 pub mod Alike
 mod Forests
-mod Search
+pub mod Search
 mod Ends
 mod Owed
 mod Shortened

@@ -29,8 +29,8 @@ pub record Match (g : Graph) (R : ℕ → ℕ → Type 0) (i j : ℕ) : Type 0 w
   pub label : label_at g i ≡ label_at g j
   pub next : AllZip R (next_at g i) (next_at g j)
 
--- two vertices are the same: some pairing holds them, and what it pairs matches
-pub record AreSame (g : Graph) (i j : ℕ) : Type 0 where
+-- two vertices are bisimilar: some pairing holds them, and what it pairs matches
+pub record AreBisimilar (g : Graph) (i j : ℕ) : Type 0 where
   pub paired : ℕ → ℕ → Bool
   pub closed : (a b : ℕ) → IsTrue (paired a b) → Match g (λ c d. IsTrue (paired c d)) a b
   pub here : IsTrue (paired i j)

@@ -1,6 +1,6 @@
 //! Whether two vertices of a graph are the same.
 ghost use Rattle.std.specs.Prelude.{◌≡◌, ◌↔◌, ◌<◌, ◌≤◌, ◌++◌, ℕ, IsTrue, IfOk, OnOk, length, zip};
-ghost use Rattle.hm_graph.specs.Same.{AreSame, AreAlike, IsClosed};
+ghost use Rattle.hm_graph.specs.Same.{AreBisimilar, AreAlike, IsClosed};
 ghost use Rattle.hm_graph.specs.Forests.{up, Climbs, IsShortened, AreRoots};
 
 use hm_tree::Memory;
@@ -22,7 +22,7 @@ pub fn same(alloc: Global, graph: &[Vertex], one: usize, two: usize) -> Result<b
     requires closed { IsClosed graph.now }
     requires one { one < length graph.now }
     requires two { two < length graph.now }
-    ensures same { IfOk result (λ yes. IsTrue yes ↔ AreSame graph.now one two) }
+    ensures same { IfOk result (λ yes. IsTrue yes ↔ AreBisimilar graph.now one two) }
     ensures alike { IfOk result (λ yes. IsTrue yes ↔ AreAlike graph.now one two) }
 {
     let mut parents = itself(alloc, graph.len())?;

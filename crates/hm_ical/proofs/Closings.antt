@@ -2,9 +2,9 @@
 use Rattle.std.proofs.Common.{Bool, true, false, codes, List, [], ◌∷◌, ◌++◌, Some, None, refl}
 use Rattle.hm_lines.specs.declared.content.LineParts.{LineParts}
 use Rattle.hm_lines.proofs.Laws.{new_line}
-use Rattle.hm_cards.specs.Cards.{Shown}
-use Rattle.hm_properties.specs.Lines.{Line}
-use Rattle.hm_components.specs.Components.{Bytes, Piece, other, item}
+use Rattle.hm_book_cards.specs.Cards.{Shown}
+use Rattle.hm_lines_cards.specs.Lines.{Line}
+use Rattle.hm_lines_files.specs.Components.{Bytes, Piece, other, item}
 use Rattle.hm_ical.specs.Lines.{end_front, IsProperty}
 use Rattle.hm_ical.specs.Events.{other_line}
 use Rattle.hm_ical.specs.Scanning.{Place, before, behind, calendar, event, component, Runs}

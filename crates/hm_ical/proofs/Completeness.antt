@@ -6,11 +6,11 @@ use Rattle.std.proofs.lemmas.Bool.{false_from_ne_true}
 use Rattle.std.proofs.lemmas.List.{append_assoc, append-nil, map-append, length-append}
 use Rattle.std.proofs.lemmas.List.Elements.{filter_map-append}
 use Rattle.hm_lines.specs.declared.content.LineParts.{LineParts}
-use Rattle.hm_cards.specs.Cards.{Shown}
-use Rattle.hm_properties.specs.Lines.{Line, AreFew, is_second, text_shown, texts_of}
-use Rattle.hm_properties.specs.Lent.{plain}
-use Rattle.hm_properties.proofs.Laws.{many_then}
-use Rattle.hm_components.specs.Components.{Bytes, Component, Piece, other, item, piece_lines, lines_of, Layout, all_lines}
+use Rattle.hm_book_cards.specs.Cards.{Shown}
+use Rattle.hm_lines_cards.specs.Lines.{Line, AreFew, is_second, text_shown, texts_of}
+use Rattle.hm_lines_cards.specs.Lent.{plain}
+use Rattle.hm_lines_cards.proofs.Laws.{many_then}
+use Rattle.hm_lines_files.specs.Components.{Bytes, Component, Piece, other, item, piece_lines, lines_of, Layout, all_lines}
 use Rattle.hm_ical.specs.Lines.{is_same, is_version, IsBegin, IsEnd, IsProperty, AreInside, nothing, property, component, AreComponent}
 use Rattle.hm_ical.specs.Events.{event_name, other_line, singles, AreOwn, IsEvent}
 use Rattle.hm_ical.specs.Events as own

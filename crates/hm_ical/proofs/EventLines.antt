@@ -3,12 +3,12 @@ use Rattle.std.proofs.Common.{◌≡◌, Bool, List, [], ◌∷◌, get_or, map,
 use Rattle.std.specs.Prelude.{All}
 use Rattle.std.proofs.lemmas.List.{length-map, get_or-map}
 use Rattle.std.proofs.lemmas.List.Elements.{All-nil, All-cons, All-append}
-use Rattle.hm_cards.specs.Cards.{Shown}
-use Rattle.hm_properties.specs.Lines.{Line, IsLine}
-use Rattle.hm_components.specs.Components.{Bytes, Component, Piece, other, item}
-use Rattle.hm_components.specs.declared.component.Piece.{Piece as LentPiece}
-use Rattle.hm_components.specs.declared.component.Piece.TheVariants as lent_piece
-use Rattle.hm_components.specs.Lent.{piece_of, pieces_of, HasLines, HaveLines}
+use Rattle.hm_book_cards.specs.Cards.{Shown}
+use Rattle.hm_lines_cards.specs.Lines.{Line, IsLine}
+use Rattle.hm_lines_files.specs.Components.{Bytes, Component, Piece, other, item}
+use Rattle.hm_lines_files.specs.declared.component.Piece.{Piece as LentPiece}
+use Rattle.hm_lines_files.specs.declared.component.Piece.TheVariants as lent_piece
+use Rattle.hm_lines_files.specs.Lent.{piece_of, pieces_of, HasLines, HaveLines}
 use Rattle.hm_ical.specs.Events.{other_line, AreOwn, nothing, property, component, IsEvent}
 use Rattle.hm_ical.specs.Calendars.{IsBody, IsCalendar}
 use Rattle.hm_ical.specs.Calendars as body

@@ -1,16 +1,16 @@
 -- What lines begin with, without regard to case.
-use Rattle.std.proofs.Common.{◌≡◌, ℕ, ◌+◌, ◌≤◌, ◌⊎◌, inl, inr, Bool, true, false, cond, [], ◌∷◌, ◌++◌, length, get_or, take, drop, map, refl, sym, ap, ◌∙◌, subst, arith}
-use Rattle.std.specs.Bool.{nat_lt}
+use Rattle.std.proofs.Common.{◌≡◌, ℕ, ◌+◌, Bool, true, false, [], ◌∷◌, ◌++◌, length, get_or, take, drop, map, refl, sym, ap, ◌∙◌, subst, arith}
 use Rattle.std.specs.Char.{to_ascii_lowercase}
 use Rattle.std.specs.Str.{IsUtf8, IsCharBoundary}
-use Rattle.std.proofs.lemmas.Bool.{cases_lt, lt-ltb, le-ltb, eqb-true, both_ways}
+use Rattle.std.proofs.lemmas.Bool.{eqb-true, both_ways}
 use Rattle.std.proofs.lemmas.List.{take-append-drop, length-append, length-map, map-append, take-map, take_at, drop_at, drop-map, get_or_at}
 use Rattle.std.proofs.lemmas.Slice.Eq.{bytes_eq-Decides}
 use Rattle.std.proofs.lemmas.Str.{IsCharBoundary-after_ascii}
 use Rattle.hm_lines.specs.Content.{colon}
-use Rattle.hm_components.specs.Components.{Bytes}
+use Rattle.hm_lines_files.specs.Components.{Bytes}
 use Rattle.hm_ical.specs.Lines.{is_same}
 use Rattle.hm_ical.specs.Scanning.{ends_in_colon}
+use Rattle.hm_lines.proofs.LowerCase.{colon_like}
 
 abbrev pub lower : Bytes → Bytes
 lower bytes = map to_ascii_lowercase bytes
@@ -80,22 +80,6 @@ module _ (line front : Bytes) where
         ∙ drop_at (lower front) (lower rest) (length front) long)
 
 -- ---- a colon
-
--- a byte that is lowered to another is it, or a capital
-like : (b x : ℕ) → to_ascii_lowercase b ≡ x → (b ≡ x) ⊎ ((b + 32 ≡ x) × (65 ≤ b))
-like b x e = elim (cases_lt b 65) [
-  | inl low ↦ inl (sym (ap (λ t. cond t b (cond (nat_lt b 91) (b + 32) b)) (lt-ltb b 65 low)) ∙ e)
-  | inr le ↦ elim (cases_lt b 91) [
-    | inl upper ↦ inr (sym (ap (λ t. cond t b (cond (nat_lt b 91) (b + 32) b)) (le-ltb b 65 le) ∙ ap (λ t. cond t (b + 32) b) (lt-ltb b 91 upper)) ∙ e, le)
-    | inr high ↦ inl (sym (ap (λ t. cond t b (cond (nat_lt b 91) (b + 32) b)) (le-ltb b 65 le) ∙ ap (λ t. cond t (b + 32) b) (le-ltb b 91 high)) ∙ e)
-  ]
-]
-
-pub colon_like : (b : ℕ) → to_ascii_lowercase b ≡ colon → b ≡ colon
-colon_like b e = elim (like b colon e) [
-  | inl same ↦ same
-  | inr other ↦ let one = other.0 in let two = other.1 in absurd (omega (arith, one, two))
-]
 
 -- a front that ends in a colon has it in the line too
 colon_there : (front line rest : Bytes) → ends_in_colon front ≡ true → lower line ≡ lower front ++ rest

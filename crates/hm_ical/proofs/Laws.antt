@@ -13,19 +13,19 @@ use Rattle.hm_schema.specs.Values.{OptionsValue}
 use Rattle.hm_lines.specs.Content.{IsWord}
 use Rattle.hm_lines.specs.Folding.{IsPlain}
 use Rattle.hm_lines.proofs.Laws.{new_line}
-use Rattle.hm_cards.specs.Cards.{Shown, IsCard}
-use Rattle.hm_properties.specs.Lines.{Line, IsCapital, AreProperties, IsLine, AreFew, is_of, text_in, text_shown, texts_of}
-use Rattle.hm_properties.specs.Rewriting.{new_line as new_property, rewritten, rewritten_from, lines_for}
-use Rattle.hm_properties.proofs.Laws.{rewritten_few, key_stays}
+use Rattle.hm_book_cards.specs.Cards.{Shown, IsCard}
+use Rattle.hm_lines_cards.specs.Lines.{Line, IsCapital, AreProperties, IsLine, AreFew, is_of, text_in, text_shown, texts_of}
+use Rattle.hm_lines_cards.specs.Rewriting.{new_line as new_property, rewritten, rewritten_from, lines_for}
+use Rattle.hm_lines_cards.proofs.Laws.{rewritten_few, key_stays}
 use Rattle.hm_format.specs.Options.{values_of, is_among}
-use Rattle.hm_components.specs.Components.{Bytes, Component, Piece, Layout, all_lines, piece_lines, components_of}
-use Rattle.hm_components.specs.Rewriting.{blank, showing}
-use Rattle.hm_components.specs.Forms.{shown_by}
-use Rattle.hm_components.specs.FormLaws.{IsForm}
-use Rattle.hm_components.proofs.KnownNames.{word, capital, all_apart, sound_line}
+use Rattle.hm_lines_files.specs.Components.{Bytes, Component, Piece, Layout, all_lines, piece_lines, components_of}
+use Rattle.hm_lines_files.specs.Rewriting.{blank, showing}
+use Rattle.hm_lines_files.specs.Forms.{shown_by}
+use Rattle.hm_lines_files.specs.FormLaws.{IsForm}
+use Rattle.hm_lines_files.proofs.KnownNames.{word, capital, all_apart, sound_line}
 use Rattle.hm_ical.specs.Lines.{is_same}
 use Rattle.hm_ical.specs.Events.{key_name, other_line, singles, IsEvent}
-use Rattle.hm_ical.specs.Calendars.{properties, stamp_line, event_kind, ical, IsCalendar}
+use Rattle.hm_ical.specs.Calendars.{properties, stamp_line, event_template, ical, IsCalendar}
 use Rattle.hm_ical.specs.Scanning.{Runs, before, behind}
 use Rattle.hm_ical.proofs.Runs.{runs_once}
 use Rattle.hm_ical.proofs.Completeness.{calendar_runs}
@@ -33,7 +33,7 @@ use Rattle.hm_ical.proofs.EventLines.{event_are_lines}
 use Rattle.hm_ical.proofs.LineTexts.{lines_full, lines_no_blank}
 use Rattle.hm_ical.proofs.OwnAgain.{IsOwn, own_from, IsFree, new_of, new_own, other_stays, own_rewritten}
 use Rattle.hm_ical.proofs.Renewals.{body_events, calendar_renewed}
-use Rattle.hm_components.proofs.ShownProperties.{shown_properties}
+use Rattle.hm_lines_files.proofs.ShownProperties.{shown_properties}
 
 -- ---- the properties
 
@@ -109,7 +109,7 @@ new_few k ps all i d lt e =
     let none = ap length shown in
     omega (arith, none)
 
-new_event : (s : Shown) → All IsApart s → (k : Name) → IsEvent s (blank event_kind k)
+new_event : (s : Shown) → All IsApart s → (k : Name) → IsEvent s (blank event_template k)
 new_event s all k = record {
   begin = codes "BEGIN:VEVENT";
   own = new_lines k;

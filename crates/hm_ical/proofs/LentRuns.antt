@@ -1,30 +1,24 @@
 -- Lines one after another, as the code goes over them.
-use Rattle.std.proofs.Common.{◌≡◌, ◌≢◌, ℕ, false, ◌+◌, ◌-◌, ◌<◌, ◌≤◌, List, [], ◌∷◌, ◌++◌, length, get_or, take, drop, Option, Some, None, Result, Ok, Err, sym, ap, ◌∙◌, subst, arith}
-use Rattle.std.specs.Prelude.{option_to_list, IfErr, IsErrAnd}
+use Rattle.std.proofs.Common.{◌≡◌, ◌≢◌, ℕ, false, ◌+◌, ◌-◌, ◌<◌, ◌≤◌, List, [], ◌∷◌, ◌++◌, length, get_or, take, drop, Option, Some, None, sym, ap, ◌∙◌, subst, arith}
+use Rattle.std.specs.Prelude.{option_to_list}
 use Rattle.std.specs.Option.{option_map}
 use Rattle.std.specs.Borrow.{Bor}
 use Rattle.std.specs.List.{flat_map}
 use Rattle.std.proofs.lemmas.List.{length-append, length-map, map-append, take_more, take_all, drop_at, drop-map, get_or-map}
 use Rattle.std.proofs.lemmas.Option.{slice_get_within}
 use Rattle.hm_schema.specs.Values.{OptionsValue}
-use Rattle.hm_cards.specs.Cards.{Shown}
-use Rattle.hm_components.specs.Components.{Bytes, Piece, piece_lines}
-use Rattle.hm_components.specs.Forms.{shown_of}
-use Rattle.hm_components.specs.Stops.{AreOf}
-use Rattle.hm_components.specs.declared.component.Piece.{Piece as LentPiece}
-use Rattle.hm_components.specs.declared.stop.Stop.{Stop}
-use Rattle.hm_components.specs.Lent.{texts, piece_of, pieces_of, HaveLines}
+use Rattle.hm_book_cards.specs.Cards.{Shown}
+use Rattle.hm_lines_files.specs.Components.{Bytes, Piece, piece_lines}
+use Rattle.hm_lines_files.specs.Forms.{shown_of}
+use Rattle.hm_lines_files.specs.Stops.{AreOf}
+use Rattle.hm_lines_files.specs.declared.component.Piece.{Piece as LentPiece}
+use Rattle.hm_lines_files.specs.Lent.{texts, piece_of, pieces_of, HaveLines}
 use Rattle.hm_ical.specs.Events.{singles}
 use Rattle.hm_ical.specs.Calendars.{IsCalendar, ical}
 use Rattle.hm_ical.specs.Scanning.{Place, before, behind, Runs, IsStep, IsRefused}
 use Rattle.hm_ical.proofs.Runs.{runs_append, runs_one}
 use Rattle.hm_ical.proofs.Soundness.{runs_calendar}
 use Rattle.hm_ical.proofs.EventLines.{have_lines}
-
--- a stop that is passed on
-pub passed : {X : Type 0} (r : Result X Stop) (s : Stop) (P : Stop → Type 0) → IsErrAnd r (λ e. e ≡ s) → P s → IfErr r P
-passed (Ok x) s P e h = absurd e
-passed (Err f) s P e h = subst P (sym e) h
 
 pub piece_more : (old new : List LentPiece) (o : Option LentPiece) → new ≡ old ++ option_to_list o → pieces_of new ≡ pieces_of old ++ option_to_list (option_map piece_of o)
 piece_more old new None e = ap pieces_of e ∙ map-append piece_of old []

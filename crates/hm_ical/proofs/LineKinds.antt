@@ -10,11 +10,12 @@ use Rattle.std.proofs.lemmas.List.Elements.{All-cons, All-head, All-tail, All-ni
 use Rattle.hm_lines.specs.declared.content.LineParts.{LineParts}
 use Rattle.hm_lines.specs.Content.{colon, is_of_word, IsWord, IsContentLine}
 use Rattle.hm_lines.proofs.Laws.{new_line, parted_once}
-use Rattle.hm_properties.specs.Lines.{is_of}
-use Rattle.hm_components.specs.Components.{Bytes}
+use Rattle.hm_lines_cards.specs.Lines.{is_of}
+use Rattle.hm_lines_files.specs.Components.{Bytes}
 use Rattle.hm_ical.specs.Lines.{is_same, is_bare, is_barred, IsBegin, IsEnd, IsProperty}
 use Rattle.hm_ical.specs.Scanning.{Kind, begin, end, property, IsKind}
-use Rattle.hm_ical.proofs.Fronts.{lower, same_lower, lower_same, colon_like, front_there, rest_dropped, front_taken}
+use Rattle.hm_ical.proofs.Fronts.{lower, same_lower, lower_same, front_there, rest_dropped, front_taken}
+use Rattle.hm_lines.proofs.LowerCase.{colon_like}
 
 -- ---- words without regard to case
 

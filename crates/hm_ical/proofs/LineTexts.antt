@@ -1,28 +1,20 @@
 -- No line of a calendar is empty, and none begins with a blank.
-use Rattle.std.proofs.Common.{◌≡◌, true, false, List, [], ◌∷◌, ◌++◌, length, refl, ap, ◌∙◌, arith}
+use Rattle.std.proofs.Common.{◌≡◌, true, false, List, [], ◌∷◌}
 use Rattle.std.specs.Prelude.{All}
-use Rattle.std.proofs.lemmas.List.{length-append}
 use Rattle.std.proofs.lemmas.List.Elements.{All-nil, All-cons}
 use Rattle.hm_lines.specs.declared.content.LineParts.{LineParts}
-use Rattle.hm_lines.specs.Content.{colon, IsContentLine}
+use Rattle.hm_lines.specs.Content.{IsContentLine}
 use Rattle.hm_lines.specs.Unfolding.{begins_with_blank}
 use Rattle.hm_lines.proofs.Laws.{content_no_blank}
-use Rattle.hm_cards.specs.Cards.{Shown}
-use Rattle.hm_components.specs.Components.{Bytes, Piece, Layout, all_lines}
-use Rattle.hm_components.specs.Forms.{is_full}
+use Rattle.hm_book_cards.specs.Cards.{Shown}
+use Rattle.hm_lines_files.specs.Components.{Bytes, Piece, Layout, all_lines}
+use Rattle.hm_lines_files.specs.Forms.{is_full}
 use Rattle.hm_ical.specs.Events.{singles}
 use Rattle.hm_ical.specs.Calendars.{IsCalendar}
 use Rattle.hm_ical.specs.Scanning.{Kind, begin, end, property, IsKind, Place, before, behind, Runs}
 use Rattle.hm_ical.proofs.LineKinds.{begin_named, end_named}
 use Rattle.hm_ical.proofs.Completeness.{calendar_runs}
-
-content_full : (line : Bytes) (parts : LineParts) → IsContentLine line parts → is_full line ≡ true
-content_full [] parts is =
-    let one = ap length is.bytes ∙ length-append is.group (is.name ++ (is.parameters ++ colon ∷ is.value)) in
-    let two = length-append is.name (is.parameters ++ colon ∷ is.value) in
-    let three = length-append is.parameters (colon ∷ is.value) in
-    absurd (omega (arith, one, two, three))
-content_full (b ∷ line) parts is = refl
+use Rattle.hm_lines_files.proofs.ContentLines.{content_full}
 
 -- a line of a calendar is a content line
 pub record IsContent (line : Bytes) : Type 0 where

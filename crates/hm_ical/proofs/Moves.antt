@@ -3,9 +3,9 @@ use Rattle.std.proofs.Common.{◌≡◌, Bool, true, false, cond, ◌||◌, List
 use Rattle.std.specs.List.{list_any}
 use Rattle.std.proofs.lemmas.Option.{same_Some, none-some}
 use Rattle.hm_lines.specs.declared.content.LineParts.{LineParts}
-use Rattle.hm_cards.specs.Cards.{Shown}
-use Rattle.hm_properties.specs.Lines.{Line, is_second}
-use Rattle.hm_components.specs.Components.{Bytes, other, item}
+use Rattle.hm_book_cards.specs.Cards.{Shown}
+use Rattle.hm_lines_cards.specs.Lines.{Line, is_second}
+use Rattle.hm_lines_files.specs.Components.{Bytes, other, item}
 use Rattle.hm_ical.specs.Lines.{is_same, is_version, begin_front, end_front, IsBegin, IsEnd, IsProperty}
 use Rattle.hm_ical.specs.Events.{event_name, other_line}
 use Rattle.hm_ical.specs.Calendars.{calendar_name}

@@ -9,11 +9,11 @@ use Rattle.hm_tree.specs.Nodes.{Tree}
 use Rattle.hm_lines.specs.declared.content.LineParts.{LineParts}
 use Rattle.hm_lines.specs.Content.{colon, IsWord}
 use Rattle.hm_lines.specs.Values.{escaped}
-use Rattle.hm_cards.specs.Cards.{Shown, texts_at}
-use Rattle.hm_properties.specs.Lines.{Line, is_of, text_shown}
-use Rattle.hm_properties.specs.Rewriting.{Property, stays, if_stays, with_value, is_same as same_text, one_line, first_in, target, line_for, is_at, property_of, line_in, line_at, rewritten_from, new_line, new_texts, lines_for}
-use Rattle.hm_properties.proofs.Laws.{parts_of, made_new, made_is_line, same_property}
-use Rattle.hm_components.specs.Components.{Bytes}
+use Rattle.hm_book_cards.specs.Cards.{Shown, texts_at}
+use Rattle.hm_lines_cards.specs.Lines.{Line, is_of, text_shown}
+use Rattle.hm_lines_cards.specs.Rewriting.{Property, stays, if_stays, with_value, is_same as same_text, one_line, first_in, target, line_for, is_at, property_of, line_in, line_at, rewritten_from, new_line, new_texts, lines_for}
+use Rattle.hm_lines_cards.proofs.Laws.{parts_of, made_new, made_is_line, same_property}
+use Rattle.hm_lines_files.specs.Components.{Bytes}
 use Rattle.hm_ical.specs.Lines.{is_same, is_bare, is_barred, IsProperty}
 use Rattle.hm_ical.specs.Events.{other_line, AreOwn, nothing, property, component}
 

@@ -4,12 +4,12 @@ use Rattle.std.specs.Prelude.{All, Result, Ok, Err, IfOk}
 use Rattle.std.specs.Borrow.{Bor}
 use Rattle.std.proofs.lemmas.List.{length-map, length-reverse, get_or-map}
 use Rattle.hm_lines.specs.declared.content.LineParts.{LineParts}
-use Rattle.hm_cards.specs.Cards.{Shown}
-use Rattle.hm_properties.specs.declared.line.Line.{Line as LentLine}
-use Rattle.hm_properties.specs.Lines.{Line, IsLine}
-use Rattle.hm_properties.specs.Lent.{AreLines, lent, line_of}
-use Rattle.hm_components.specs.Components.{Bytes}
-use Rattle.hm_components.specs.Lent.{texts}
+use Rattle.hm_book_cards.specs.Cards.{Shown}
+use Rattle.hm_lines_cards.specs.declared.line.Line.{Line as LentLine}
+use Rattle.hm_lines_cards.specs.Lines.{Line, IsLine}
+use Rattle.hm_lines_cards.specs.Lent.{AreLines, lent, line_of}
+use Rattle.hm_lines_files.specs.Components.{Bytes}
+use Rattle.hm_lines_files.specs.Lent.{texts}
 use Rattle.hm_ical.specs.Events.{other_line}
 use Rattle.hm_ical.specs.Scanning.{property, event, next, with_line, Step}
 use Rattle.hm_ical.specs.Lent.{names_of, place_of}

@@ -2,9 +2,9 @@
 use Rattle.std.proofs.Common.{◌≡◌, ◌⊎◌, inl, inr, Bool, true, List, [], ◌∷◌, ◌++◌, map, refl, sym, ap, ◌∙◌, subst}
 use Rattle.std.specs.Prelude.{All}
 use Rattle.std.proofs.lemmas.List.Elements.{All-nil, All-cons, All-head, All-tail}
-use Rattle.hm_cards.specs.Cards.{Shown}
-use Rattle.hm_components.specs.Components.{Bytes, Component, Piece, other, item, Layout, components_of}
-use Rattle.hm_components.specs.Renewed.{AreRenewed, behind, stays, goes, exchanged}
+use Rattle.hm_book_cards.specs.Cards.{Shown}
+use Rattle.hm_lines_files.specs.Components.{Bytes, Component, Piece, other, item, Layout, components_of}
+use Rattle.hm_lines_files.specs.Renewed.{AreRenewed, behind, stays, goes, exchanged}
 use Rattle.hm_ical.specs.Events.{IsEvent}
 use Rattle.hm_ical.specs.Calendars.{IsBody, ends, property, component, event, IsCalendar}
 

@@ -4,10 +4,10 @@ use Rattle.std.specs.Prelude.{All}
 use Rattle.std.specs.List.{flat_map}
 use Rattle.std.proofs.lemmas.List.{append_assoc, map-append}
 use Rattle.hm_lines.specs.declared.content.LineParts.{LineParts}
-use Rattle.hm_cards.specs.Cards.{Shown}
-use Rattle.hm_properties.specs.Lines.{Line, IsLine, AreFew}
-use Rattle.hm_properties.specs.Lent.{plain}
-use Rattle.hm_components.specs.Components.{Bytes, Piece, other, item, piece_lines}
+use Rattle.hm_book_cards.specs.Cards.{Shown}
+use Rattle.hm_lines_cards.specs.Lines.{Line, IsLine, AreFew}
+use Rattle.hm_lines_cards.specs.Lent.{plain}
+use Rattle.hm_lines_files.specs.Components.{Bytes, Piece, other, item, piece_lines}
 use Rattle.hm_ical.specs.Lines.{IsBegin, IsEnd, IsProperty, AreInside, nothing, property, component, AreComponent}
 use Rattle.hm_ical.specs.Events.{event_name, other_line, singles, AreOwn}
 use Rattle.hm_ical.specs.Calendars.{calendar_name, IsBody}

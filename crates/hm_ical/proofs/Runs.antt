@@ -3,8 +3,8 @@ use Rattle.std.proofs.Common.{◌≡◌, List, [], ◌∷◌, ◌++◌, refl, sy
 use Rattle.std.specs.Prelude.{option_to_list}
 use Rattle.std.proofs.lemmas.List.{append_assoc, append-nil}
 use Rattle.std.proofs.lemmas.Option.{same_Some, none-some}
-use Rattle.hm_cards.specs.Cards.{Shown}
-use Rattle.hm_components.specs.Components.{Bytes, Piece}
+use Rattle.hm_book_cards.specs.Cards.{Shown}
+use Rattle.hm_lines_files.specs.Components.{Bytes, Piece}
 use Rattle.hm_ical.specs.Scanning.{Place, Step, next, Goes, IsStuck, Runs}
 use Rattle.hm_ical.proofs.LineKinds.{kind_once}
 

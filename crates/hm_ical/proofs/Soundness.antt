@@ -5,11 +5,11 @@ use Rattle.std.specs.List.{flat_map, list_any}
 use Rattle.std.proofs.lemmas.List.{append_assoc, append-nil}
 use Rattle.std.proofs.lemmas.List.Elements.{All-push, All-nil, All-cons}
 use Rattle.hm_lines.specs.declared.content.LineParts.{LineParts}
-use Rattle.hm_cards.specs.Cards.{Shown}
-use Rattle.hm_properties.specs.Lines.{Line, IsLine, AreFew, is_second}
-use Rattle.hm_properties.specs.Lent.{plain}
-use Rattle.hm_properties.proofs.Laws.{few_more}
-use Rattle.hm_components.specs.Components.{Bytes, Component, Piece, other, item, piece_lines}
+use Rattle.hm_book_cards.specs.Cards.{Shown}
+use Rattle.hm_lines_cards.specs.Lines.{Line, IsLine, AreFew, is_second}
+use Rattle.hm_lines_cards.specs.Lent.{plain}
+use Rattle.hm_lines_cards.proofs.Laws.{few_more}
+use Rattle.hm_lines_files.specs.Components.{Bytes, Component, Piece, other, item, piece_lines}
 use Rattle.hm_ical.specs.Lines.{is_same, IsBegin, IsEnd, IsProperty}
 use Rattle.hm_ical.specs.Events.{event_name, other_line, singles, AreOwn, IsEvent}
 use Rattle.hm_ical.specs.Events as own

@@ -4,12 +4,12 @@ use Rattle.std.proofs.lemmas.Bool.{cases_lt}
 use Rattle.std.proofs.lemmas.List.{append_assoc, take_all}
 use Rattle.std.proofs.lemmas.Option.{same_Some, none-some}
 use Rattle.hm_schema.specs.Values.{OptionsValue}
-use Rattle.hm_cards.specs.Cards.{Shown}
-use Rattle.hm_components.specs.Components.{Bytes, Piece, Layout, all_lines}
-use Rattle.hm_components.specs.Forms.{shown_of}
-use Rattle.hm_components.specs.Stops.{Opens, StopsAtLine, IsStop}
-use Rattle.hm_components.specs.declared.stop.Stop.{Stop}
-use Rattle.hm_components.specs.declared.stop.Stop.TheVariants as stop
+use Rattle.hm_book_cards.specs.Cards.{Shown}
+use Rattle.hm_lines_files.specs.Components.{Bytes, Piece, Layout, all_lines}
+use Rattle.hm_lines_files.specs.Forms.{shown_of}
+use Rattle.hm_lines_files.specs.Stops.{Opens, StopsAtLine, IsStop}
+use Rattle.hm_lines_files.specs.declared.layout_fault.LayoutFault.{LayoutFault}
+use Rattle.hm_lines_files.specs.declared.layout_fault.LayoutFault.TheVariants as stop
 use Rattle.hm_ical.specs.Events.{singles}
 use Rattle.hm_ical.specs.Calendars.{IsCalendar, ical}
 use Rattle.hm_ical.specs.Scanning.{Place, before, behind, Runs, IsRefused, IsRunStop}
@@ -17,6 +17,7 @@ use Rattle.hm_ical.proofs.Runs.{runs_append, runs_once, stuck_no}
 use Rattle.hm_ical.proofs.Soundness.{runs_calendar}
 use Rattle.hm_ical.proofs.Completeness.{calendar_runs}
 use Rattle.hm_ical.proofs.Closings.{close}
+use Rattle.hm_facts.proofs.Lists.{split_at}
 
 got : {X : Type 0} (n : ℕ) (xs : List X) → n < length xs → (x : X) × (slice_get xs n ≡ Some x)
 got n [] lt = absurd (omega (arith, lt))
@@ -27,11 +28,6 @@ one_more : {X : Type 0} (n : ℕ) (xs : List X) (x : X) → slice_get xs n ≡ S
 one_more n [] x e = absurd (none-some x e)
 one_more zero (y ∷ xs) x e = ap (λ z. z ∷ []) (same_Some y x e)
 one_more (suc n) (y ∷ xs) x e = ap (λ l. y ∷ l) (one_more n xs x e)
-
-split_at : {X : Type 0} (n : ℕ) (xs : List X) (x : X) → slice_get xs n ≡ Some x → xs ≡ take n xs ++ x ∷ drop (suc n) xs
-split_at n [] x e = absurd (none-some x e)
-split_at zero (y ∷ xs) x e = ap (λ z. z ∷ xs) (same_Some y x e)
-split_at (suc n) (y ∷ xs) x e = ap (λ l. y ∷ l) (split_at n xs x e)
 
 module _ (o : OptionsValue) where
   abbrev few : Shown
@@ -86,6 +82,6 @@ module _ (o : OptionsValue) where
       none = whole_no;
     }
 
-  pub stopped : (lines : List Bytes) (s : Stop) → IsRunStop few lines s → IsStop ical o lines s
+  pub stopped : (lines : List Bytes) (s : LayoutFault) → IsRunStop few lines s → IsStop ical o lines s
   stopped lines (stop.At place) why = stops_at lines place why
   stopped lines stop.Memory why = tt

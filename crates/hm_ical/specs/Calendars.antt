@@ -1,11 +1,11 @@
 -- Files of calendars (RFC 5545, section 3.4) as a form of files of components: those are the events directly in the calendar.
 use Rattle.std.specs.Prelude.{◌≡◌, Bool, true, false, ◌||◌, List, [], ◌∷◌, ◌++◌, codes, map, Some}
 use Rattle.hm_lines.specs.declared.content.LineParts.{LineParts}
-use Rattle.hm_cards.specs.Cards.{Shown}
-use Rattle.hm_properties.specs.Lines.{Line}
-use Rattle.hm_components.specs.Components.{Bytes, Component, Piece, other, item, Layout}
-use Rattle.hm_components.specs.Rewriting.{Kind}
-use Rattle.hm_components.specs.Forms.{Form, shown_by}
+use Rattle.hm_book_cards.specs.Cards.{Shown}
+use Rattle.hm_lines_cards.specs.Lines.{Line}
+use Rattle.hm_lines_files.specs.Components.{Bytes, Component, Piece, other, item, Layout}
+use Rattle.hm_lines_files.specs.Rewriting.{Template}
+use Rattle.hm_lines_files.specs.Forms.{Form, shown_by}
 use Rattle.hm_ical.specs.Lines.{is_same, is_version, IsBegin, IsEnd, IsProperty, AreComponent}
 use Rattle.hm_ical.specs.Events.{event_name, key_name, other_line, IsEvent}
 
@@ -43,14 +43,14 @@ abbrev pub stamp_line : Line
 stamp_line = (codes "DTSTAMP:19700101T000000Z", Some (record { name_from = 0; name_to = 7; value_from = 8 }))
 
 -- a new event begins, has its key and a time at which it was made, which is always the same, and ends
-abbrev pub event_kind : Kind
-event_kind = record { key = key_name; front = other_line (codes "BEGIN:VEVENT") ∷ []; more = stamp_line ∷ []; end = codes "END:VEVENT" }
+abbrev pub event_template : Template
+event_template = record { key = key_name; front = other_line (codes "BEGIN:VEVENT") ∷ []; more = stamp_line ∷ []; end = codes "END:VEVENT" }
 
 abbrev pub ical : Form
 ical = record {
   tag = 4;
   properties = properties;
-  kind = event_kind;
+  template = event_template;
   fits = λ o c. IsEvent (shown_by properties o) c;
   has = λ o l. IsCalendar (shown_by properties o) l;
 }

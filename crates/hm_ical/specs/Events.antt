@@ -2,9 +2,9 @@
 use Rattle.std.specs.Prelude.{◌≡◌, false, List, [], ◌∷◌, ◌++◌, codes, map, Some, None}
 use Rattle.hm_tree.specs.Names.{Name}
 use Rattle.hm_lines.specs.declared.content.LineParts.{LineParts}
-use Rattle.hm_cards.specs.Cards.{Shown}
-use Rattle.hm_properties.specs.Lines.{Line, AreFew}
-use Rattle.hm_components.specs.Components.{Bytes, Component}
+use Rattle.hm_book_cards.specs.Cards.{Shown}
+use Rattle.hm_lines_cards.specs.Lines.{Line, AreFew}
+use Rattle.hm_lines_files.specs.Components.{Bytes, Component}
 use Rattle.hm_ical.specs.Lines.{IsBegin, IsEnd, IsProperty, AreComponent}
 
 abbrev pub event_name : Bytes

@@ -1,10 +1,10 @@
 -- What contracts see of lines, of places between them and of steps, whose texts are lent.
 use Rattle.std.specs.Prelude.{List, reverse, Option, None, true}
 use Rattle.std.specs.Borrow.{Bor}
-use Rattle.hm_properties.specs.Lines.{Line}
-use Rattle.hm_properties.specs.Lent.{lent}
-use Rattle.hm_components.specs.Components.{Bytes, other}
-use Rattle.hm_components.specs.Lent.{texts, piece_of}
+use Rattle.hm_lines_cards.specs.Lines.{Line}
+use Rattle.hm_lines_cards.specs.Lent.{lent}
+use Rattle.hm_lines_files.specs.Components.{Bytes, other}
+use Rattle.hm_lines_files.specs.Lent.{texts, piece_of}
 use Rattle.hm_ical.specs.Scanning as plain
 use Rattle.hm_ical.specs.declared.line.LineKind.{LineKind}
 use Rattle.hm_ical.specs.declared.line.LineKind.TheVariants.{Begin, End, Property}

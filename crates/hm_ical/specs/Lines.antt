@@ -4,8 +4,8 @@ use Rattle.std.specs.Bool.{◌==◌}
 use Rattle.std.specs.Str.{str_eq_ignore_ascii_case}
 use Rattle.hm_lines.specs.declared.content.LineParts.{LineParts}
 use Rattle.hm_lines.specs.Content.{IsContentLine}
-use Rattle.hm_properties.specs.Lines.{Line, is_of}
-use Rattle.hm_components.specs.Components.{Bytes}
+use Rattle.hm_lines_cards.specs.Lines.{Line, is_of}
+use Rattle.hm_lines_files.specs.Components.{Bytes}
 
 -- names of properties and of components have no case
 abbrev pub is_same : Bytes → Bytes → Bool

@@ -4,11 +4,11 @@ use Rattle.std.specs.Bool.{◌==◌}
 use Rattle.std.specs.List.{list_any}
 use Rattle.hm_lines.specs.declared.content.LineParts.{LineParts}
 use Rattle.hm_lines.specs.Content.{colon}
-use Rattle.hm_cards.specs.Cards.{Shown}
-use Rattle.hm_properties.specs.Lines.{Line, IsLine, is_second}
-use Rattle.hm_components.specs.Components.{Bytes, Piece, other, item}
-use Rattle.hm_components.specs.declared.stop.Stop.{Stop}
-use Rattle.hm_components.specs.declared.stop.Stop.TheVariants as stop
+use Rattle.hm_book_cards.specs.Cards.{Shown}
+use Rattle.hm_lines_cards.specs.Lines.{Line, IsLine, is_second}
+use Rattle.hm_lines_files.specs.Components.{Bytes, Piece, other, item}
+use Rattle.hm_lines_files.specs.declared.layout_fault.LayoutFault.{LayoutFault}
+use Rattle.hm_lines_files.specs.declared.layout_fault.LayoutFault.TheVariants as stop
 use Rattle.hm_ical.specs.Lines.{is_same, is_version, IsBegin, IsEnd, IsProperty}
 use Rattle.hm_ical.specs.Events.{event_name, other_line}
 use Rattle.hm_ical.specs.Calendars.{calendar_name}
@@ -143,7 +143,7 @@ pub record IsRefused (singles : Shown) (lines : List Bytes) (place : ℕ) : Type
   pub stuck : (line : Bytes) → slice_get lines place ≡ Some line → IsStuck singles at line
   pub unfinished : place ≡ length lines → at ≢ behind
 
-abbrev pub IsRunStop : Shown → List Bytes → Stop → Type 0
+abbrev pub IsRunStop : Shown → List Bytes → LayoutFault → Type 0
 IsRunStop singles lines (stop.At place) = IsRefused singles lines place
 IsRunStop singles lines stop.Memory = Unit {0}
 

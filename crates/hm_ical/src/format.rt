@@ -1,7 +1,7 @@
 //! The format of files of calendars.
 use crate::grammar::Calendars;
-use hm_component_files::{read_book, schema_of, write_book};
 use hm_format::{Format, FormatFault};
+use hm_lines_files::{read_book, schema_of, write_book};
 use hm_schema::{Options, Schema};
 use hm_tree::Tree;
 use std::alloc::Global;
@@ -11,7 +11,7 @@ use std::alloc::Global;
 pub struct ICalendar;
 
 impl Format for ICalendar {
-    ghost use Rattle.hm_components.specs.Writing.{meaning_of};
+    ghost use Rattle.hm_lines_files.specs.Writing.{meaning_of};
     ghost use Rattle.hm_ical.specs.Calendars.{ical};
 
     ghost means = { λ f. meaning_of ical };

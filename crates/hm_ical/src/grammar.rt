@@ -1,13 +1,13 @@
 //! The form of files of calendars.
 ghost use Rattle.std.specs.Prelude.{◌≡◌, None};
-ghost use Rattle.hm_properties.specs.Lines.{IsLine};
-ghost use Rattle.hm_properties.specs.Lent.{line_of};
+ghost use Rattle.hm_lines_cards.specs.Lines.{IsLine};
+ghost use Rattle.hm_lines_cards.specs.Lent.{line_of};
 ghost use Rattle.hm_ical.specs.Calendars as spec;
 
 use crate::layout::layout_of;
-use hm_components::{Grammar, Kind, Layout, Stop};
 use hm_lines::LineParts;
-use hm_properties::Line;
+use hm_lines_cards::Line;
+use hm_lines_files::{Grammar, Layout, LayoutFault, Template};
 use hm_tree::{Memory, Name};
 use std::alloc::Global;
 
@@ -34,10 +34,10 @@ impl Grammar for Calendars {
         ]?)
     }
 
-    fn kind(&self, alloc: Global) -> Result<Kind<'static>, Memory> {
-        Ok(Kind {
+    fn template(&self, alloc: Global) -> Result<Template<'static>, Memory> {
+        Ok(Template {
             key: Name::from_text(alloc, "UID")?,
-            front: vec![in alloc; other_line("BEGIN:VEVENT")]?,
+            front: vec![in alloc; Line::bare("BEGIN:VEVENT")]?,
             more: vec![in alloc; stamp_line()]?,
             end: "END:VEVENT",
         })
@@ -48,17 +48,9 @@ impl Grammar for Calendars {
         alloc: Global,
         shown: &[(Name, bool)],
         lines: &[&'a str],
-    ) -> Result<Layout<'a>, Stop> {
+    ) -> Result<Layout<'a>, LayoutFault> {
         layout_of(alloc, shown, lines)
     }
-}
-
-// A line that is no property.
-fn other_line(text: &str) -> Line
-    ensures text { result.text.now ≡ text.now }
-    ensures parts { result.parts ≡ None }
-{
-    Line { text, parts: None }
 }
 
 // The line by which a new event tells when it was made, which nobody knows.

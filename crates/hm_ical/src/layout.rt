@@ -1,9 +1,9 @@
 //! The pieces of a calendar.
 ghost use Rattle.std.specs.Prelude.{◌≡◌, ◌-◌, ◌<◌, IfErr, IfOk, None, Some, cond, drop, length};
 ghost use Rattle.hm_schema.specs.Values.{OptionsValue};
-ghost use Rattle.hm_components.specs.Forms.{shown_of};
-ghost use Rattle.hm_components.specs.Lent.{texts, pieces_of, layout_of, HaveLines};
-ghost use Rattle.hm_components.specs.Stops.{AreOf, IsStop};
+ghost use Rattle.hm_lines_files.specs.Forms.{shown_of};
+ghost use Rattle.hm_lines_files.specs.Lent.{texts, pieces_of, layout_of, HaveLines};
+ghost use Rattle.hm_lines_files.specs.Stops.{AreOf, IsStop};
 ghost use Rattle.hm_ical.specs.Events.{singles as singles_of};
 ghost use Rattle.hm_ical.specs.Calendars.{ical};
 ghost use Rattle.hm_ical.specs.Scanning as spec;
@@ -12,7 +12,7 @@ ghost use Rattle.hm_ical.specs.Lent.{place_of};
 use crate::line::kind_of;
 use crate::place::{Place, Step};
 use crate::scanning::next;
-use hm_components::{Layout, Piece, Stop};
+use hm_lines_files::{Layout, LayoutFault, Piece};
 use hm_tree::{Memory, Name};
 use std::alloc::Global;
 
@@ -22,7 +22,7 @@ pub fn layout_of<'a>(
     alloc: Global,
     shown: &[(Name, bool)],
     lines: &[&'a str],
-) -> Result<Layout<'a>, Stop>
+) -> Result<Layout<'a>, LayoutFault>
     ensures layout { (o : OptionsValue) → shown.now ≡ shown_of ical o → IfOk result (λ l. AreOf ical o (texts lines.now) (layout_of l)) }
     ensures lines { IfOk result (λ l. HaveLines l.pieces.items) }
     ensures stop { (o : OptionsValue) → shown.now ≡ shown_of ical o → IfErr result (IsStop ical o (texts lines.now)) }
@@ -51,7 +51,7 @@ fn pieces<'a>(
     alloc: Global,
     singles: &[(Name, bool)],
     lines: &[&'a str],
-) -> Result<Vec<Piece<'a>>, Stop>
+) -> Result<Vec<Piece<'a>>, LayoutFault>
     ensures pieces { IfOk result (λ pieces. spec.Runs singles.now spec.before (texts lines.now) (pieces_of pieces.items) spec.behind) }
     ensures stop { IfErr result (spec.IsRunStop singles.now (texts lines.now)) }
 {
@@ -60,12 +60,12 @@ fn pieces<'a>(
     for place in 0..lines.len() {
         let (_, left) = lines.split_at(place);
         if !step(alloc, singles, &mut pieces, &mut at, lines[place], left)? {
-            return Err(Stop::At(place));
+            return Err(LayoutFault::At(place));
         }
     }
     match at {
         Place::Behind => Ok(pieces),
-        _ => Err(Stop::At(lines.len())),
+        _ => Err(LayoutFault::At(lines.len())),
     }
 }
 

@@ -1,12 +1,13 @@
 //! What a line of a calendar is.
 ghost use Rattle.std.specs.Prelude.{◌≡◌, ◌<◌, ◌++◌, IsTrue, MatchOption, Some, drop, false, length, true};
-ghost use Rattle.hm_properties.specs.Lines.{HasParts, is_named};
-ghost use Rattle.hm_components.specs.Components.{Bytes};
+ghost use Rattle.hm_lines_cards.specs.Lines.{HasParts};
+ghost use Rattle.hm_lines_files.specs.Components.{Bytes};
 ghost use Rattle.hm_ical.specs.Lines as spec;
 ghost use Rattle.hm_ical.specs.Scanning.{Kind, IsKind, ends_in_colon};
 ghost use Rattle.hm_ical.specs.Lent.{kind_of};
 
 use hm_lines::{LineParts, parts};
+use hm_lines_cards::is_named;
 
 /// What a line of a calendar is.
 #[derive(Clone, Copy)]
@@ -70,12 +71,4 @@ fn is_bare(parts: LineParts) -> bool
     ensures { result ≡ spec.is_bare parts }
 {
     parts.name_from == 0 && parts.value_from - parts.name_to == 1
-}
-
-// Whether a content line has a name, without regard to case.
-fn is_named(line: &str, parts: LineParts, name: &str) -> bool
-    requires { HasParts line.now (Some parts) }
-    ensures { result ≡ is_named name.now line.now (Some parts) }
-{
-    line.as_bytes()[parts.name_from..parts.name_to].eq_ignore_ascii_case(name.as_bytes())
 }

@@ -1,6 +1,6 @@
 //! Places between the lines of a calendar.
-use hm_components::Piece;
-use hm_properties::Line;
+use hm_lines_cards::Line;
+use hm_lines_files::Piece;
 
 /// Where the lines of a calendar have led.
 #[derive(Drop)]

@@ -1,17 +1,17 @@
 //! The lines of a calendar one after another.
 ghost use Rattle.std.specs.Prelude.{◌≡◌, ◌++◌, ◌∷◌, [], IfOk, List, None, Some, cond};
 ghost use Rattle.std.specs.List.{list_any};
-ghost use Rattle.hm_cards.specs.Cards.{Shown};
-ghost use Rattle.hm_properties.specs.Lines.{IsLine, is_second};
-ghost use Rattle.hm_properties.specs.Lent.{AreLines, lent, line_of};
-ghost use Rattle.hm_components.specs.Components.{Bytes, other};
+ghost use Rattle.hm_book_cards.specs.Cards.{Shown};
+ghost use Rattle.hm_lines_cards.specs.Lines.{IsLine, is_second};
+ghost use Rattle.hm_lines_cards.specs.Lent.{AreLines, lent, line_of};
+ghost use Rattle.hm_lines_files.specs.Components.{Bytes, other};
 ghost use Rattle.hm_ical.specs.Scanning as spec;
 ghost use Rattle.hm_ical.specs.Lent.{kind_of, names_of, event_of, place_of, step_of, moved, move_of, nested_of};
 
 use crate::line::{LineKind, is_same};
 use crate::place::{Event, Move, Nested, Place, Step};
-use hm_components::{Component, Piece, room_for};
-use hm_properties::{Line, is_second};
+use hm_lines_cards::{Line, is_second};
+use hm_lines_files::{Component, Piece, room_for};
 use hm_tree::{Memory, Name};
 use std::alloc::Global;
 use std::mem;
@@ -108,7 +108,7 @@ fn into_component<'a>(
 {
     if is_same(name, "VEVENT") {
         let mut lines = room_for(alloc, left, "END:VEVENT")?;
-        lines.push(other_line(line))?;
+        lines.push(Line::bare(line))?;
         *at = Place::Event(Event {
             lines,
             names: Vec::new(alloc),
@@ -166,7 +166,7 @@ fn in_event<'a>(
     match kind {
         LineKind::Begin(name) => {
             event.names.push(name)?;
-            with_line(&mut event.lines, other_line(line))
+            with_line(&mut event.lines, Line::bare(line))
         }
         LineKind::End(name) => out_of_inner(event, line, name),
         LineKind::Property(parts) if event.names.is_empty() => with_own(
@@ -178,15 +178,8 @@ fn in_event<'a>(
                 parts: Some(parts),
             },
         ),
-        LineKind::Property(_) => with_line(&mut event.lines, other_line(line)),
+        LineKind::Property(_) => with_line(&mut event.lines, Line::bare(line)),
     }
-}
-
-// A line that is no property of the event itself.
-fn other_line(text: &str) -> Line<'_>
-    ensures { line_of result ≡ (text.now, None) }
-{
-    Line { text, parts: None }
 }
 
 // With one line more.
@@ -219,7 +212,7 @@ fn out_of_inner<'a>(event: &mut Event<'a>, line: &'a str, name: &'a str) -> Resu
     ensures { IfOk result (λ made. (singles : Shown) → move_of made line.now event.new ≡ spec.next singles (event_of event.old) line.now (spec.end name.now)) }
 {
     match event.names.pop() {
-        Some(inner) if is_same(name, inner) => with_line(&mut event.lines, other_line(line)),
+        Some(inner) if is_same(name, inner) => with_line(&mut event.lines, Line::bare(line)),
         None if is_same(name, "VEVENT") => Ok(Move::Out),
         _ => Ok(Move::Stuck),
     }

@@ -1,7 +1,7 @@
 -- A tree that has items is a list.
 use Rattle.std.proofs.Common.{List}
 use Rattle.hm_tree.specs.Nodes.{Tree}
-use Rattle.hm_terms.specs.Parts.{IsList, no_items, an_item, HasItems, none_left, and_then}
+use Rattle.hm_tree_parts.specs.Lists.{IsList, no_items, an_item, HasItems, none_left, and_then}
 
 pub items_list : (t : Tree) (xs : List Tree) → HasItems t xs → IsList t
 items_list t xs (none_left none) = no_items none

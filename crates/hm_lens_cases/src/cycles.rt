@@ -1,7 +1,7 @@
 //! Programs that no lens file describes.
-use hm_cycles::first_in_bad_cycle;
 use hm_schema::{NodeId, Options};
 use hm_terms::{Definition, Program, Term};
+use hm_terms_cycles::first_in_bad_cycle;
 use hm_tree::{Memory, Name};
 use std::alloc::Global;
 use std::boxed::Box;

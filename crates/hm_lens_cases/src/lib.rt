@@ -1,4 +1,6 @@
 //! Small cases of the calls on lens programs and lens files, with expected values by hand.
+//!
+//! Proved: nothing beyond its tests, which are all that it has.
 #![tactic(auto)]
 
 #[cfg(test)]

@@ -1,11 +1,11 @@
 //! Small schemas, which are read, put into a table and written by numbers.
 ghost use Rattle.std.specs.Prelude.{◌≡◌, All, []};
 
-use hm_numbering::{is_plain, numbered};
 use hm_schema::{Node, Schema};
 use hm_schema_text::{SchemaFault, read_schema};
-use hm_table::Table;
 use hm_tree::Memory;
+use hm_types_schemas::{is_plain, numbered};
+use hm_types_table::Table;
 use std::alloc::Global;
 use std::process::Abort;
 use std::test::Fail;

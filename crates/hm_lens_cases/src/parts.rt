@@ -1,12 +1,12 @@
 //! Trees that are taken apart and put together again, with expected values by hand.
 ghost use Rattle.std.specs.Prelude.{IfOk};
-ghost use Rattle.hm_terms.specs.Parts.{IsList};
+ghost use Rattle.hm_tree_parts.specs.Lists.{IsList};
 
-use hm_parts::{
+use hm_tree::{Memory, Name, Tree};
+use hm_tree_parts::{
     copy_edge, drop_edge, hoist, lent_items, list_build, list_items, merge_back, plunge, value,
     value_of,
 };
-use hm_tree::{Memory, Name, Tree};
 use std::alloc::Global;
 use std::process::Abort;
 use std::test::Fail;

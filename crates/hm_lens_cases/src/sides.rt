@@ -1,8 +1,8 @@
 //! A lens file whose format two of those that are handed in have the tag of.
 
-use hm_files::Slot;
 use hm_format::{Format, Plain};
-use hm_sides::open_side;
+use hm_run_files::Slot;
+use hm_run_sides::open_side;
 use hm_text_lens::TextLens;
 use std::test::Fail;
 

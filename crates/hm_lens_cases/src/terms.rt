@@ -1,5 +1,5 @@
 //! Texts that are no terms, where no lens file shows it: in one, spaces in front aren't the term's.
-use hm_term_text::{TermRead, read_term};
+use hm_focal_terms::{TermRead, read_term};
 use hm_tree::Memory;
 use std::alloc::Global;
 use std::process::Abort;

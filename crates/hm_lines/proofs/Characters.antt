@@ -1,23 +1,14 @@
 -- What holds of all UTF-8, character by character.
-use Rattle.std.proofs.Common.{◌≡◌, ℕ, ◌<◌, ◌≤◌, true, false, List, [], ◌∷◌, ◌++◌, length, get_or, All, refl, sym, ap, subst, arith, inl, inr}
-use Rattle.std.specs.Bool.{◌==◌}
+use Rattle.std.proofs.Common.{◌≡◌, ℕ, ◌<◌, ◌≤◌, true, List, [], ◌∷◌, ◌++◌, length, get_or, All, refl, sym, ap, subst, arith, inl, inr}
 use Rattle.std.specs.Str.{IsUtf8, IsCharBoundary}
 use lib.Utf8.{scalar, scalars, encodes, encode}
-use Rattle.std.proofs.lemmas.Bool.{ne_eqb, cases_lt, and_parts, and_from}
+use Rattle.std.proofs.lemmas.Bool.{cases_lt, and_parts, and_from}
 use Rattle.std.proofs.lemmas.List.{append-nil, get_or_default}
-use Rattle.std.proofs.lemmas.List.Elements.{All-cons}
-use Rattle.std.proofs.lemmas.Str.{IsUtf8-from_ascii, IsCharBoundary-at_seam, encode_ascii, inside_one, length-encode, len_utf8_bounds}
-use Rattle.std.proofs.lemmas.Str.Ascii.{IsAscii-from_all}
-
-pub one_ascii : (b : ℕ) → b < 128 → IsUtf8 (b ∷ [])
-one_ascii b lt = IsUtf8-from_ascii (b ∷ []) (IsAscii-from_all (b ∷ []) (All-cons (λ x. x < 128) b [] lt (λ k d l. absurd (omega arith))))
+use Rattle.std.proofs.lemmas.Str.{IsCharBoundary-at_seam, encode_ascii, inside_one, length-encode, len_utf8_bounds}
 
 -- bytes none of which is ASCII
 abbrev pub AreHigh : List ℕ → Type 0
 AreHigh bytes = All (λ x. 128 ≤ x) bytes
-
-pub not_low : (b c : ℕ) → 128 ≤ b → c < 128 → (b == c) ≡ false
-not_low b c high low = ne_eqb b c (λ e. omega arith)
 
 high_bytes : (c : ℕ) → 128 ≤ c → AreHigh (encode c)
 high_bytes c h k d lt = elim (cases_lt (get_or (encode c) k 0) 128) [

@@ -7,8 +7,10 @@ use Rattle.std.proofs.lemmas.Str.{IsUtf8-nil, IsUtf8-append}
 use Rattle.std.proofs.lemmas.Grind.{flat_map-append}
 use Rattle.hm_lines.specs.Unfolding.{feed}
 use Rattle.hm_lines.specs.Values.{backslash, is_special, is_escape, meaning, unescaped, escaped_byte, escaped}
-use Rattle.hm_lines.proofs.Characters.{AreHigh, one_ascii, not_low, by_characters}
+use Rattle.hm_lines.proofs.Characters.{AreHigh, by_characters}
 use Rattle.hm_lines.proofs.Escapes.{plain_byte, plain_chunk, own_backslash, read_escape}
+use Rattle.hm_facts.proofs.Bytes.{one_ascii}
+use Rattle.hm_tree.proofs.CleanText.{not_low}
 
 two_ascii : (a b : ℕ) → a < 128 → b < 128 → IsUtf8 (a ∷ b ∷ [])
 two_ascii a b low lt = IsUtf8-append (a ∷ []) (b ∷ []) (one_ascii a low) (one_ascii b lt)

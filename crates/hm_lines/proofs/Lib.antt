@@ -2,9 +2,9 @@ mod Folds
 mod FoldSearch
 mod Chunks
 mod Found
+mod Returns
 mod FirstLines
 mod Escapes
-mod Returns
 mod Characters
 mod EscapedText
 mod LineTexts
@@ -14,3 +14,4 @@ mod FoldedPieces
 mod UnfoldedLines
 mod Once
 pub mod Laws
+pub mod LowerCase

@@ -8,11 +8,11 @@ use Rattle.hm_lines.specs.Unfolding.{feed, return, begins_with_blank, unfolded, 
 use Rattle.hm_lines.specs.Folding.{HasNone, IsPlain, ArePieces, further_limit, joined, AreFolded}
 use Rattle.std.specs.Str.{IsUtf8}
 use Rattle.std.proofs.lemmas.Str.{IsUtf8-nil, IsUtf8-append}
-use Rattle.hm_lines.proofs.Characters.{one_ascii}
 use Rattle.hm_lines.proofs.Chunks.{line_end}
 use Rattle.hm_lines.proofs.Folds.{fold_goes, no_feed_no_fold}
 use Rattle.hm_lines.proofs.Returns.{at_last, kept_none}
 use Rattle.hm_lines.proofs.FirstLines.{cut_line}
+use Rattle.hm_facts.proofs.Bytes.{one_ascii}
 
 -- a line and its end
 abbrev pub ended : List ℕ → List ℕ

@@ -9,12 +9,21 @@
 //! name  = word
 //! ```
 //!
-//! The `:` is the first one outside of double quotes. In a value of the type text `\\`, `\,` and `\;` stand for `\`, `,` and
-//! `;`, `\n` and `\N` for a line feed, and another `\` for itself; what a value shows is that, cleaned.
+//! The `:` is the first one outside of double quotes. In a value of the type text `\\`, `\,` and `\;` stand for `\`,
+//! `,` and `;`, `\n` and `\N` for a line feed, and another `\` for itself; what a value shows is that, cleaned.
 //!
-//! Bytes are unfolded as a whole (`without_folds`), and lines stand in what is unfolded (`first_line`). Lines are written
-//! with CRLF behind each, and those of more than 75 octets are folded between characters. What was folded is unfolded to
-//! the same lines, and what was escaped is read as the same text (`proofs/Laws`).
+//! Bytes are unfolded as a whole (`without_folds`), and lines stand in what is unfolded (`first_line`; `unfolding`).
+//! Lines are written with CRLF behind each, and those of more than 75 octets are folded between characters (`folding`).
+//! Values are escaped in `values`, and the parts of a content line are found in `content`. It knows no properties and
+//! no cards.
+//!
+//! Proved: `unfold` gives the lines of a file in the form of content lines (RFC 6350 section 3.2, RFC 5545 section
+//! 3.1), unfolded and cut; `without_folds` unfolds bytes as a whole, and lends those that have no fold, and
+//! `first_line` finds where the first line of bytes ends (`specs/Unfolding`); `fold` writes lines, each piece as long
+//! as it may be and ending at a character (`specs/Folding`); `escape` and `unescape` write and read the text of a value
+//! (`specs/Values`), and `parts` finds the name and the value of a content line, or none exactly where it isn't one
+//! (`specs/Content`). What was folded is unfolded to the same lines, and the text of an escaped clean name is that name
+//! (`proofs/Laws`).
 #![tactic(auto)]
 
 mod content;

@@ -1,5 +1,5 @@
 -- The cases at a node, and what the steps of its loop need.
-use Rattle.std.proofs.Common.{◌≡◌, ◌⊎◌, inl, inr, ℕ, ◌+◌, ◌*◌, ◌<◌, ◌≤◌, false, [], length, Option, Some, None, is_some, IsTrue, Result, Ok, Err, slice_get, get_or, refl, sym, ap, subst, ◌∙◌, arith}
+use Rattle.std.proofs.Common.{◌≡◌, ◌⊎◌, inl, inr, ℕ, ◌+◌, ◌*◌, ◌<◌, ◌≤◌, [], length, Option, Some, None, is_some, Result, Ok, Err, slice_get, get_or, refl, sym, ap, subst, ◌∙◌, arith}
 use Rattle.std.specs.Prelude.{IfOk, IsSome}
 use Rattle.std.proofs.lemmas.Option.{same_Some, slice_get_cases}
 use mathlib.Core.Bool.{true≢false}
@@ -74,9 +74,6 @@ node_in_range s i below = go (slice_get_cases s.nodes i.place).1
         ⊎ ((length s.nodes ≤ i.place) × (slice_get s.nodes i.place ≡ None)) → (n : NodeValue) × (node_at s i ≡ Some n)
     go (inl there) = (there.0, there.2)
     go (inr past) = let l = past.0 in absurd (omega arith)
-
-pub refuted : IsTrue false → ⊥
-refuted f = true≢false (sym f)
 
 -- what was settled at the node of a name is settled under the name
 pub settled_here : (s : SchemaValue) (i j : NodeId) (o c : Archive) (a b : Tree) (k : Name) (one two : Option Tree) (here : Trio)

@@ -1,10 +1,15 @@
 //! Reconciling two replicas against the archive of what they last agreed on.
 //!
 //! Under each name one of a few things happens: what one side alone has, or both have alike, is settled as a whole
-//! (`side`); what both have is gone through name by name (`node`), once it is known which names the sides are
-//! to have and that the schema permits them (`carried`, `names`). Then the topmost marks of the new archive are listed
-//! (`marks`), and for each of them what shows why is found in what the old archive held there (`conflicts`,
-//! `reasons`). Nothing is copied that can be moved.
+//! (`side`); what both have is gone through name by name (`apart`, `edges`, `node`), once it is known which names the
+//! sides are to have and that the schema permits them (`carried`, `names`). Then the topmost marks of the new archive
+//! are listed (`marks`), and for each of them what shows why is found in what the old archive held there (`conflicts`,
+//! `reasons`). Nothing is copied that can be moved. It knows no texts and no files.
+//!
+//! Proved: `reconcile`, and `reconcile_owned`, which takes the archive and the trees over, give the outcome, for every
+//! schema without twins, every archive and any two members, and its conflicts, each with what shows why: one at each
+//! mark of the new archive above which there is none, in the order of their paths. There is exactly one outcome, with
+//! exactly one list of conflicts, and this is it; that there is, the contract says for want of memory too.
 #![tactic(auto)]
 
 mod apart;
@@ -28,7 +33,7 @@ ghost use Rattle.hm_reconcile.specs.Reconciled.{IsReconciled};
 
 use crate::conflicts::conflicts_of;
 use crate::node::at_node;
-pub use hm_report::Outcome;
+use hm_report::Outcome;
 use hm_schema::Schema;
 use hm_tree::{Archive, Memory, Tree};
 use std::alloc::Global;

@@ -12,12 +12,12 @@ use Rattle.hm_terms.specs.Put.{Puts}
 use Rattle.hm_eval_terms.specs.Conditions as may
 use Rattle.hm_eval.specs.Oblivious.{oblivious}
 use Rattle.hm_eval.proofs.WithoutBefore.{may_put_without, put_alike}
-use Rattle.hm_types.specs.Checks.{Trees}
+use Rattle.hm_schema.specs.Membership.{IsMemberTree}
 use Rattle.hm_format.specs.declared.fault.FormatFault.{FormatFault}
 use Rattle.hm_format.specs.declared.fault.FormatFault.TheVariants.{BadOption, NotUtf8, BadItem, NoKey, TooDeep, Outside, Memory}
 use Rattle.hm_format.specs.Formats.{FormatMeaning, IsLawful, MayRead, MayWrite}
 use Rattle.hm_format.specs.Answers.{Writes}
-use Rattle.hm_replica.specs.Replicas.{ReplicaValue, TypedValue, options_in, main_in, setting_in, kept_by, IsTyped, IsReplica, IsPut, IsClosed, Closes}
+use Rattle.hm_replica.specs.Replicas.{ReplicaValue, TypedValue, options_in, main_in, setting_in, kept_by, IsFitting, IsReplica, IsPut, IsClosed, Closes}
 
 -- what is kept of a tree
 pub without_tree : (l : Lens) (tree : Tree) → oblivious l ≡ true → None ≡ kept_by l tree
@@ -26,34 +26,34 @@ without_tree l tree is = sym (ap (λ b. cond b None (Some tree)) is)
 pub with_tree : (l : Lens) (tree : Tree) → oblivious l ≡ false → Some tree ≡ kept_by l tree
 with_tree l tree is = sym (ap (λ b. cond b None (Some tree)) is)
 
-module _ (m : FormatMeaning) (texts : List TextMeaning) (t : TypedValue) (laws : IsLawful m) (typed : IsTyped m texts t) where
+module _ (m : FormatMeaning) (texts : List TextMeaning) (t : TypedValue) (laws : IsLawful m) (typed : IsFitting m texts t) where
   abbrev pub may_read : MayRead m (options_in t)
   may_read = record { sound = typed.sound; schema = t.source; has = typed.schema }
 
   -- what is read may be shown, and is shown as a member of the view
-  pub member : (bytes : List ℕ) (c : Tree) → m.reads (options_in t) bytes (Ok c) → Trees t.source c
+  pub member : (bytes : List ℕ) (c : Tree) → m.reads (options_in t) bytes (Ok c) → IsMemberTree t.source c
   member bytes c read = laws.members (options_in t) t.source bytes c typed.sound typed.schema read
 
   pub may_show : (bytes : List ℕ) (c : Tree) → m.reads (options_in t) bytes (Ok c) → may.IsShown (setting_in texts t) (main_in t) c
   may_show bytes c read = let one = typed.fits.shows c (member bytes c read) in record { tree = one.tree; is = one.is }
 
-  pub shown_member : (bytes : List ℕ) (c v : Tree) → m.reads (options_in t) bytes (Ok c) → Shows (setting_in texts t) (main_in t) c v → Trees t.view v
+  pub shown_member : (bytes : List ℕ) (c v : Tree) → m.reads (options_in t) bytes (Ok c) → Shows (setting_in texts t) (main_in t) c v → IsMemberTree t.view v
   shown_member bytes c v read shown =
       let one = typed.fits.shows c (member bytes c read) in
-      subst (Trees t.view) (sym (one.only v shown)) one.inside
+      subst (IsMemberTree t.view) (sym (one.only v shown)) one.inside
 
   -- a replica that is opened
   pub opened : (bytes before : List ℕ) (c v : Tree) (kept : Option Tree) → before ≡ bytes → m.reads (options_in t) before (Ok c)
       → Shows (setting_in texts t) (main_in t) c v → kept ≡ kept_by (main_in t) c
-      → (bytes ≡ bytes) × IsReplica m texts t (record { bytes = bytes; concrete = kept; view = v }) × Trees t.view v
+      → (bytes ≡ bytes) × IsReplica m texts t (record { bytes = bytes; concrete = kept; view = v }) × IsMemberTree t.view v
   opened bytes before c v kept same read shown is = (
     refl,
     record { tree = c; read = subst (λ b. m.reads (options_in t) b (Ok c)) same read; shown = shown; kept = is },
     shown_member before c v read shown,
   )
 
-  module _ (r : ReplicaValue) (replica : IsReplica m texts t r) (shown : Tree) (there : Trees t.view shown) where
-    old : Trees t.source replica.tree
+  module _ (r : ReplicaValue) (replica : IsReplica m texts t r) (shown : Tree) (there : IsMemberTree t.view shown) where
+    old : IsMemberTree t.source replica.tree
     old = member r.bytes replica.tree replica.read
 
     may_put : may.IsPut (setting_in texts t) (main_in t) shown (Some replica.tree)
@@ -63,10 +63,10 @@ module _ (m : FormatMeaning) (texts : List TextMeaning) (t : TypedValue) (laws :
     put_again : Puts (setting_in texts t) (main_in t) r.view (Some replica.tree) replica.tree
     put_again = typed.fits.get_put replica.tree r.view old replica.shown
 
-    new : (tree : Tree) → Puts (setting_in texts t) (main_in t) shown (Some replica.tree) tree → Trees t.source tree
+    new : (tree : Tree) → Puts (setting_in texts t) (main_in t) shown (Some replica.tree) tree → IsMemberTree t.source tree
     new tree put =
         let one = typed.fits.puts shown (Some replica.tree) there old in
-        subst (Trees t.source) (sym (one.only tree put)) one.inside
+        subst (IsMemberTree t.source) (sym (one.only tree put)) one.inside
 
     pub may_write : (tree : Tree) (before : List ℕ) → before ≡ r.bytes → Puts (setting_in texts t) (main_in t) shown (Some replica.tree) tree
         → MayWrite m (options_in t) tree before

@@ -12,8 +12,8 @@ use Rattle.hm_terms.specs.Put.{Puts}
 use Rattle.hm_terms.specs.Kept.{Keeps}
 use Rattle.hm_terms.specs.Fitting.{Fits}
 use Rattle.hm_eval.specs.Oblivious.{oblivious}
-use Rattle.hm_types.specs.declared.typed.Typed.{Typed}
-use Rattle.hm_types.specs.Checks.{Trees}
+use Rattle.hm_terms.specs.declared.typed.Typed.{Typed}
+use Rattle.hm_schema.specs.Membership.{IsMemberTree}
 use Rattle.hm_format.specs.declared.fault.FormatFault.{FormatFault}
 use Rattle.hm_format.specs.declared.fault.FormatFault.TheVariants.{BadOption, NotUtf8, BadItem, NoKey, TooDeep, Outside, Memory}
 use Rattle.hm_format.specs.Options.{AreSound}
@@ -49,10 +49,10 @@ abbrev pub setting_in : List TextMeaning → TypedValue → Setting
 setting_in texts t = setting_of texts t.program
 
 -- the source of a program is the format's schema of its options, and its main lens fits the source and the view
-pub record IsTyped (m : FormatMeaning) (texts : List TextMeaning) (t : TypedValue) : Type 0 where
+pub record IsFitting (m : FormatMeaning) (texts : List TextMeaning) (t : TypedValue) : Type 0 where
   pub sound : AreSound (options_in t)
   pub schema : HasSchema m (options_in t) t.source
-  pub fits : Fits (setting_in texts t) (main_in t) (Trees t.source) (Trees t.view)
+  pub fits : Fits (setting_in texts t) (main_in t) (IsMemberTree t.source) (IsMemberTree t.view)
 
 -- the tree that is kept of a replica: an oblivious lens puts without it
 abbrev pub kept_by : Lens → Tree → Option Tree
@@ -67,7 +67,7 @@ pub record IsReplica (m : FormatMeaning) (texts : List TextMeaning) (t : TypedVa
 
 -- the replica of these bytes, a member of the view's schema, or why they aren't read
 abbrev pub Opens : FormatMeaning → List TextMeaning → TypedValue → List ℕ → Result Replica FormatFault → Type 0
-Opens m texts t bytes (Ok r) = (r.bytes.items ≡ bytes) × IsReplica m texts t (replica_value r) × Trees t.view r.view
+Opens m texts t bytes (Ok r) = (r.bytes.items ≡ bytes) × IsReplica m texts t (replica_value r) × IsMemberTree t.view r.view
 Opens m texts t bytes (Err (BadOption key)) = m.reads (options_in t) bytes (Err (BadOption key))
 Opens m texts t bytes (Err (NotUtf8 at)) = m.reads (options_in t) bytes (Err (NotUtf8 at))
 Opens m texts t bytes (Err (BadItem number)) = m.reads (options_in t) bytes (Err (BadItem number))

@@ -3,16 +3,16 @@ ghost use Rattle.std.specs.Prelude.{◌≡◌, IsTrue, IfOk, IfSome, MatchOption
 ghost use Rattle.std.specs.Option.{option_map};
 ghost use Rattle.hm_terms.specs.Put.{Puts};
 ghost use Rattle.hm_eval_terms.specs.Conditions.{IsPut};
-ghost use Rattle.hm_types.specs.Checks.{Trees};
-ghost use Rattle.hm_replica.specs.Replicas.{ReplicaValue, main_in, setting_in, typed_value, IsTyped, IsReplica, Closes};
+ghost use Rattle.hm_schema.specs.Membership.{IsMemberTree};
+ghost use Rattle.hm_replica.specs.Replicas.{ReplicaValue, main_in, setting_in, typed_value, IsFitting, IsReplica, Closes};
 
 use crate::boxed::{laws, write};
 use crate::leaving::leave;
 use hm_eval::{put_changes, put_owned};
 use hm_format::{Format, FormatFault};
+use hm_terms::Typed;
 use hm_text_lens::TextLens;
 use hm_tree::{Memory, Tree};
-use hm_types::Typed;
 use std::alloc::Global;
 
 /// What a new view of a replica is put over, and written behind.
@@ -37,9 +37,9 @@ impl Base {
         texts: &[Box<dyn TextLens>],
         shown: Tree,
     ) -> Result<Vec<u8>, FormatFault>
-        requires typed { IsTyped (means format.now) (map (λ b. meaning b) texts.now) (typed_value typed.now) }
+        requires typed { IsFitting (means format.now) (map (λ b. meaning b) texts.now) (typed_value typed.now) }
         requires replica { (r : ReplicaValue) × IsBase r self × IsReplica (means format.now) (map (λ b. meaning b) texts.now) (typed_value typed.now) r }
-        requires member { Trees typed.now.view shown }
+        requires member { IsMemberTree typed.now.view shown }
         ensures { (r : ReplicaValue) → IsBase r self → IsReplica (means format.now) (map (λ b. meaning b) texts.now) (typed_value typed.now) r → Closes (means format.now) (map (λ b. meaning b) texts.now) (typed_value typed.now) r shown result }
     {
         laws(format);

@@ -1,15 +1,15 @@
 //! Replicas.
 ghost use Rattle.std.specs.Prelude.{◌≡◌, IfOk, map};
-ghost use Rattle.hm_types.specs.Checks.{Trees};
-ghost use Rattle.hm_replica.specs.Replicas.{replica_value, typed_value, IsTyped, IsReplica, Opens, Closes};
+ghost use Rattle.hm_schema.specs.Membership.{IsMemberTree};
+ghost use Rattle.hm_replica.specs.Replicas.{replica_value, typed_value, IsFitting, IsReplica, Opens, Closes};
 
 use crate::base::Base;
 use crate::boxed::{laws, read};
 use hm_eval::{get, get_owned, is_oblivious};
 use hm_format::{Format, FormatFault};
+use hm_terms::Typed;
 use hm_text_lens::TextLens;
 use hm_tree::{Memory, Tree};
-use hm_types::Typed;
 use std::alloc::Global;
 
 /// A file, the tree that it is read as, and what a program shows of that.
@@ -32,7 +32,7 @@ impl Replica {
         texts: &[Box<dyn TextLens>],
         bytes: Vec<u8>,
     ) -> Result<Replica, FormatFault>
-        requires { IsTyped (means format.now) (map (λ b. meaning b) texts.now) (typed_value typed.now) }
+        requires { IsFitting (means format.now) (map (λ b. meaning b) texts.now) (typed_value typed.now) }
         ensures { Opens (means format.now) (map (λ b. meaning b) texts.now) (typed_value typed.now) bytes.items result }
     {
         laws(format);
@@ -102,9 +102,9 @@ impl Replica {
         texts: &[Box<dyn TextLens>],
         shown: Tree,
     ) -> Result<Vec<u8>, FormatFault>
-        requires typed { IsTyped (means format.now) (map (λ b. meaning b) texts.now) (typed_value typed.now) }
+        requires typed { IsFitting (means format.now) (map (λ b. meaning b) texts.now) (typed_value typed.now) }
         requires replica { IsReplica (means format.now) (map (λ b. meaning b) texts.now) (typed_value typed.now) (replica_value self) }
-        requires member { Trees typed.now.view shown }
+        requires member { IsMemberTree typed.now.view shown }
         ensures { Closes (means format.now) (map (λ b. meaning b) texts.now) (typed_value typed.now) (replica_value self) shown result }
     {
         laws(format);

@@ -5,7 +5,7 @@ use Rattle.std.specs.List.{flat_map}
 use Rattle.hm_tree.specs.Names.{Name}
 use Rattle.hm_tree.specs.Nodes.{Shape, bare, edge}
 use Rattle.hm_tree.specs.Sets.{ascending}
-use Rattle.hm_spelling.specs.Spelling.{path_text}
+use Rattle.hm_tree_spelling.specs.Spelling.{path_text}
 use Rattle.hm_tree_text.specs.Text.{text, whole}
 use Rattle.hm_schema.specs.Values.{Names}
 use Rattle.hm_report.specs.declared.conflict.Conflict.{Conflict}

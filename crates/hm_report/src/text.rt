@@ -5,8 +5,8 @@ ghost use Rattle.hm_tree_text.specs.Text.{text as text_of, whole};
 ghost use Rattle.hm_report.specs.Text.{over_empty, set_text, why_text, conflict_line, number_line, line_feed, report_text};
 
 use crate::conflict::{Conflict, Why};
-use hm_spelling::{append_path, append_spelled};
 use hm_tree::{Memory, Name, NameSet};
+use hm_tree_spelling::{append_path, append_spelled};
 use std::alloc::Global;
 
 /// The report of these conflicts: a line for each, in their order, and one with their number.

@@ -8,32 +8,32 @@ use Rattle.hm_outside.specs.declared.outside.Kind.{Kind}
 use Rattle.hm_outside.specs.declared.outside.Put.{Put}
 use Rattle.hm_outside.specs.declared.outside.Put.TheVariants as put
 use Rattle.hm_outside.proofs.Risen.{not_risen}
-use Rattle.hm_files.specs.declared.slot.Slot.{Slot}
-use Rattle.hm_files.specs.declared.slot.Slot.TheVariants.{A as ASlot, B as BSlot}
-use Rattle.hm_files.specs.declared.stop.Refusal.{Refusal}
-use Rattle.hm_files.specs.declared.stop.Refusal.TheVariants.{Usage, SameName, At}
-use Rattle.hm_files.specs.declared.stop.Stop.{Stop}
-use Rattle.hm_files.specs.declared.stop.Stop.TheVariants.{Refused, Fault, Memory}
-use Rattle.hm_files.specs.Steps.{WhereTold, stops}
-use Rattle.hm_files.proofs.Steps.{ok_is, then_ok}
-use Rattle.hm_command.specs.declared.ending.Ending.{Ending}
-use Rattle.hm_command.specs.declared.ending.Output.{Output}
-use Rattle.hm_command.specs.Words.{FileNames, meaning}
-use Rattle.hm_command.specs.Lines.{put_status, status_of, refusal_status}
+use Rattle.hm_run_files.specs.declared.slot.Slot.{Slot}
+use Rattle.hm_run_files.specs.declared.slot.Slot.TheVariants.{A as ASlot, B as BSlot}
+use Rattle.hm_run_files.specs.declared.stop.Refusal.{Refusal}
+use Rattle.hm_run_files.specs.declared.stop.Refusal.TheVariants.{Usage, SameName, At}
+use Rattle.hm_run_files.specs.declared.stop.Stop.{Stop}
+use Rattle.hm_run_files.specs.declared.stop.Stop.TheVariants.{Refused, Fault, Memory}
+use Rattle.hm_run_files.specs.Steps.{WhereTold, stops}
+use Rattle.hm_run_files.proofs.Steps.{ok_is, then_ok}
+use Rattle.hm_run_words.specs.declared.ending.Ending.{Ending}
+use Rattle.hm_run_words.specs.declared.ending.Output.{Output}
+use Rattle.hm_run_words.specs.Words.{FileNames, meaning}
+use Rattle.hm_run_words.specs.Lines.{put_status, status_of, refusal_status}
 use Rattle.hm_tree_text.specs.Text.{archive_text}
 use Rattle.hm_tree_text.specs.Reads.{ReadsArchive}
 use Rattle.hm_tree_text.proofs.TextUtf8.{archive_text_utf8}
 use Rattle.hm_outcome.proofs.Apart.{marks_differ}
 use Rattle.hm_outcome.proofs.Best.{outcome_maximal, outcome_only}
 use Rattle.hm_report.proofs.Explained.{explained}
-use Rattle.hm_sides.specs.SideReplicas.{ClosesOn}
-use Rattle.hm_sync.specs.Handed.{Handed}
-use Rattle.hm_sync.specs.Verdict.{Texts, Becomes, Closes, Plan, Plans, PlansFrom, VerdictOf, Verdict, conflicts_status, old_trio, new_trio}
+use Rattle.hm_run_sides.specs.SideReplicas.{ClosesOn}
+use Rattle.hm_run_sync.specs.Handed.{Handed}
+use Rattle.hm_run_sync.specs.Verdict.{Texts, Becomes, Closes, Plan, Plans, PlansFrom, VerdictOf, Verdict, conflicts_status, old_trio, new_trio}
 use Rattle.hm_run.specs.Endings.{IsDone, Works, Outside, HasPut, EndsAs, AreWritten, IsSynchronised, IsReported, IsCarriedOut, IsComplete}
-use Rattle.hm_sync.specs.Reads.{AreOpened}
-use Rattle.hm_sync.proofs.ArchiveDepths.{fits_shallow}
-use Rattle.hm_sync.proofs.Opened.{all_opened}
-use Rattle.hm_sync.proofs.Once.{verdict_once}
+use Rattle.hm_run_sync.specs.Reads.{AreOpened}
+use Rattle.hm_run_sync.proofs.ArchiveDepths.{fits_shallow}
+use Rattle.hm_run_sync.proofs.Opened.{all_opened}
+use Rattle.hm_run_sync.proofs.Once.{verdict_once}
 
 -- ---- what a plan begins with, and comes to
 

@@ -3,17 +3,17 @@ use Rattle.std.proofs.Common.{◌≡◌, inl, inr, ℕ, List, [], take, Option, 
 use Rattle.hm_outside.specs.Contents.{Contents}
 use Rattle.hm_outside.specs.declared.outside.Failure.{Failure}
 use Rattle.hm_outside.specs.declared.outside.Kind.{Kind}
-use Rattle.hm_files.specs.declared.slot.Slot.{Slot}
-use Rattle.hm_files.specs.declared.stop.Refusal.{Refusal}
-use Rattle.hm_files.specs.declared.stop.Stop.{Stop}
-use Rattle.hm_files.specs.declared.stop.Stop.TheVariants.{Memory}
-use Rattle.hm_files.specs.Steps.{Stopped, Leaves, WhereTold, stops, goes_on}
-use Rattle.hm_files.specs.Files.{New, loads, written, AreUnread, AreUnwritten}
-use Rattle.hm_files.proofs.Steps.{stopped}
-use Rattle.hm_command.specs.declared.ending.Output.{Output}
-use Rattle.hm_command.specs.Words.{FileNames, slots}
-use Rattle.hm_sync.specs.Handed.{Handed}
-use Rattle.hm_sync.specs.Verdict.{Plan, PlansFrom, VerdictOf, news_of, IsPlanned}
+use Rattle.hm_run_files.specs.declared.slot.Slot.{Slot}
+use Rattle.hm_run_files.specs.declared.stop.Refusal.{Refusal}
+use Rattle.hm_run_files.specs.declared.stop.Stop.{Stop}
+use Rattle.hm_run_files.specs.declared.stop.Stop.TheVariants.{Memory}
+use Rattle.hm_run_files.specs.Steps.{Stopped, Leaves, WhereTold, stops, goes_on}
+use Rattle.hm_run_files.specs.Files.{New, loads, written, AreUnread, AreUnwritten}
+use Rattle.hm_run_files.proofs.Steps.{stopped}
+use Rattle.hm_run_words.specs.declared.ending.Output.{Output}
+use Rattle.hm_run_words.specs.Words.{FileNames, slots}
+use Rattle.hm_run_sync.specs.Handed.{Handed}
+use Rattle.hm_run_sync.specs.Verdict.{Plan, PlansFrom, VerdictOf, news_of, IsPlanned}
 use Rattle.hm_run.specs.Endings.{Synchronises, IsFault, IsStopState, IsDone, Works}
 
 loads_first : (h : Handed) (files : FileNames) (c : Contents) (refusal : Refusal) → loads c (slots files) ≡ Err refusal → VerdictOf h c (Ok files) (Err refusal)

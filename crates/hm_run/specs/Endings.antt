@@ -17,20 +17,20 @@ use Rattle.hm_outside.specs.declared.outside.Failure.{Failure}
 use Rattle.hm_outside.specs.declared.outside.Kind.{Kind}
 use Rattle.hm_outside.specs.declared.outside.Put.{Put}
 use Rattle.hm_outside.specs.declared.outside.Put.TheVariants as put
-use Rattle.hm_files.specs.declared.slot.Slot.{Slot}
-use Rattle.hm_files.specs.declared.stop.Refusal.{Refusal}
-use Rattle.hm_files.specs.declared.stop.Stop.{Stop}
-use Rattle.hm_files.specs.declared.stop.Stop.TheVariants.{Refused, Memory}
-use Rattle.hm_files.specs.Steps.{WhereTold, Did}
-use Rattle.hm_files.specs.Files.{AreUnread, AreUnwritten}
-use Rattle.hm_command.specs.declared.ending.Output.{Output}
-use Rattle.hm_command.specs.declared.ending.Ending.{Ending}
-use Rattle.hm_command.specs.Words.{FileNames, slots, meaning}
-use Rattle.hm_command.specs.Lines.{output_of, refusal_status}
-use Rattle.hm_sides.specs.Formats.{HasFormat}
-use Rattle.hm_sides.specs.Sides.{SideValue}
-use Rattle.hm_sync.specs.Handed.{Handed}
-use Rattle.hm_sync.specs.Verdict.{Plan, Verdict, VerdictOf, IsReport, news_of, stop_state, TellsConflicts, old_trio, new_trio}
+use Rattle.hm_run_files.specs.declared.slot.Slot.{Slot}
+use Rattle.hm_run_files.specs.declared.stop.Refusal.{Refusal}
+use Rattle.hm_run_files.specs.declared.stop.Stop.{Stop}
+use Rattle.hm_run_files.specs.declared.stop.Stop.TheVariants.{Refused, Memory}
+use Rattle.hm_run_files.specs.Steps.{WhereTold, Did}
+use Rattle.hm_run_files.specs.Files.{AreUnread, AreUnwritten}
+use Rattle.hm_run_words.specs.declared.ending.Output.{Output}
+use Rattle.hm_run_words.specs.declared.ending.Ending.{Ending}
+use Rattle.hm_run_words.specs.Words.{FileNames, slots, meaning}
+use Rattle.hm_run_words.specs.Lines.{output_of, refusal_status}
+use Rattle.hm_run_sides.specs.Formats.{HasFormat}
+use Rattle.hm_run_sides.specs.Sides.{SideValue}
+use Rattle.hm_run_sync.specs.Handed.{Handed}
+use Rattle.hm_run_sync.specs.Verdict.{Plan, Verdict, VerdictOf, IsReport, news_of, stop_state, TellsConflicts, old_trio, new_trio}
 
 -- ---- what the work came to before its output is put, by what the words mean
 

@@ -1,17 +1,17 @@
 //! The top call.
 ghost use Rattle.std.specs.Prelude.{◌≡◌, ◌⊎◌, Some, map};
-ghost use Rattle.hm_files.specs.Steps.{WhereTold};
-ghost use Rattle.hm_command.specs.declared.ending.Ending.{Ending as EndingOf};
-ghost use Rattle.hm_command.specs.Words.{meaning as word_meaning};
-ghost use Rattle.hm_command.specs.Lines.{status_of};
-ghost use Rattle.hm_sync.specs.Handed.{handed};
+ghost use Rattle.hm_run_files.specs.Steps.{WhereTold};
+ghost use Rattle.hm_run_words.specs.declared.ending.Ending.{Ending as EndingOf};
+ghost use Rattle.hm_run_words.specs.Words.{meaning as word_meaning};
+ghost use Rattle.hm_run_words.specs.Lines.{status_of};
+ghost use Rattle.hm_run_sync.specs.Handed.{handed};
 ghost use Rattle.hm_run.specs.Endings.{Works, HasPut, EndsAs, IsSynchronised, IsReported, IsComplete};
 
 use crate::work::synchronise;
-use hm_command::{Ending, Output, files_of, line_of, status_of};
-use hm_files::Stop;
 use hm_format::Format;
 use hm_outside::{Put, Sink, Store};
+use hm_run_files::Stop;
+use hm_run_words::{Ending, Output, files_of, line_of, status_of};
 use hm_text_lens::TextLens;
 use hm_tree::Name;
 use std::alloc::Global;

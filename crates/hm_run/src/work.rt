@@ -1,14 +1,14 @@
 //! The work of a run: files are loaded, reconciled and written anew.
 ghost use Rattle.std.specs.Prelude.{Ok, map};
-ghost use Rattle.hm_command.specs.Words.{names};
-ghost use Rattle.hm_sync.specs.Handed.{handed};
+ghost use Rattle.hm_run_words.specs.Words.{names};
+ghost use Rattle.hm_run_sync.specs.Handed.{handed};
 ghost use Rattle.hm_run.specs.Endings.{Works};
 
-use hm_command::{Files, Output};
-use hm_files::{Stop, load_all, write_all};
 use hm_format::Format;
 use hm_outside::Store;
-use hm_sync::plan;
+use hm_run_files::{Stop, load_all, write_all};
+use hm_run_sync::plan;
+use hm_run_words::{Files, Output};
 use hm_text_lens::TextLens;
 use std::alloc::Global;
 

@@ -8,11 +8,11 @@ use Rattle.hm_safety.specs.Views.{Views, Agree}
 abbrev pub HasChanged : View → View → Path → Type 0
 HasChanged archive replica p = ¬ (Agree (archive p) (replica p))
 
--- at p or below it the replica has a path that isn't present in the archive
+-- at p or below it the replica has a path that the archive doesn't have, or that is marked there
 abbrev pub HasNews : View → View → Path → Type 0
 HasNews archive replica p = (r : Path) × Has replica (p ++ r) × (archive (p ++ r) ≢ Present)
 
--- one side deleted p, while the other has news there
+-- one side deleted p, which the archive has or marks, while the other has news there
 pub record IsLost (archive keeper other : View) (p : Path) : Type 0 where
   pub has : Has keeper p
   pub lacks : Lacks other p

@@ -11,16 +11,17 @@ pub record IsTopmostMark (archive : View) (p : Path) : Type 0 where
   pub topmost : (q r : Path) → p ≡ q ++ r → r ≢ [] → archive q ≢ Marked
 
 pub record IsSafe (before after : Views) : Type 0 where
-  -- keep: where a side has changed, it stays as it is
+  -- keep: where a side had changed, it is as it was
   pub keeps_left : (p : Path) → HasChanged before.archive before.left p → after.left p ≡ before.left p
   pub keeps_right : (p : Path) → HasChanged before.archive before.right p → after.right p ≡ before.right p
-  -- nothing made up: what is new on a side is as the other side has it
+  -- nothing made up: where a side is not as it was, it is as the other side was
   pub left_from_right : (p : Path) → after.left p ≢ before.left p → after.left p ≡ before.right p
   pub right_from_left : (p : Path) → after.right p ≢ before.right p → after.right p ≡ before.left p
-  -- agree or stop: the three have the same state, or the archive is marked
+  -- agree or stop: the new archive is marked, or it and both new sides have the same state
   pub agrees_or_stops : (p : Path) → (after.archive p ≡ Marked) ⊎ ((after.archive p ≡ after.left p) × (after.archive p ≡ after.right p))
-  -- a stop leaves things
+  -- a stop leaves things: where the new archive is marked, both sides are as they were
   pub stop_leaves_left : (p : Path) → after.archive p ≡ Marked → after.left p ≡ before.left p
   pub stop_leaves_right : (p : Path) → after.archive p ≡ Marked → after.right p ≡ before.right p
-  -- a topmost mark stands where both sides have the path, or at a clash: a node's names are carried all or none
+  -- a topmost mark of the new archive stands where both sides had the path, or at a clash: what one side alone had is taken over
+  -- or taken out, unless it clashes or stands below a mark
   pub stops_at : (p : Path) → IsTopmostMark after.archive p → (Has before.left p × Has before.right p) ⊎ Clash before p

@@ -6,12 +6,12 @@ use Rattle.hm_schema.specs.declared.node.NodeId.{NodeId}
 use Rattle.hm_schema.specs.declared.node.Node.{Node}
 use Rattle.hm_schema.specs.Values.{SchemaValue, node_value, schema_value}
 use Rattle.hm_schema.specs.WellFormed.{IsWellFormed}
-use Rattle.hm_node_lines.specs.declared.entry.Entry.{Entry}
-use Rattle.hm_node_lines.specs.Entries.{entry_value, entry_values, AreEntries}
-use Rattle.hm_node_lines.specs.BadLines.{is_counted}
-use Rattle.hm_node_lines.specs.FirstBad.{HasNoBad, IsTold, behind_all}
-use Rattle.hm_node_lines.specs.Nodes.{IsPlaceOf, AreNodesOf}
-use Rattle.hm_node_lines.proofs.Laws.{nodes_formed, own_in_range}
+use Rattle.hm_schema_lines.specs.declared.entry.Entry.{Entry}
+use Rattle.hm_schema_lines.specs.Entries.{entry_value, entry_values, AreEntries}
+use Rattle.hm_schema_lines.specs.BadLines.{is_counted}
+use Rattle.hm_schema_lines.specs.FirstBad.{HasNoBad, IsTold, behind_all}
+use Rattle.hm_schema_lines.specs.Nodes.{IsPlaceOf, AreNodesOf}
+use Rattle.hm_schema_lines.proofs.Laws.{nodes_formed, own_in_range}
 use Rattle.hm_schema_text.specs.Head.{NamesRoot}
 use Rattle.hm_schema_text.specs.BadLines.{IsBadLine, of_node, IsFirstBadLine}
 use Rattle.hm_schema_text.specs.SchemaFiles.{IsSchemaFile}

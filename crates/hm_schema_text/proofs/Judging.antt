@@ -8,14 +8,14 @@ use Rattle.std.proofs.lemmas.Option.{slice_get_within, get_or_from_slice_get}
 use Rattle.std.proofs.lemmas.List.Sums.{count_by_more_yes, count_by_more_no}
 use Rattle.std.proofs.lemmas.Slice.Zip.{AllZip-right}
 use Rattle.hm_tree.specs.Names.{Name}
-use Rattle.hm_node_lines.specs.declared.token.Token.{Token}
-use Rattle.hm_node_lines.specs.declared.token.Token.TheVariants.{Word}
-use Rattle.hm_node_lines.specs.Tokens.{Spaced}
-use Rattle.hm_node_lines.specs.NodeLines.{NodeLineValue}
-use Rattle.hm_node_lines.specs.Entries.{EntryValue, unknown, says, IsEntry, texts_of, AreEntries}
-use Rattle.hm_node_lines.specs.BadLines.{is_counted, lines_before, Says, IsNode, IsBadNodeLine}
-use Rattle.hm_node_lines.specs.FirstBad.{HasNoBad}
-use Rattle.hm_node_lines.proofs.Laws.{begins, first_letter, spaced_one, bad_says, is_node}
+use Rattle.hm_schema_lines.specs.declared.token.Token.{Token}
+use Rattle.hm_schema_lines.specs.declared.token.Token.TheVariants.{Word}
+use Rattle.hm_schema_lines.specs.Tokens.{Spaced}
+use Rattle.hm_schema_lines.specs.NodeLines.{NodeLineValue}
+use Rattle.hm_schema_lines.specs.Entries.{EntryValue, unknown, says, IsEntry, texts_of, AreEntries}
+use Rattle.hm_schema_lines.specs.BadLines.{is_counted, lines_before, Says, IsNode, IsBadNodeLine}
+use Rattle.hm_schema_lines.specs.FirstBad.{HasNoBad}
+use Rattle.hm_schema_lines.proofs.Laws.{begins, first_letter, spaced_one, bad_says, is_node}
 use Rattle.hm_schema_text.specs.Head.{IsRoot, IsHeaderAt, IsRootAt, IsNth, IsReadRoot, NamesRoot}
 use Rattle.hm_schema_text.specs.BadLines.{IsBadLine, no_header, no_root, names_no_node, unreadable, of_node}
 

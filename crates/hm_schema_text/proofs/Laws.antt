@@ -3,11 +3,11 @@ use Rattle.std.proofs.Common.{◌≡◌, ℕ, ◌<◌, List, [], ◌∷◌, leng
 use Rattle.hm_tree.specs.Names.{Name}
 use Rattle.hm_schema.specs.Values.{SchemaValue}
 use Rattle.hm_schema.specs.Membership.{HasNoTwins}
-use Rattle.hm_node_lines.specs.Entries.{EntryValue}
-use Rattle.hm_node_lines.specs.BadLines.{is_counted}
-use Rattle.hm_node_lines.specs.FirstBad.{IsTold, at, behind_all}
-use Rattle.hm_node_lines.specs.Nodes.{IsPlaceOf, AreNodesOf}
-use Rattle.hm_node_lines.proofs.Laws.{entries_once, more_before, counted_below, nodes_once, place_once, no_twins, told_once}
+use Rattle.hm_schema_lines.specs.Entries.{EntryValue}
+use Rattle.hm_schema_lines.specs.BadLines.{is_counted}
+use Rattle.hm_schema_lines.specs.FirstBad.{IsTold, at, behind_all}
+use Rattle.hm_schema_lines.specs.Nodes.{IsPlaceOf, AreNodesOf}
+use Rattle.hm_schema_lines.proofs.Laws.{entries_once, more_before, counted_below, nodes_once, place_once, no_twins, told_once}
 use Rattle.hm_schema_text.specs.Head.{IsNth, NamesRoot, IsRootAt}
 use Rattle.hm_schema_text.specs.BadLines.{IsBadLine, of_node, IsFirstBadLine}
 use Rattle.hm_schema_text.specs.SchemaFiles.{IsSchemaFile, ReadsSchema}

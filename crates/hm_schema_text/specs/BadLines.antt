@@ -1,9 +1,9 @@
 -- Which lines of a schema file are bad, and which is told.
 use Rattle.std.specs.Prelude.{◌≡◌, ℕ, ◌<◌, ◌≤◌, List, length, slice_get, count_by, Some}
 use Rattle.hm_tree.specs.Names.{Name}
-use Rattle.hm_node_lines.specs.Entries.{EntryValue, unknown, AreEntries}
-use Rattle.hm_node_lines.specs.BadLines.{is_counted, lines_before, IsNode, IsBadNodeLine}
-use Rattle.hm_node_lines.specs.FirstBad.{IsTold}
+use Rattle.hm_schema_lines.specs.Entries.{EntryValue, unknown, AreEntries}
+use Rattle.hm_schema_lines.specs.BadLines.{is_counted, lines_before, IsNode, IsBadNodeLine}
+use Rattle.hm_schema_lines.specs.FirstBad.{IsTold}
 use Rattle.hm_schema_text.specs.Head.{IsHeaderAt, IsRootAt, IsNth}
 
 pub data IsBadLine (bytes : List ℕ) (es : List EntryValue) (i : ℕ) : Type 0 where

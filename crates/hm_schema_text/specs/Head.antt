@@ -1,10 +1,10 @@
 -- The head of a schema file: the first two of its lines that aren't skipped.
 use Rattle.std.specs.Prelude.{◌≡◌, ℕ, true, List, [], ◌∷◌, codes, slice_get, Option, Some, None}
 use Rattle.hm_tree.specs.Names.{Name}
-use Rattle.hm_node_lines.specs.declared.token.Token.TheVariants.{Word}
-use Rattle.hm_node_lines.specs.Tokens.{Spaced}
-use Rattle.hm_node_lines.specs.Entries.{EntryValue, texts_of}
-use Rattle.hm_node_lines.specs.BadLines.{is_counted, lines_before}
+use Rattle.hm_schema_lines.specs.declared.token.Token.TheVariants.{Word}
+use Rattle.hm_schema_lines.specs.Tokens.{Spaced}
+use Rattle.hm_schema_lines.specs.Entries.{EntryValue, texts_of}
+use Rattle.hm_schema_lines.specs.BadLines.{is_counted, lines_before}
 
 -- `harmony schema 1`
 abbrev pub IsHeader : List ℕ → Type 0

@@ -2,9 +2,9 @@
 use Rattle.std.specs.Prelude.{ℕ, List, [], ◌∷◌, Result, Ok, Err}
 use Rattle.hm_tree.specs.Names.{Name}
 use Rattle.hm_schema.specs.Values.{SchemaValue}
-use Rattle.hm_node_lines.specs.Entries.{EntryValue, AreEntries}
-use Rattle.hm_node_lines.specs.FirstBad.{HasNoBad}
-use Rattle.hm_node_lines.specs.Nodes.{IsPlaceOf, AreNodesOf}
+use Rattle.hm_schema_lines.specs.Entries.{EntryValue, AreEntries}
+use Rattle.hm_schema_lines.specs.FirstBad.{HasNoBad}
+use Rattle.hm_schema_lines.specs.Nodes.{IsPlaceOf, AreNodesOf}
 use Rattle.hm_schema_text.specs.Head.{NamesRoot}
 use Rattle.hm_schema_text.specs.BadLines.{IsBadLine, IsFirstBadLine}
 use Rattle.hm_schema_text.specs.declared.fault.SchemaFault.{SchemaFault}

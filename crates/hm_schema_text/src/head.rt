@@ -1,13 +1,13 @@
 //! The head of a schema file: the first two of its lines that aren't skipped.
 ghost use Rattle.std.specs.Prelude.{◌≡◌, ◌↔◌, ◌∷◌, ◌<◌, [], IsTrue, IfOk, MatchOption, codes, count_by, option_copied, slice_get};
 ghost use Rattle.hm_tree.specs.Names.{Name};
-ghost use Rattle.hm_node_lines.specs.declared.token.Token.TheVariants.{Word};
-ghost use Rattle.hm_node_lines.specs.Entries.{texts_of, entry_values};
-ghost use Rattle.hm_node_lines.specs.BadLines.{is_counted};
+ghost use Rattle.hm_schema_lines.specs.declared.token.Token.TheVariants.{Word};
+ghost use Rattle.hm_schema_lines.specs.Entries.{texts_of, entry_values};
+ghost use Rattle.hm_schema_lines.specs.BadLines.{is_counted};
 ghost use Rattle.hm_schema_text.specs.Head.{IsHeader, IsRoot, IsHeaderAt, IsRootAt, IsNth, IsReadRoot};
 
 use bstr::ByteSlice;
-use hm_node_lines::{Entry, Token, is_counted, lone_word, read_tokens};
+use hm_schema_lines::{Entry, Token, is_counted, lone_word, read_tokens};
 use hm_tree::{Memory, Name};
 use std::alloc::Global;
 use std::collections::VecDeque;

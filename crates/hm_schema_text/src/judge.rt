@@ -1,15 +1,15 @@
 //! The first bad line of a schema file, and the root of one that has none.
 ghost use Rattle.std.specs.Prelude.{◌↔◌, ◌<◌, IsTrue, IfOk, MatchOption, count_by, length, Some};
-ghost use Rattle.hm_node_lines.specs.Entries.{entry_values, AreEntries};
-ghost use Rattle.hm_node_lines.specs.BadLines.{is_counted, IsNode};
-ghost use Rattle.hm_node_lines.specs.FirstBad.{HasNoBad, IsFirstBad};
-ghost use Rattle.hm_node_lines.specs.Firsts.{AreFirsts, node_names};
-ghost use Rattle.hm_node_lines.specs.Judging.{IsKnown, lines_of};
+ghost use Rattle.hm_schema_lines.specs.Entries.{entry_values, AreEntries};
+ghost use Rattle.hm_schema_lines.specs.BadLines.{is_counted, IsNode};
+ghost use Rattle.hm_schema_lines.specs.FirstBad.{HasNoBad, IsFirstBad};
+ghost use Rattle.hm_schema_lines.specs.Firsts.{AreFirsts, node_names};
+ghost use Rattle.hm_schema_lines.specs.Judging.{IsKnown, lines_of};
 ghost use Rattle.hm_schema_text.specs.Head.{IsNth, NamesRoot};
 ghost use Rattle.hm_schema_text.specs.BadLines.{IsBadLine};
 
 use crate::head::{is_header_at, root_at, second_line};
-use hm_node_lines::{
+use hm_schema_lines::{
     Before, Entry, Line, is_bad_line, is_counted, is_node, read_section, section_at,
 };
 use hm_tree::{Memory, Name};

@@ -5,8 +5,8 @@ ghost use Rattle.hm_schema_text.specs.SchemaFiles.{ReadsSchema};
 
 use crate::fault::SchemaFault;
 use crate::judge::{find_root, first_bad};
-use hm_node_lines::{build_nodes, declared_nodes, node_of, read_entries};
 use hm_schema::Schema;
+use hm_schema_lines::{build_nodes, declared_nodes, node_of, read_entries};
 use std::alloc::Global;
 
 /// The schema of a file, or its first bad line.

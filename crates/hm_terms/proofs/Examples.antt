@@ -14,11 +14,14 @@ use Rattle.hm_tree.proofs.Sorted.{name_total}
 use Rattle.hm_schema.specs.Values.{Names}
 use Rattle.hm_terms.specs.Lenses.{Lens, Lenses, identity, sequence, constant, hoist, plunge, fork, each, among, also, items, copy, merge, on_concrete, on_view, call, lens_at, Setting, DefinitionValue}
 use Rattle.hm_tree.specs.Parts.{part, Joins}
-use Rattle.hm_terms.specs.Parts.{IsEdge, IsNil, IsItem, IsList, no_items, an_item}
+use Rattle.hm_tree_parts.specs.Edges.{IsEdge}
+use Rattle.hm_tree_parts.specs.Lists.{IsNil, IsItem, IsList, no_items, an_item}
 use Rattle.hm_terms.specs.Shown.{Shows, by_identity, by_sequence, by_hoist, by_plunge, by_fork, by_merge, by_concrete_has, by_view_has, by_view_none, by_call}
-use Rattle.hm_terms.specs.Put.{Puts, shown_before, put_identity, put_sequence, put_constant, put_hoist, put_plunge, put_fork, put_copy, put_merge, put_items_none, put_items_more, put_each, put_among, put_concrete_has, put_concrete_none, put_view_has, put_view_none, of_same, of_other}
+use Rattle.hm_terms.specs.Put.{Puts, shown_before, put_identity, put_sequence, put_constant, put_hoist, put_plunge, put_fork, put_copy, put_merge, put_items_none, put_items_more, put_each, put_among, put_concrete_has, put_concrete_none, put_view_has, put_view_none}
+use Rattle.hm_tree_parts.specs.Twins.{of_same, of_other}
 use Rattle.hm_terms.specs.Kept.{Keeps, keeps_constant, keeps_merge_same, keeps_merge_other}
-use Rattle.hm_terms.proofs.Maps.{edges-part, below-head, below-tail}
+use Rattle.hm_tree.proofs.Parted.{edges-part}
+use Rattle.hm_tree_parts.proofs.OneList.{below-head, below-tail}
 
 module _ (S : Setting) where
   -- ---- a name is exchanged for another, `xfork({a},{b},hoist(a);plunge(b),id)`, in a tree of a and d

@@ -10,10 +10,12 @@ use Rattle.hm_schema.specs.Values.{Names}
 use Rattle.hm_text_lens.specs.Meanings.{TextMeaning}
 use Rattle.hm_text_lens.specs.Naming.{first_named}
 use Rattle.hm_terms.specs.Lenses.{Lens, Lenses, sequence, fork, each, among, items, on_concrete, on_view, text, call, lens_at, Setting, body_of}
-use Rattle.hm_terms.specs.Parts.{IsItem, IsValue}
+use Rattle.hm_tree_parts.specs.Lists.{IsItem}
+use Rattle.hm_tree_parts.specs.Edges.{IsValue}
 use Rattle.hm_terms.specs.Shown.{Shows}
 use Rattle.hm_terms.specs.Kept.{Keeps, keeps_sequence, keeps_fork, keeps_each, keeps_among, keeps_items_from_none, keeps_items_to_none, keeps_items_more, keeps_concrete_has, keeps_concrete_none, keeps_view_has, keeps_view_none, keeps_view_in, keeps_view_out, keeps_text, keeps_call}
-use Rattle.hm_terms.proofs.Maps.{nil_item, one_head, one_tail, one_value}
+use Rattle.hm_tree_parts.proofs.OneList.{nil_item, one_head, one_tail}
+use Rattle.hm_tree_parts.proofs.OneEdge.{one_value}
 use Rattle.hm_terms.proofs.OneShown.{one_shown}
 
 module _ (S : Setting) where

@@ -9,7 +9,7 @@ use Rattle.hm_tree.specs.NodeLaws.{edges-node, edges_are}
 use Rattle.hm_text_lens.specs.Meanings.{TextMeaning, IsLawful, IsFrom, IsInto, IsBefore}
 use Rattle.hm_terms.specs.Lenses.{Lens, identity, sequence, constant, hoist, plunge, text, Setting}
 use Rattle.hm_text_lens.specs.Naming.{first_named}
-use Rattle.hm_terms.specs.Parts.{IsEdge, IsValue, ValueIn}
+use Rattle.hm_tree_parts.specs.Edges.{IsEdge, IsValue, ValueIn}
 use Rattle.hm_terms.specs.Shown.{Shows, by_identity, by_sequence, by_constant, by_hoist, by_plunge, by_text}
 use Rattle.hm_terms.specs.Put.{ShowsBefore, none_before, shown_before, before_or, Puts, put_identity, put_sequence, put_constant, put_hoist, put_plunge, ValueBefore, no_value_before, value_before, put_text}
 use Rattle.hm_terms.specs.Kept.{Keeps, keeps_identity, keeps_sequence, keeps_constant, keeps_hoist, keeps_plunge, keeps_text}

@@ -7,9 +7,14 @@ use Rattle.hm_tree.specs.Names.{Name}
 use Rattle.hm_text_lens.specs.Meanings.{TextMeaning}
 use Rattle.hm_terms.specs.Lenses.{Lens, items, Setting}
 use Rattle.hm_tree.specs.Parts.{Joins}
-use Rattle.hm_terms.specs.Parts.{IsItem, IsValue, head, tail}
-use Rattle.hm_terms.specs.Put.{ShowsBefore, none_before, shown_before, MergedFrom, of_none, of_same, of_other, ValueBefore, no_value_before, value_before, Puts, put_identity, put_sequence, put_constant, put_hoist, put_plunge, put_fork, put_each, put_among, put_call, put_copy, put_merge, put_text, put_items_none, put_items_more, put_concrete_has, put_concrete_none, put_view_has, put_view_none}
-use Rattle.hm_terms.proofs.Maps.{same_each, same_named, beside, one_edge, edge_one, joined_one, nil_one, item_one, one_head, one_tail, nil_item, one_value, same_value}
+use Rattle.hm_tree_parts.specs.Lists.{IsItem, head, tail}
+use Rattle.hm_tree_parts.specs.Edges.{IsValue}
+use Rattle.hm_terms.specs.Put.{ShowsBefore, none_before, shown_before, ValueBefore, no_value_before, value_before, Puts, put_identity, put_sequence, put_constant, put_hoist, put_plunge, put_fork, put_each, put_among, put_call, put_copy, put_merge, put_text, put_items_none, put_items_more, put_concrete_has, put_concrete_none, put_view_has, put_view_none}
+use Rattle.hm_tree_parts.specs.Twins.{MergedFrom, of_none, of_same, of_other}
+use Rattle.hm_tree_parts.proofs.Maps.{same_each, beside, joined_one}
+use Rattle.hm_terms.proofs.Maps.{same_named}
+use Rattle.hm_tree_parts.proofs.OneEdge.{one_edge, edge_one, one_value, same_value}
+use Rattle.hm_tree_parts.proofs.OneList.{nil_one, item_one, one_head, one_tail, nil_item}
 use Rattle.hm_terms.proofs.OneShown.{one_shown}
 
 -- one tree stands under the second of two merged names

@@ -4,9 +4,13 @@ use Rattle.std.proofs.lemmas.Option.{same_Some, none-some}
 use Rattle.hm_tree.specs.Nodes.{Tree, with_edge}
 use Rattle.hm_terms.specs.Lenses.{Lens, items, Setting}
 use Rattle.hm_tree.specs.Parts.{Joins}
-use Rattle.hm_terms.specs.Parts.{IsItem, IsValue}
+use Rattle.hm_tree_parts.specs.Lists.{IsItem}
+use Rattle.hm_tree_parts.specs.Edges.{IsValue}
 use Rattle.hm_terms.specs.Shown.{Shows, by_identity, by_sequence, by_constant, by_hoist, by_plunge, by_fork, by_each, by_among, by_call, by_copy, by_merge, by_text, by_items_none, by_items_more, by_concrete_has, by_concrete_none, by_view_has, by_view_none}
-use Rattle.hm_terms.proofs.Maps.{same_each, same_named, beside, one_edge, edge_one, joined_one, nil_one, item_one, one_head, one_tail, nil_item, one_value, same_value}
+use Rattle.hm_tree_parts.proofs.Maps.{same_each, beside, joined_one}
+use Rattle.hm_terms.proofs.Maps.{same_named}
+use Rattle.hm_tree_parts.proofs.OneEdge.{one_edge, edge_one, one_value, same_value}
+use Rattle.hm_tree_parts.proofs.OneList.{nil_one, item_one, one_head, one_tail, nil_item}
 
 module _ (S : Setting) where
   -- a lens shows at most one tree

@@ -11,10 +11,12 @@ use Rattle.hm_text_lens.specs.Meanings.{TextMeaning, IsFrom, IsInto}
 use Rattle.hm_text_lens.specs.Naming.{first_named}
 use Rattle.hm_terms.specs.Lenses.{Lens, hoist, plunge, fork, items, copy, merge, text, Setting}
 use Rattle.hm_tree.specs.Parts.{part, Joins}
-use Rattle.hm_terms.specs.Parts.{IsList, IsValue, no_items, an_item}
+use Rattle.hm_tree_parts.specs.Lists.{IsList, no_items, an_item}
+use Rattle.hm_tree_parts.specs.Edges.{IsValue}
 use Rattle.hm_terms.specs.Shown.{Shows, by_hoist, by_fork, by_items_none, by_items_more, by_copy, by_text}
-use Rattle.hm_terms.specs.Put.{Puts, put_plunge, put_fork, put_items_none, put_items_more, put_merge, put_text, value_before, of_same, of_other}
-use Rattle.hm_terms.proofs.Maps.{one_value}
+use Rattle.hm_terms.specs.Put.{Puts, put_plunge, put_fork, put_items_none, put_items_more, put_merge, put_text, value_before}
+use Rattle.hm_tree_parts.specs.Twins.{of_same, of_other}
+use Rattle.hm_tree_parts.proofs.OneEdge.{one_value}
 use Rattle.hm_terms.proofs.OneShown.{one_shown}
 use Rattle.hm_terms.proofs.OnePut.{one_put}
 

@@ -8,7 +8,8 @@ use Rattle.hm_text_lens.specs.Meanings.{TextMeaning}
 use Rattle.hm_terms.specs.Lenses.{Lens, Lenses, identity, sequence, constant, hoist, plunge, fork, each, among, copy, merge, items, on_concrete, on_view, text, call, lens_at, Setting, body_of}
 use Rattle.hm_text_lens.specs.Naming.{first_named}
 use Rattle.hm_tree.specs.Parts.{part}
-use Rattle.hm_terms.specs.Parts.{IsNil, IsItem, IsValue}
+use Rattle.hm_tree_parts.specs.Lists.{IsNil, IsItem}
+use Rattle.hm_tree_parts.specs.Edges.{IsValue}
 use Rattle.hm_terms.specs.Shown.{Shows}
 
 pub data Keeps (S : Setting) : Lens → Tree → Tree → Type 0 where

@@ -10,7 +10,10 @@ use Rattle.hm_text_lens.specs.Meanings.{TextMeaning, IsFrom, IsInto}
 use Rattle.hm_terms.specs.Lenses.{Lens, Lenses, identity, sequence, constant, hoist, plunge, fork, each, among, copy, merge, items, on_concrete, on_view, text, call, lens_at, Setting, body_of}
 use Rattle.hm_text_lens.specs.Naming.{first_named}
 use Rattle.hm_tree.specs.Parts.{part, Joins}
-use Rattle.hm_terms.specs.Parts.{names, IsEdge, IsNil, IsItem, IsList, IsValue, head, tail, with_name, without_name}
+use Rattle.hm_tree_parts.specs.Edges.{names, IsEdge, IsValue}
+use Rattle.hm_tree_parts.specs.Lists.{IsNil, IsItem, IsList, head, tail}
+use Rattle.hm_tree_parts.specs.Twins.{MergedFrom}
+use Rattle.hm_terms.specs.Before.{with_name, without_name}
 use Rattle.hm_terms.specs.Shown.{Shows}
 
 -- what a lens shows of the tree from before, where there is one
@@ -21,13 +24,6 @@ pub data ShowsBefore (S : Setting) (l : Lens) : Option Tree → Option Tree → 
 abbrev pub before_or : Tree → Option Tree → Tree
 before_or d None = d
 before_or d (Some b) = b
-
--- what is put under the second of two merged names, where x stands under the first in the view: x, or what stood there
--- before where that was another tree than under the first
-pub data MergedFrom (m n : Name) (x : Tree) : Option Tree → Tree → Type 0 where
-  of_none : MergedFrom m n x None x
-  of_same : {b z : Tree} → below m b ≡ Some z → below n b ≡ Some z → MergedFrom m n x (Some b) x
-  of_other : {b z w : Tree} → below m b ≡ Some z → below n b ≡ Some w → ¬ (z ≡ w) → MergedFrom m n x (Some b) w
 
 -- the text of the value from before, where there is one: it may be read by a text lens
 pub data ValueBefore (m : TextMeaning) : Option Tree → Option Name → Type 0 where

@@ -9,7 +9,8 @@ use Rattle.hm_text_lens.specs.Meanings.{TextMeaning, IsFrom}
 use Rattle.hm_terms.specs.Lenses.{Lens, Lenses, identity, sequence, constant, hoist, plunge, fork, each, among, copy, merge, items, on_concrete, on_view, text, call, lens_at, Setting, body_of}
 use Rattle.hm_text_lens.specs.Naming.{first_named}
 use Rattle.hm_tree.specs.Parts.{part, Joins}
-use Rattle.hm_terms.specs.Parts.{names, IsEdge, IsNil, IsItem, IsValue}
+use Rattle.hm_tree_parts.specs.Edges.{names, IsEdge, IsValue}
+use Rattle.hm_tree_parts.specs.Lists.{IsNil, IsItem}
 
 pub data Shows (S : Setting) : Lens → Tree → Tree → Type 0 where
   by_identity : {c : Tree} → Shows S identity c c

@@ -3,10 +3,12 @@ use Rattle.std.proofs.Common.{◌≡◌, ℕ, suc, true, false, not, IsTrue, Lis
 use Rattle.std.specs.Bool.{◌==◌}
 use Rattle.std.specs.List.{All, filter}
 use Rattle.std.proofs.lemmas.List.Elements.{All-cons}
-use Rattle.std.proofs.lemmas.Bool.{eqb-true, cases_Bool, true≢false, and_from, cond_both}
+use Rattle.std.proofs.lemmas.Bool.{eqb-true, cases_Bool, true≢false, and_from, cond_both, ne_eqb}
 use Rattle.hm_tree.specs.Names.{Name}
 use Rattle.hm_tree.specs.Cleaned.{is_kept, cleaned}
 use Rattle.hm_tree.proofs.LineEnds.{line_ends, has_no_return, line_ends_same, cleaned-line_ends}
+use Rattle.hm_tree.specs.Classes.{is_text, IsFilled}
+use Rattle.std.proofs.lemmas.List.Folds.{Any-from_list_any, list_any-from_Any}
 
 kept_no_return : (b : ℕ) → is_kept b ≡ true → not (b == 13) ≡ true
 kept_no_return b h = elim (cases_Bool (b == 13)) [
@@ -41,3 +43,20 @@ pub cleaned-cleaned : (t : Name) → cleaned (cleaned t) ≡ cleaned t
 cleaned-cleaned t = clean_from_kept (cleaned t) (subst (All (λ b. IsTrue (is_kept b))) (sym (cleaned-line_ends t)) (All_filtered (line_ends false t)))
 
 pub ruleset clean_laws = (clean_from_kept, kept_from_clean)
+
+-- ---- texts that may not be clean
+
+-- a clean text that isn't of spaces alone is Filled, and a Filled one is such a text
+pub filled_text : (t : Name) → cleaned t ≡ t → is_text t ≡ true → IsFilled t
+filled_text t clean e =
+    let one = Any-from_list_any (λ b. not (b == 32)) t e in
+    record {
+      clean = clean;
+      filled = (one.0, one.1, one.2, one.3, λ same. let t : (one.1 == 32) ≡ true = ap (λ b. b == 32) same in let bad : ⊥ = cc in bad);
+    }
+
+pub text_filled : (t : Name) → IsFilled t → is_text (cleaned t) ≡ true
+text_filled t filled =
+    ap is_text filled.clean
+    ∙ list_any-from_Any (λ b. not (b == 32)) t
+    (filled.filled.0, filled.filled.1, filled.filled.2, filled.filled.3, ap not (ne_eqb filled.filled.1 32 filled.filled.4))

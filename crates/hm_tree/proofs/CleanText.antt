@@ -35,7 +35,7 @@ ascii_step behind b t lt rest =
 
 -- ---- a character of more than one byte, none of which is ASCII
 
-not_low : (b c : ℕ) → 128 ≤ b → c < 128 → (b == c) ≡ false
+pub not_low : (b c : ℕ) → 128 ≤ b → c < 128 → (b == c) ≡ false
 not_low b c high low = ne_eqb b c (λ e. omega arith)
 
 high_kept : (b : ℕ) → 128 ≤ b → is_kept b ≡ true

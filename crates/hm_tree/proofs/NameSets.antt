@@ -1,9 +1,9 @@
 -- Lists of names, and the sets that they make.
-use Rattle.std.proofs.Common.{◌≡◌, ℕ, zero, suc, ◌+◌, ◌<◌, ◌⊎◌, Bool, true, false, List, [], ◌∷◌, length, get_or, Result, Ok, Err, is_ok, refl, sym, ap, ◌∙◌, subst, arith, inl, inr}
+use Rattle.std.proofs.Common.{◌≡◌, ℕ, zero, suc, ◌+◌, ◌<◌, ◌⊎◌, Bool, true, false, List, [], ◌∷◌, length, get_or, Result, Ok, Err, is_ok, refl, sym, ap, ◌∙◌, subst, arith, inl, inr, ◌||◌, IsTrue}
 use Rattle.std.specs.Ordering.{is_lt, is_eq, eq_by_cmp}
 use Rattle.std.specs.declared.cmp.Ordering.{Ordering}
 use Rattle.std.specs.declared.cmp.Ordering.TheVariants.{Less, Equal, Greater}
-use Rattle.std.specs.Cmp.{IsEquivalence}
+use Rattle.std.specs.Cmp.{IsEquivalence, Equal-is}
 use Rattle.std.specs.List.{Contains, list_any, dedup}
 use Rattle.std.specs.List.Sorted.{IsStrictlySortedBy, IsPermutation, IsSorted, IsSortedBy, IsSearchInRange, IsBinarySearchResult}
 use Rattle.std.specs.FinSet as set
@@ -14,6 +14,8 @@ use Rattle.std.proofs.lemmas.List.Kept.{Contains-dedup, Contains-from_dedup, IsS
 use Rattle.std.proofs.lemmas.Map.Keys.{Less-from_sorted}
 use Rattle.hm_tree.specs.Names.{Name, name_cmp}
 use Rattle.hm_tree.proofs.Sorted.{name_total, name_one, back_less, back_greater}
+use Rattle.std.proofs.Common.{All}
+use Rattle.std.specs.FinSet.{contains, contains-from_list, from_list}
 
 -- ---- what is in a list
 
@@ -102,3 +104,16 @@ searched_any q xs h r within found = by r within found ∙ sym (set.contains-fro
           | inl early ↦ ap is_eq (back_less q _ (p.0 j d (omega arith) early))
           | inr late ↦ ap is_eq (back_greater q _ (p.1 j d late lt))
         ]))
+
+-- what holds of each name of a list holds of each in its set
+pub of_list : (P : Name → Type 0) (names : List Name) → All P names → (k : Name) → IsTrue (contains (from_list {R = name_cmp} names) k) → P k
+of_list P names all k there = among names all (sym (contains-from_list name_total names k) ∙ there)
+  where
+    among : (names : List Name) → All P names → list_any (eq_by_cmp name_cmp k) names ≡ true → P k
+    among [] all e = let bad : ⊥ = cc in absurd bad
+    among (n ∷ ns) all e = go (eq_by_cmp name_cmp k n) refl e (among ns (λ i d lt. all (suc i) d (omega (arith, lt))))
+      where
+        go : (tied : Bool) → eq_by_cmp name_cmp k n ≡ tied → (tied || list_any (eq_by_cmp name_cmp k) ns) ≡ true
+            → (list_any (eq_by_cmp name_cmp k) ns ≡ true → P k) → P k
+        go true t e rest = subst P (sym (name_one k n ((Equal-is (name_cmp k n)).0 t))) (all 0 n (omega arith))
+        go false t e rest = rest e

@@ -250,3 +250,11 @@ below_edge {m = m} t i k c e =
     let within = slice_get_within (edges t) i (k, c) e in
     found_at k (edges t) (edges_sorted t) i (k, c) within (ap (λ (x : Name × Node m). name_cmp x.0 k) read ∙ tied_itself name_total k)
     ∙ ap (λ (x : Name × Node m). Some x.1) read
+
+-- in order, what is at a place is found
+pub found_in_order : {X : Type 0} (es : List (Name × X)) → T (is_sorted name_cmp es) → (i : ℕ) (e : Name × X) → slice_get es i ≡ Some e → find name_cmp e.0 es ≡ Some e.1
+found_in_order {X} es rise i e at =
+    let within = slice_get_within es i e at in
+    let read : get_or es i e ≡ e = get_or_from_slice_get es i e e at in
+    let place = place_read e.0 es rise i e within (ap (λ (x : Name × X). x.0) read) in
+    place.found e ∙ ap (λ (x : Name × X). Some x.1) read

@@ -17,7 +17,7 @@ abbrev pub under : {m : Bool} → Name → Option (Node m) → Option (Node m)
 under k None = None
 under k (Some t) = below k t
 
--- with what stands in another archive put under a name
+-- with what stands in another archive put under a name; where either is missing, nothing changes
 abbrev pub with_archive : Name → Archive → Archive → Archive
 with_archive k c None = None
 with_archive k None (Some t) = Some t
@@ -76,7 +76,7 @@ pub recorded_one : (t u : Tree) → recorded t ≡ recorded u → t ≡ u
 unfolding recorded
 recorded_one t u e = same_node t u (λ i. (e i).shape)
 
--- ---- how an archive is kept: the state of its root, and edges to archives of which none is missing
+-- ---- how the code keeps an archive: the state of its root, and edges to archives of which none is missing
 
 -- the edges to what isn't missing
 abbrev pub there : {X : Type 0} → List (Name × Option X) → List (Name × X)

@@ -1,5 +1,7 @@
 -- Classes of names.
-use Rattle.std.specs.Prelude.{◌≡◌, ◌≢◌, ◌-◌, length, slice_get, Some, Any, chars, encode_utf8_all}
+use Rattle.std.specs.Prelude.{◌≡◌, ◌≢◌, ◌-◌, Bool, not, length, slice_get, Some, Any, chars, encode_utf8_all}
+use Rattle.std.specs.Bool.{◌==◌}
+use Rattle.std.specs.List.{list_any}
 use Rattle.caseless.specs.Caseless.{default_case_fold}
 use Rattle.hm_tree.specs.declared.class.Class.{Class}
 use Rattle.hm_tree.specs.declared.class.Class.TheVariants.{Any as Every, Clean, Filled, Trimmed, Folded}
@@ -17,6 +19,10 @@ IsClean t = cleaned t ≡ t
 pub record IsFilled (t : Name) : Type 0 where
   pub clean : IsClean t
   pub filled : Any (λ b. b ≢ 32) t
+
+-- the same of a text that may not be clean
+abbrev pub is_text : Name → Bool
+is_text t = list_any (λ b. not (b == 32)) t
 
 -- and with no space at either end
 pub record IsTrimmed (t : Name) : Type 0 where

@@ -113,7 +113,7 @@ module _ {m : Bool} where
   most_le f h [] = omega arith
   most_le f h (e ∷ es) = omega (arith, h e, most_le f h es)
 
-  -- each child is less deep than the node
+  -- a measure that is at most one more than the depth of each child is at most the depth of the node
   pub falls : (f : Name × Node m → ℕ) → ((e : Name × Node m) → f e ≤ depth e.1 + 1) → (es : List (Name × Node m)) → T (are_edges es)
       → max (most f es) 0 ≤ depth (node es)
   falls f h es s = let e = depth-node es s in let l = most_le f h es in omega arith
@@ -177,7 +177,8 @@ edges-marked {m = m} t e = marked_edges m true t.shape t.sound e
 pub marked_below : {m : Bool} (t : Node m) (k : Name) → is_marked t ≡ true → below k t ≡ None
 marked_below t k e = ap (find name_cmp k) (edges-marked t e)
 
--- ---- a code: the shape in one line of words, of which no shape's is the beginning of another's
+-- ---- a code, by which the logic knows values of a type as lists of numbers: the shape in one line of words, of which no
+-- shape's is the beginning of another's
 
 abbrev pub flat : Shape → List Name
 flat bare = [] ∷ []

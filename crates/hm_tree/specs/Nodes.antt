@@ -29,7 +29,8 @@ above x (edge n c r) = is_lt (name_cmp x n) && above x r
 abbrev pub leads : Name → Shape → Bool
 leads n r = is_utf8 n && above n r
 
--- names are UTF-8 and rise; a mark stands in place of a whole node alone, and only where m allows it
+-- names are UTF-8 and rise. The shape is a whole node, or the rest of the edges of one: a mark stands in place of a whole node
+-- alone, and only where m is true
 abbrev pub is_node : Bool → Bool → Shape → Bool
 is_node m whole bare = true
 is_node m whole mark = m && whole
@@ -141,7 +142,7 @@ module _ {m : Bool} where
   checked es true e = record { shape = joined es; sound = joined_sound true es (subst T (sym e) tt) }
   checked es false e = empty
 
-  -- the node with these edges, whose names rise and are UTF-8
+  -- the node with these edges, whose names rise and are UTF-8; the empty node where they don't
   unfoldable pub node : List (Name × Node m) → Node m
   node es = checked es _ refl
 

@@ -22,3 +22,7 @@ pub record ArePassed (names : List Name) (at : ℕ) (name : Name) : Type 0 where
 pub record AreParted (names : FinSet name_cmp) (all inside outside : List Name) : Type 0 where
   pub inside_is : inside ≡ filter (λ k. contains names k) all
   pub outside_is : outside ≡ filter (λ k. not (contains names k)) all
+
+-- the names of a set that aren't in another one
+abbrev pub new_names : FinSet name_cmp → FinSet name_cmp → List Name
+new_names old set = filter (λ k. not (contains old k)) (ascending set)

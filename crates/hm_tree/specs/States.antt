@@ -36,7 +36,7 @@ at_path t [] = t
 at_path None (k ∷ p) = None
 at_path (Some t) (k ∷ p) = cond (is_marked t) (Some t) (at_path (below k t) p)
 
--- an archive is present wherever a tree, or a missing side, is
+-- wherever a side is present, the archive is present; a missing side is present nowhere
 abbrev pub IsWithin : Option Tree → Archive → Type 0
 IsWithin t o = (p : Path) → state t p ≡ Present → state o p ≡ Present
 

@@ -7,7 +7,7 @@ ghost use Rattle.std.proofs.lemmas.Cmp.{eq_by_cmp_equiv};
 ghost use Rattle.hm_tree.specs.Names.{name_cmp};
 ghost use Rattle.hm_tree.specs.NameLaws.{name_total};
 ghost use Rattle.hm_tree.specs.Cleaned.{cleaned};
-ghost use Rattle.hm_tree.specs.Classes.{IsClean, IsInClass};
+ghost use Rattle.hm_tree.specs.Classes.{IsClean, IsInClass, is_text};
 
 use crate::class::{Class, is_filled, is_trimmed};
 use crate::cleaning::{clean_bytes, is_clean};
@@ -71,6 +71,24 @@ impl Name {
             Ok(text) => Name::from_string(alloc, text),
             Err(_) => unreachable!(),
         }
+    }
+
+    /// The same of the bytes of a text.
+    pub fn cleaned_bytes(alloc: Global, bytes: &[u8]) -> Result<Name, Memory>
+        requires { IsUtf8 bytes.now }
+        ensures { IfOk result (λ name. name ≡ cleaned bytes.now) }
+    {
+        match std::str::from_utf8(bytes) {
+            Ok(text) => Name::cleaned(alloc, text),
+            Err(_) => unreachable!(),
+        }
+    }
+
+    /// Whether it isn't of spaces alone.
+    pub fn is_text(&self) -> bool
+        ensures { result ≡ is_text self.now }
+    {
+        self.bytes().iter().any(|byte| *byte != b' ')
     }
 
     /// Whether it is in a class.

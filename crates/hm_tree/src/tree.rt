@@ -14,6 +14,9 @@ use crate::path::Path;
 use std::alloc::Global;
 use std::marker::Model;
 
+/// The greatest depth of a tree that is read or written: so many edges of it lie one below another.
+pub const DEEPEST: usize = 1000;
+
 /// A finite map from names to trees.
 #[derive(Drop)]
 pub struct Tree {

@@ -1,6 +1,6 @@
 //! Entries of lines, and the places that nodes and sections are looked up by.
 use crate::setting::expect;
-use hm_node_lines::{Entry, declared_nodes, read_entries, read_section};
+use hm_schema_lines::{Entry, declared_nodes, read_entries, read_section};
 use std::alloc::Global;
 use std::mem::size_of;
 use std::test::Fail;

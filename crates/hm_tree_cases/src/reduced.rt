@@ -1,7 +1,7 @@
 //! Small graphs that are reduced, and what is added to them.
 use crate::setting::expect;
 use crate::vertices::{graph, is_closed, leads_inside, vertex};
-use hm_reduced::Reduced;
+use hm_graph_classes::Reduced;
 use hm_tree::Memory;
 use std::alloc::Global;
 use std::test::Fail;

@@ -1,7 +1,7 @@
 //! Small schemas, spelled in more ways than one.
 use crate::setting::{expect, schema_of};
 use hm_schema::NodeId;
-use hm_table::{Table, same};
+use hm_types_table::{Table, same};
 use std::alloc::Global;
 use std::test::Fail;
 

@@ -5,7 +5,8 @@ ghost use Rattle.hm_schema.specs.Values.{reached};
 ghost use Rattle.hm_schema.specs.Membership.{HasNoTwins};
 
 use crate::setting::{expect, path_of, schema_of, set_of, spelled, tree_of};
-use hm_schema::{Node, NodeId, Schema, Shape, label_numbers, same};
+use hm_schema::{Node, NodeId, Schema, Shape, label_numbers};
+use hm_schema_same::same;
 use hm_tree::{Class, Memory, Name, NameSet, Tree};
 use std::alloc::Global;
 use std::test::Fail;

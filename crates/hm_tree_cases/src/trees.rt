@@ -1,7 +1,7 @@
 //! Names, their classes and spellings, sets and paths, with expected values by hand.
 use crate::setting::{expect, path_of, set_of, spelled, tree_of};
-use hm_spelling::{append_path, spell_name, unspell_name};
 use hm_tree::{Archive, Class, Memory, Name, NameSet, State, Tree, take_under};
+use hm_tree_spelling::{append_path, spell_name, unspell_name};
 use std::alloc::Global;
 use std::collections::{BTreeMap, VecDeque};
 use std::mem::size_of;

@@ -5,8 +5,8 @@ use Rattle.std.specs.Str.{IsUtf8}
 use Rattle.hm_tree.specs.Names.{Name}
 use Rattle.hm_tree.specs.Nodes.{bare, Node, are_edges, edges_rise, edges, depth, deepest}
 use Rattle.hm_tree.specs.NodeLaws.{edges_are, depth-edges}
-use Rattle.hm_spelling.specs.Spelling.{spelled}
-use Rattle.hm_spelling.specs.SpellingLaws.{spelled_one, spelled-append}
+use Rattle.hm_tree_spelling.specs.Spelling.{spelled}
+use Rattle.hm_tree_spelling.specs.SpellingLaws.{spelled_one, spelled-append}
 use Rattle.hm_tree_text.specs.Text.{whole, below, text, HasAllowedMarks, edge_text, separator, is_more, inside, commas}
 use Rattle.hm_tree_text.specs.Opening.{Opens, opens_one, opens_more}
 use Rattle.hm_tree_text.specs.Reading.{is_behind, IsAfter, IsName, IsEdge, BeginsWith}

@@ -8,9 +8,9 @@ use Rattle.hm_tree.specs.Names.{Name}
 use Rattle.std.specs.Ordering.{is_lt}
 use Rattle.hm_tree.specs.Nodes.{Shape, bare, mark, edge, Node, edges, node, empty, both, first, second, are_edges, edges_rise, edges_cons}
 use Rattle.hm_tree.specs.NodeLaws.{edges-node, edges_are, is_marked-node}
-use Rattle.hm_spelling.specs.Spelling.{spelled}
+use Rattle.hm_tree_spelling.specs.Spelling.{spelled}
 use Rattle.hm_tree.proofs.Texts.{text_test}
-use Rattle.hm_spelling.specs.SpellingLaws.{spelled_one}
+use Rattle.hm_tree_spelling.specs.SpellingLaws.{spelled_one}
 use Rattle.hm_tree_text.specs.Text.{whole, below, text, HasAllowedMarks, edge_text, separator, is_more, inside, commas}
 use Rattle.hm_tree_text.specs.Begun.{IsBegun}
 use Rattle.hm_tree_text.specs.Reading.{is_behind, IsAfter, IsName, IsSeparator, IsEdge, IsBelow, IsFull, IsInside, IsWhole, BeginsWith, IsLongestPart}

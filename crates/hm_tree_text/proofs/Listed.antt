@@ -5,7 +5,7 @@ use mathlib.Core.Bool.{true≢false}
 use Rattle.hm_tree.specs.Names.{Name}
 use Rattle.hm_tree.specs.Nodes.{Shape, bare, mark, edge, Node, edges, node, empty, joined, is_mark, is_marked}
 use Rattle.hm_tree.specs.NodeLaws.{same_node, node-edges, edges_empty, edges_are, edges-marked, shape_checked}
-use Rattle.hm_spelling.specs.Spelling.{spelled}
+use Rattle.hm_tree_spelling.specs.Spelling.{spelled}
 use Rattle.hm_tree_text.specs.Text.{whole, below, further, text, HasAllowedMarks, edge_text, separator, is_more, inside, commas}
 use Rattle.hm_tree_text.proofs.Spelling.{edge_apart}
 

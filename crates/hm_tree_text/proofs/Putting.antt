@@ -8,7 +8,7 @@ use Rattle.hm_tree.specs.Nodes.{Node, edges, is_marked}
 use Rattle.hm_tree.specs.NodeLaws.{edges_empty}
 use Rattle.hm_tree.specs.Archives.{Archive, edges_here}
 use Rattle.hm_tree.specs.States.{state}
-use Rattle.hm_spelling.specs.Spelling.{spelled}
+use Rattle.hm_tree_spelling.specs.Spelling.{spelled}
 use Rattle.hm_tree_text.specs.Text.{whole, below, text, line_feed, archive_text, edge_text, separator, inside, is_more}
 use Rattle.hm_tree_text.specs.Writing.{present}
 use Rattle.hm_tree_text.proofs.Listed.{empty_unmarked}

@@ -5,8 +5,8 @@ use Rattle.std.specs.Str.{IsUtf8}
 use Rattle.hm_tree.specs.Names.{Name}
 use Rattle.hm_tree.specs.Nodes.{bare, mark, Node, edges, depth, empty, marked}
 use Rattle.hm_tree.specs.Archives.{Archive}
-use Rattle.hm_spelling.specs.Spelling.{spelled}
-use Rattle.hm_spelling.specs.SpellingLaws.{spelled_one}
+use Rattle.hm_tree_spelling.specs.Spelling.{spelled}
+use Rattle.hm_tree_spelling.specs.SpellingLaws.{spelled_one}
 use Rattle.hm_tree_text.specs.declared.fault.TextFault.{TextFault}
 use Rattle.hm_tree_text.specs.declared.fault.TextFault.TheVariants.{BadTree, TooDeep, Memory}
 use Rattle.hm_tree_text.specs.Text.{whole, below, text, HasAllowedMarks, edge_text, separator, inside}

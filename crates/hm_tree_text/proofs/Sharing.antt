@@ -2,7 +2,7 @@
 use Rattle.std.proofs.Common.{◌≡◌, ℕ, zero, suc, ◌+◌, ◌<◌, ◌≤◌, ◌⊎◌, inl, inr, min, Bool, true, false, cond, ◌==◌, List, [], ◌∷◌, ◌++◌, length, take, drop, refl, sym, ap, subst, ◌∙◌, arith, eq-eqb}
 use Rattle.std.proofs.lemmas.List.{drop_all}
 use Rattle.std.proofs.lemmas.Bool.{eqb-true, cond-true, cases_lt}
-use Rattle.hm_spelling.specs.Spelling.{spelled_byte}
+use Rattle.hm_tree_spelling.specs.Spelling.{spelled_byte}
 use Rattle.hm_tree_text.specs.NameRest.{shared}
 
 shared_none : (xs : List ℕ) → shared xs [] ≡ 0

@@ -3,8 +3,8 @@ use Rattle.std.proofs.Common.{◌≡◌, ◌≢◌, ℕ, Bool, true, false, List
 use Rattle.hm_tree.specs.Names.{Name}
 use Rattle.hm_tree.specs.Nodes.{Shape, bare, mark, edge, Node}
 use Rattle.hm_tree.specs.NodeLaws.{same_node}
-use Rattle.hm_spelling.specs.Spelling.{spelled}
-use Rattle.hm_spelling.specs.SpellingLaws.{spelled_one, spelled-append}
+use Rattle.hm_tree_spelling.specs.Spelling.{spelled}
+use Rattle.hm_tree_spelling.specs.SpellingLaws.{spelled_one, spelled-append}
 use Rattle.hm_tree_text.specs.Text.{Position, whole, below, further, before, text, edge_text, separator}
 
 -- behind a name the bytes that follow don't begin with a colon

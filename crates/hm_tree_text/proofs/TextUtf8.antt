@@ -4,9 +4,9 @@ use Rattle.std.specs.Str.{IsUtf8}
 use Rattle.std.proofs.lemmas.Str.{IsUtf8-nil, IsUtf8-append}
 use Rattle.hm_tree.specs.Nodes.{Shape, bare, mark, edge, is_node, leads, first, second, Tree}
 use Rattle.hm_tree.specs.Archives.{Archive}
-use Rattle.hm_spelling.specs.Spelling.{spelled}
+use Rattle.hm_tree_spelling.specs.Spelling.{spelled}
 use Rattle.hm_tree.proofs.Texts.{ascii_test, text_tested}
-use Rattle.hm_spelling.proofs.SpelledText.{spelled_utf8}
+use Rattle.hm_tree_spelling.proofs.SpelledText.{spelled_utf8}
 use Rattle.hm_tree_text.specs.Text.{Position, whole, below, further, none, exclaimed, before, text, line_feed, tree_text, archive_text}
 
 none_utf8 : (p : Position) → IsUtf8 (none p)

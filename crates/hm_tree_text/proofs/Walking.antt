@@ -7,8 +7,8 @@ use Rattle.std.specs.Ordering.{nat_cmp, ordering_then, ord_max, is_lt}
 use Rattle.std.specs.Cmp.{nat_cmp_is}
 use Rattle.std.specs.declared.cmp.Ordering.TheVariants.{Less, Equal, Greater}
 use Rattle.hm_tree.specs.Names.{Name, name_cmp}
-use Rattle.hm_spelling.specs.Spelling.{is_plain, escaped, spelled, spelled_byte}
-use Rattle.hm_spelling.specs.SpellingLaws.{Kind, plain, backslashed, control, kind, spelled_byte_one, spelled_byte_quote, spelled-append}
+use Rattle.hm_tree_spelling.specs.Spelling.{is_plain, escaped, spelled, spelled_byte}
+use Rattle.hm_tree_spelling.specs.SpellingLaws.{Kind, plain, backslashed, control, kind, spelled_byte_one, spelled_byte_quote, spelled-append}
 use Rattle.hm_tree_text.specs.declared.character.Character.{Character}
 use Rattle.hm_tree_text.specs.Begun.{IsBegun}
 use Rattle.hm_tree_text.specs.Characters.{Completes, IsOpen, complete}

@@ -1,6 +1,6 @@
 -- Why a part of the text wasn't read.
 use Rattle.std.specs.Prelude.{◌≡◌, ℕ, ◌+◌, Bool, true, T, List, ◌∷◌, ◌++◌, drop, IsUtf8}
-use Rattle.hm_spelling.specs.Spelling.{spelled}
+use Rattle.hm_tree_spelling.specs.Spelling.{spelled}
 use Rattle.hm_tree.specs.Names.{Name}
 use Rattle.hm_tree.specs.Nodes.{Node}
 use Rattle.hm_tree_text.specs.declared.fault.TextFault.{TextFault}

@@ -2,7 +2,7 @@
 use Rattle.std.specs.Prelude.{◌≡◌, ℕ, suc, ◌≤◌, cond, List, [], ◌∷◌, ◌++◌, length, Option, Some, None, IsUtf8}
 use Rattle.std.specs.Bool.{◌==◌}
 use Rattle.hm_tree.specs.Names.{Name}
-use Rattle.hm_spelling.specs.Spelling.{escaped, spelled_byte}
+use Rattle.hm_tree_spelling.specs.Spelling.{escaped, spelled_byte}
 use Rattle.hm_tree_text.specs.declared.character.Character.{Character}
 use Rattle.hm_tree_text.specs.Characters.{Completes, IsOpen, GoesOn}
 use Rattle.hm_tree_text.specs.Reading.{IsAfter}

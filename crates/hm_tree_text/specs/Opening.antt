@@ -1,6 +1,6 @@
 -- Beginnings of texts that leave many braces open.
 use Rattle.std.specs.Prelude.{◌≡◌, ℕ, ◌+◌, Bool, true, T, List, [], ◌∷◌, ◌++◌, IsUtf8}
-use Rattle.hm_spelling.specs.Spelling.{spelled}
+use Rattle.hm_tree_spelling.specs.Spelling.{spelled}
 use Rattle.hm_tree.specs.Names.{Name}
 use Rattle.hm_tree.specs.Nodes.{Node, edges}
 use Rattle.hm_tree_text.specs.Text.{HasAllowedMarks, commas}

@@ -3,7 +3,7 @@
 --     edge = name [ ":" full ]
 -- In an archive a "!" may stand in place of a tree, and in place of what stands behind a ":".
 use Rattle.std.specs.Prelude.{ℕ, Bool, true, false, T, List, [], ◌∷◌, ◌++◌, Some, None, codes}
-use Rattle.hm_spelling.specs.Spelling.{spelled}
+use Rattle.hm_tree_spelling.specs.Spelling.{spelled}
 use Rattle.hm_tree.specs.Names.{Name}
 use Rattle.hm_tree.specs.Nodes.{Shape, bare, mark, edge, Node, Tree}
 use Rattle.hm_tree.specs.Archives.{Archive}

@@ -9,9 +9,13 @@
 //! ```
 //!
 //! In an archive `place` is a tree or `!`, and what stands behind `:` is a full tree, whose edges are of this kind
-//! again, or `!`. A name is UTF-8 text between quotes, spelled as `hm_spelling::append_spelled` does. The names under one
-//! node stand in ascending order of their bytes, each once. So each value has one text; one is read where at most
-//! 1,000 edges lie one below another.
+//! again, or `!`. A name is UTF-8 text between quotes, spelled as `hm_tree_spelling::append_spelled` does. The names
+//! under one node stand in ascending order of their bytes, each once. So each value has one text; one is read where at
+//! most 1,000 edges lie one below another. It knows no files.
+//!
+//! Proved: `read_tree` and `read_archive` give the value that the bytes are the text of, to a depth of 1,000, or tell
+//! exactly what is wrong: too many open braces, or the first byte that no text can have there. `write_tree` and
+//! `write_archive` give the text of each value, which is UTF-8, and each value has one text.
 #![tactic(auto)]
 
 mod built;

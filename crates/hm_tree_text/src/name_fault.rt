@@ -1,15 +1,15 @@
 //! Where a name can't go on.
 ghost use Rattle.std.specs.Prelude.{◌≡◌, ◌↔◌, ◌<◌, ◌≤◌, ◌∷◌, ◌++◌, true, List, ℕ, IsTrue, length, Option, option_copied, MatchOption};
 ghost use Rattle.hm_tree.specs.Names.{Name as NameValue};
-ghost use Rattle.hm_spelling.specs.Spelling.{is_plain, spelled_byte};
+ghost use Rattle.hm_tree_spelling.specs.Spelling.{is_plain, spelled_byte};
 ghost use Rattle.hm_tree_text.specs.Characters.{IsOpen, complete};
 ghost use Rattle.hm_tree_text.specs.NameRest.{IsNameRest, IsLeast, left_behind, IsNext, shared as shared_of, IsMostShared, IsByteAt, IsStep, IsLeftOf};
 ghost use Rattle.hm_tree_text.specs.Reading.{BeginsWith, IsName, IsLongestPart};
 
 use crate::character::{COMPLETE, Character};
 use crate::place::is_at;
-use hm_spelling::spell_byte;
 use hm_tree::Name;
+use hm_tree_spelling::spell_byte;
 
 /// The length of the longest part with which the spelling of a name behind the last one goes on.
 pub fn name_fault(bytes: &[u8], last: Option<&Name>) -> usize

@@ -1,7 +1,7 @@
 //! Reading: a place in the borrowed bytes, and a function for each form of the grammar.
 ghost use Rattle.std.specs.Prelude.{◌≡◌, ◌↔◌, ℕ, ◌+◌, ◌<◌, ◌≤◌, true, false, List, [], ◌∷◌, ◌++◌, T, IsTrue, IfOk, IfErr, OnOk, IsUtf8, length, drop, Option, Some, MatchOption, option_copied};
 ghost use Rattle.hm_tree.specs.Nodes.{marked};
-ghost use Rattle.hm_spelling.specs.Spelling.{spelled};
+ghost use Rattle.hm_tree_spelling.specs.Spelling.{spelled};
 ghost use Rattle.hm_tree_text.specs.Reads.{ReadsTree, ReadsArchive, UnlessMemory};
 ghost use Rattle.hm_tree_text.specs.Faults.{Faults};
 ghost use Rattle.hm_tree_text.specs.FirstTree.{IsFirstTree};
@@ -15,12 +15,9 @@ use crate::fault::TextFault;
 use crate::name_fault::name_fault;
 use crate::pending::{add_edge, last_name, take_edges};
 use crate::place::is_at;
-use hm_spelling::unspell_name;
-use hm_tree::{Archive, Memory, Name, Tree};
+use hm_tree::{Archive, DEEPEST, Memory, Name, Tree};
+use hm_tree_spelling::unspell_name;
 use std::alloc::Global;
-
-// How many braces may be open.
-const DEEPEST: usize = 1000;
 
 // An edge as it was read, whether more come behind it, and the place behind its comma or brace.
 #[derive(Drop)]

@@ -5,8 +5,8 @@ ghost use Rattle.hm_tree_text.specs.Text.{tree_text, archive_text, text as text_
 ghost use Rattle.hm_tree.specs.Archives.{recorded};
 ghost use Rattle.hm_tree_text.specs.Writing.{present};
 
-use hm_spelling::append_spelled;
 use hm_tree::{Archive, Memory, Name, State, Tree};
+use hm_tree_spelling::append_spelled;
 use std::alloc::Global;
 
 // What is written: a node of a tree or of an archive.

@@ -11,7 +11,7 @@ use Rattle.hm_schema.proofs.Lists.{all_read}
 use Rattle.hm_terms.specs.declared.term.Definition.{Definition}
 use Rattle.hm_terms.specs.Lenses.{DefinitionValue}
 use Rattle.hm_terms.specs.Programs.{ProgramValue, definition_value}
-use Rattle.hm_table.specs.Tables.{Nodes, AreFormed, shifted}
+use Rattle.hm_types_table.specs.Tables.{Nodes, AreFormed, shifted}
 use Rattle.hm_types_terms.specs.Courses.{Declared}
 use Rattle.hm_types.specs.DeclaredNodes.{DeclaresAll}
 use Rattle.hm_types.proofs.CheckSteps.{base, IsBegun}

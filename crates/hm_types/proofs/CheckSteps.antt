@@ -16,26 +16,27 @@ use Rattle.hm_terms.specs.Lenses.{DefinitionValue}
 use Rattle.hm_terms.specs.Programs.{ProgramValue, setting_of}
 use Rattle.hm_terms.specs.WellFormedPrograms.{a_body, the_main}
 use Rattle.hm_terms.specs.WellFormedPrograms.{IsWellFormed as IsWellFormedProgram}
-use Rattle.hm_typing.specs.Forms.{Form, form}
-use Rattle.hm_typing.specs.Sound.{IsSound}
-use Rattle.hm_typing.specs.SameForms.{IsSame, HasNoTwins}
-use Rattle.hm_typing.specs.Members.{Member}
-use Rattle.hm_typing.specs.Typing.{Classes, Goes}
-use Rattle.hm_typing.specs.Faults.{At, at, Faults}
-use Rattle.hm_typing.specs.Texts.{HasTexts}
-use Rattle.hm_typing.specs.Programs.{classes_in, types_of, IsTypedDefinition, IsTyped}
-use Rattle.hm_typing.specs.Numbering.{IsNumbered}
+use Rattle.hm_types_forms.specs.Forms.{Form, form}
+use Rattle.hm_types_forms.specs.Sound.{IsSound}
+use Rattle.hm_types_forms.specs.SameForms.{IsSame, HasNoTwins}
+use Rattle.hm_types_forms.specs.Members.{Member}
+use Rattle.hm_types_rules.specs.Typing.{Classes, Goes}
+use Rattle.hm_types_rules.specs.Faults.{At, at, Faults}
+use Rattle.hm_types_rules.specs.Texts.{HasTexts}
+use Rattle.hm_types_rules.specs.Programs.{classes_in, types_of, IsTypedDefinition, IsTyped}
+use Rattle.hm_types_rules.specs.Numbering.{IsNumbered}
 use Rattle.hm_terms.specs.Fitting.{Fits}
-use Rattle.hm_node_laws.proofs.Standing.{alike_back}
-use Rattle.hm_typing.proofs.NumberedMembers.{numbered_members}
-use Rattle.hm_typing.proofs.TypedFits.{form_sound, typed_fits}
-use Rattle.hm_table.specs.Tables.{Nodes, AreFormed, Extends, shift, shifted}
-use Rattle.hm_table.proofs.Grown.{extends_self, extends_then, extends_length, form_extends}
-use Rattle.hm_table.proofs.Shifted.{form_shifted}
+use Rattle.hm_schema.proofs.StandingTrees.{alike_back}
+use Rattle.hm_types_rules.proofs.NumberedMembers.{numbered_members}
+use Rattle.hm_types_sound.proofs.TypedFits.{form_sound, typed_fits}
+use Rattle.hm_types_table.specs.Tables.{Nodes, AreFormed, Extends, shift, shifted}
+use Rattle.hm_types_table.proofs.Grown.{extends_self, extends_then, extends_length, form_extends}
+use Rattle.hm_types_table.proofs.Shifted.{form_shifted}
 use Rattle.hm_types_terms.specs.Courses.{Declared, Scope, AreTypes, AreDeclared, IsStart, IsView, IsAt}
 use Rattle.hm_types.specs.DeclaredNodes.{DeclaresAll}
 use Rattle.hm_types_terms.specs.Bodies.{HasDistinctRows, GoesAstray, nowhere, elsewhere, IsTypedBody, IsMistypedBody}
-use Rattle.hm_types.specs.Checks.{Trees, HasTwinsLeft, IsGuarded, AreTyped, IsMistypedDefinition, no_view, other_view, IsMistyped, in_definition}
+use Rattle.hm_schema.specs.Membership.{IsMemberTree}
+use Rattle.hm_types.specs.Checks.{HasTwinsLeft, IsGuarded, AreTyped, IsMistypedDefinition, no_view, other_view, IsMistyped, in_definition}
 use Rattle.hm_types_terms.proofs.Entries.{found_at, at_found}
 use Rattle.hm_types_terms.proofs.Growing.{types_grown, declared_grown, view_sound}
 use Rattle.hm_types.proofs.SourceTrees.{root_trees}
@@ -268,9 +269,9 @@ module _ (classes : Classes) (p : ProgramValue) (s : SchemaValue) (well : IsWell
       }
 
       pub program_fits : (view : SchemaValue) → IsWellFormed view → IsNumbered (form new j) view → HasTexts p.main → (ms : List TextMeaning)
-          → classes ≡ classes_in ms → All IsLawful ms → Fits (setting_of ms p) p.main (Trees s) (Trees view)
+          → classes ≡ classes_in ms → All IsLawful ms → Fits (setting_of ms p) p.main (IsMemberTree s) (IsMemberTree view)
       program_fits view well_view numbered text ms same lawful =
-          fits_over (setting_of ms p) p.main (Member (form s.nodes s.root)) (Member (form new j)) (Trees s) (Trees view)
+          fits_over (setting_of ms p) p.main (Member (form s.nodes s.root)) (Member (form new j)) (IsMemberTree s) (IsMemberTree view)
           (root_trees s source source_sounds) (alike_back (numbered_members (form new j) view well_view (main_sound nodes (length p.definitions) h new j v) numbered))
           (typed_fits ms lawful p well.types
           (λ n d e. let a = found_at n d p.definitions e in h.texts a.place n d (slice_get_within p.definitions a.place (n, d) a.is) a.is)

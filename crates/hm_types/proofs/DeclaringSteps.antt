@@ -11,8 +11,8 @@ use Rattle.hm_schema.specs.declared.node.NodeId.{NodeId}
 use Rattle.hm_terms.specs.declared.term.Definition.{Definition}
 use Rattle.hm_terms.specs.Lenses.{DefinitionValue}
 use Rattle.hm_terms.specs.Programs.{definition_value}
-use Rattle.hm_table.specs.Tables.{shift}
-use Rattle.hm_cycles.specs.Places.{IsPutLast}
+use Rattle.hm_types_table.specs.Tables.{shift}
+use Rattle.hm_terms_cycles.specs.Places.{IsPutLast}
 use Rattle.hm_types_terms.specs.Courses.{Declared}
 use Rattle.hm_types.specs.DeclaredNodes.{DeclaresAll}
 

@@ -4,14 +4,14 @@ use Rattle.hm_schema.specs.Values.{SchemaValue}
 use Rattle.hm_terms.specs.Lenses.{DefinitionValue}
 use Rattle.hm_terms.specs.Programs.{ProgramValue}
 use Rattle.hm_terms.specs.WellFormedPrograms.{IsWellFormed}
-use Rattle.hm_typing.specs.Forms.{Form, form}
-use Rattle.hm_typing.specs.SameForms.{IsSame, HasNoTwins}
-use Rattle.hm_typing.specs.Faults.{At, at}
-use Rattle.hm_typing.specs.Programs.{types_of, IsTypedDefinition, IsTyped}
-use Rattle.hm_typing.specs.TextNames.{program_text_names}
-use Rattle.hm_typing.specs.Typing.{Classes}
-use Rattle.hm_typing.proofs.Once.{goes_once}
-use Rattle.hm_typing.proofs.NeverBoth.{never_both}
+use Rattle.hm_types_forms.specs.Forms.{Form, form}
+use Rattle.hm_types_forms.specs.SameForms.{IsSame, HasNoTwins}
+use Rattle.hm_types_rules.specs.Faults.{At, at}
+use Rattle.hm_types_rules.specs.Programs.{types_of, IsTypedDefinition, IsTyped}
+use Rattle.hm_types_rules.specs.TextNames.{program_text_names}
+use Rattle.hm_types_rules.specs.Typing.{Classes}
+use Rattle.hm_types_rules.proofs.Once.{goes_once}
+use Rattle.hm_types_rules.proofs.NeverBoth.{never_both}
 use Rattle.hm_types_terms.specs.declared.fault.TypeFault.{TypeFault}
 use Rattle.hm_types_terms.specs.declared.fault.TypeFault.TheVariants.{Mistyped, UnknownLens, Unguarded, TwinLeft, Memory}
 use Rattle.hm_types.specs.Checks.{IsFault, IsMistyped, in_definition, in_main, IsMistypedDefinition, no_view, other_view}

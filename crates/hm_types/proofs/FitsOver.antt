@@ -3,7 +3,7 @@ use Rattle.std.proofs.Common.{Option, Some, None, IfSome}
 use Rattle.hm_tree.specs.Nodes.{Tree}
 use Rattle.hm_terms.specs.Lenses.{Lens, Setting}
 use Rattle.hm_terms.specs.Fitting.{Fits}
-use Rattle.hm_node_laws.specs.Standing.{Alike}
+use Rattle.hm_schema.specs.Standing.{Alike}
 
 module _ (S : Setting) (l : Lens) (C A D B : Tree → Type 0) (c : Alike D C) (a : Alike B A) (f : Fits S l C A) where
   before : (b : Option Tree) → IfSome b D → IfSome b C

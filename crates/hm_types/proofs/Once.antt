@@ -9,16 +9,16 @@ use Rattle.hm_text_lens.specs.Meanings.{TextMeaning}
 use Rattle.hm_terms.specs.Lenses.{Lens, DefinitionValue}
 use Rattle.hm_terms.specs.Programs.{ProgramValue}
 use Rattle.hm_terms.specs.WellFormedPrograms.{IsWellFormed}
-use Rattle.hm_typing.specs.Forms.{form}
-use Rattle.hm_typing.specs.Typing.{Classes}
-use Rattle.hm_typing.specs.Faults.{At, at}
-use Rattle.hm_typing.specs.Programs.{classes_in, types_of}
-use Rattle.hm_typing.specs.TextNames.{program_text_names, AreKnown, IsFirstUnknown}
-use Rattle.hm_typing.specs.Numbering.{IsNumbered}
-use Rattle.hm_typing.proofs.Once.{goes_once}
-use Rattle.hm_typing.proofs.NeverBoth.{never_both, fault_once}
-use Rattle.hm_typing.proofs.NumberedOnce.{numbered_once}
-use Rattle.hm_cycles.specs.BadCycles.{IsFirstInBadCycle}
+use Rattle.hm_types_forms.specs.Forms.{form}
+use Rattle.hm_types_rules.specs.Typing.{Classes}
+use Rattle.hm_types_rules.specs.Faults.{At, at}
+use Rattle.hm_types_rules.specs.Programs.{classes_in, types_of}
+use Rattle.hm_types_rules.specs.TextNames.{program_text_names, AreKnown, IsFirstUnknown}
+use Rattle.hm_types_rules.specs.Numbering.{IsNumbered}
+use Rattle.hm_types_rules.proofs.Once.{goes_once}
+use Rattle.hm_types_rules.proofs.NeverBoth.{never_both, fault_once}
+use Rattle.hm_types_rules.proofs.NumberedOnce.{numbered_once}
+use Rattle.hm_terms_cycles.specs.BadCycles.{IsFirstInBadCycle}
 use Rattle.hm_types_terms.specs.declared.fault.TypeFault.{TypeFault}
 use Rattle.hm_types_terms.specs.declared.fault.TypeFault.TheVariants.{Mistyped, UnknownLens, Unguarded, TwinLeft, Memory}
 use Rattle.hm_types_terms.specs.Parts.{IsFirstCopy, copies_first, none_copies}

@@ -1,8 +1,8 @@
 -- What is told of the parts of a program is told of the program.
 use Rattle.std.proofs.Common.{◌≡◌, ◌+◌, ℕ, length, sym, subst, ◌∙◌}
-use Rattle.hm_typing.specs.Faults.{At, at}
-use Rattle.hm_typing.specs.TextNames.{program_text_names, AreKnown}
-use Rattle.hm_typing.specs.Typing.{Classes}
+use Rattle.hm_types_rules.specs.Faults.{At, at}
+use Rattle.hm_types_rules.specs.TextNames.{program_text_names, AreKnown}
+use Rattle.hm_types_rules.specs.Typing.{Classes}
 use Rattle.hm_types.specs.Checks.{IsMistyped, HasTwinsLeft, IsTextTold, IsCycleTold, AreTwinsTold, IsGuarded, IsFault}
 use Rattle.hm_schema.specs.Values.{SchemaValue}
 use Rattle.hm_terms.specs.Programs.{ProgramValue}

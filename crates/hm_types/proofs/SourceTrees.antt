@@ -10,17 +10,17 @@ use Rattle.hm_schema.specs.WellFormed.{IsWellFormed}
 use Rattle.hm_schema.specs.Tidied.{lets_some_in, stands}
 use Rattle.hm_schema.specs.Sameness.{AreOthers, no_others, others}
 use Rattle.hm_schema.proofs.Lists.{all_read}
-use Rattle.hm_node_laws.specs.Standing.{Alike}
-use Rattle.hm_node_laws.proofs.Standing.{Inside, members_alike as place_alike}
-use Rattle.hm_node_laws.proofs.Same.{IsMatched, matched_alike}
-use Rattle.hm_typing.specs.Forms.{Form, node_of, form}
-use Rattle.hm_typing.specs.Members.{Member}
-use Rattle.hm_typing.specs.Sound.{IsSound}
-use Rattle.hm_typing.proofs.MemberNodes.{members_alike}
-use Rattle.hm_typing.proofs.SoundForms.{node_sound}
-use Rattle.hm_table.specs.Tables.{opened}
-use Rattle.hm_table.proofs.Grown.{formed_at}
-use Rattle.hm_table.proofs.Forms.{node_is}
+use Rattle.hm_schema.specs.Standing.{Alike}
+use Rattle.hm_schema.proofs.StandingTrees.{Inside, members_alike as place_alike}
+use Rattle.hm_schema.proofs.SameNodes.{IsMatched, matched_alike}
+use Rattle.hm_types_forms.specs.Forms.{Form, node_of, form}
+use Rattle.hm_types_forms.specs.Members.{Member}
+use Rattle.hm_types_forms.specs.Sound.{IsSound}
+use Rattle.hm_types_forms.proofs.MemberNodes.{members_alike}
+use Rattle.hm_types_forms.proofs.SoundForms.{node_sound}
+use Rattle.hm_types_table.specs.Tables.{opened}
+use Rattle.hm_types_table.proofs.Grown.{formed_at}
+use Rattle.hm_types_table.proofs.Forms.{node_is}
 use Rattle.hm_types_terms.proofs.Entries.{there}
 
 module _ (s : SchemaValue) (well : IsWellFormed s) (sound : (i : NodeId) → IsSound (form s.nodes i)) where

@@ -1,32 +1,26 @@
 -- What the check of a program answers: it is typed, or the first condition isn't met.
 use Rattle.std.specs.Prelude.{◌≡◌, ◌<◌, ◌+◌, ℕ, List, length, Some, slice_get, All, Result, Ok, Err}
 use Rattle.hm_tree.specs.Names.{Name}
-use Rattle.hm_tree.specs.Nodes.{Tree}
-use Rattle.hm_tree.specs.States.{state}
 use Rattle.hm_schema.specs.Values.{SchemaValue}
-use Rattle.hm_schema.specs.Membership.{IsMember}
+use Rattle.hm_schema.specs.Membership.{IsMemberTree}
 use Rattle.hm_text_lens.specs.Meanings.{TextMeaning, IsLawful}
 use Rattle.hm_terms.specs.Lenses.{Lens, DefinitionValue}
 use Rattle.hm_terms.specs.Fitting.{Fits}
 use Rattle.hm_terms.specs.Programs.{ProgramValue, program_value, setting_of}
-use Rattle.hm_typing.specs.Forms.{Form, form}
-use Rattle.hm_typing.specs.SameForms.{IsSame, HasNoTwins}
-use Rattle.hm_typing.specs.Typing.{Classes, Goes}
-use Rattle.hm_typing.specs.Faults.{At, at, Faults}
-use Rattle.hm_typing.specs.Programs.{classes_in, types_of, IsTypedDefinition, IsTyped}
-use Rattle.hm_typing.specs.TextNames.{program_text_names, AreKnown, IsFirstUnknown}
-use Rattle.hm_typing.specs.Numbering.{IsNumbered}
-use Rattle.hm_cycles.specs.BadCycles.{HasNoBadCycle, IsFirstInBadCycle}
+use Rattle.hm_types_forms.specs.Forms.{Form, form}
+use Rattle.hm_types_forms.specs.SameForms.{IsSame, HasNoTwins}
+use Rattle.hm_types_rules.specs.Typing.{Classes, Goes}
+use Rattle.hm_types_rules.specs.Faults.{At, at, Faults}
+use Rattle.hm_types_rules.specs.Programs.{classes_in, types_of, IsTypedDefinition, IsTyped}
+use Rattle.hm_types_rules.specs.TextNames.{program_text_names, AreKnown, IsFirstUnknown}
+use Rattle.hm_types_rules.specs.Numbering.{IsNumbered}
+use Rattle.hm_terms_cycles.specs.BadCycles.{HasNoBadCycle, IsFirstInBadCycle}
 use Rattle.hm_types_terms.specs.declared.fault.TypeFault.{TypeFault}
 use Rattle.hm_types_terms.specs.declared.fault.TypeFault.TheVariants.{Mistyped, UnknownLens, Unguarded, TwinLeft, Memory}
-use Rattle.hm_types.specs.declared.typed.Typed.{Typed}
+use Rattle.hm_terms.specs.declared.typed.Typed.{Typed}
 use Rattle.hm_types_terms.specs.Parts.{IsFirstCopy}
 
 -- ---- programs that are accepted
-
--- the trees of a schema
-abbrev pub Trees : SchemaValue → Tree → Type 0
-Trees s t = IsMember s s.root (state (Some t))
 
 -- by the classes of text lenses it is typed, its view is written by numbers, and its main lens fits, whatever lawful text lenses
 -- of these classes it is run with: on the trees of the source and of the view it is total and lawful
@@ -36,7 +30,7 @@ pub record IsAcceptedBy (texts : Classes) (p : ProgramValue) (s : SchemaValue) (
   pub shown : Form
   pub typed : IsTyped texts p (form s.nodes s.root) shown
   pub numbered : IsNumbered shown t.view
-  pub fits : (ms : List TextMeaning) → texts ≡ classes_in ms → All IsLawful ms → Fits (setting_of ms p) p.main (Trees s) (Trees t.view)
+  pub fits : (ms : List TextMeaning) → texts ≡ classes_in ms → All IsLawful ms → Fits (setting_of ms p) p.main (IsMemberTree s) (IsMemberTree t.view)
 
 -- the same with some text lenses
 pub record IsAccepted (texts : List TextMeaning) (p : ProgramValue) (s : SchemaValue) (t : Typed) : Type 0 where
@@ -45,7 +39,7 @@ pub record IsAccepted (texts : List TextMeaning) (p : ProgramValue) (s : SchemaV
   pub shown : Form
   pub typed : IsTyped (classes_in texts) p (form s.nodes s.root) shown
   pub numbered : IsNumbered shown t.view
-  pub fits : Fits (setting_of texts p) p.main (Trees s) (Trees t.view)
+  pub fits : Fits (setting_of texts p) p.main (IsMemberTree s) (IsMemberTree t.view)
 
 -- ---- programs that are refused
 

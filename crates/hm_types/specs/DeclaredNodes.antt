@@ -5,7 +5,7 @@ use Rattle.std.specs.Option.{option_map}
 use Rattle.std.specs.FinMap.{find, is_sorted}
 use Rattle.hm_tree.specs.Names.{Name, name_cmp}
 use Rattle.hm_terms.specs.Lenses.{DefinitionValue}
-use Rattle.hm_table.specs.Tables.{shift}
+use Rattle.hm_types_table.specs.Tables.{shift}
 use Rattle.hm_types_terms.specs.Courses.{Declared}
 
 pub record DeclaresAll (definitions : List (Name × DefinitionValue)) (by : ℕ) (ds : Declared) : Type 0 where

@@ -3,21 +3,20 @@ ghost use Rattle.std.specs.Prelude.{IfOk, IfErr, OnOk, map};
 ghost use Rattle.hm_schema.specs.Membership.{HasNoTwins};
 ghost use Rattle.hm_terms.specs.Programs.{lens_of, program_value};
 ghost use Rattle.hm_terms.specs.WellFormedPrograms.{IsWellFormed};
-ghost use Rattle.hm_cycles.specs.BadCycles.{HasNoBadCycle};
-ghost use Rattle.hm_typing.specs.Programs.{classes_in};
+ghost use Rattle.hm_terms_cycles.specs.BadCycles.{HasNoBadCycle};
+ghost use Rattle.hm_types_rules.specs.Programs.{classes_in};
 ghost use Rattle.hm_types_terms.specs.Courses.{classes_of};
 ghost use Rattle.hm_types.specs.Checks.{IsAccepted, IsAcceptedBy, IsFault, IsCycleTold, AreTwinsTold};
 
 use crate::declaring::{behind, declared_of};
-use crate::typed::Typed;
 use crate::unknown::check_texts;
-use hm_cycles::first_in_bad_cycle;
-use hm_numbering::{is_plain, numbered};
 use hm_schema::Schema;
-use hm_table::Table;
-use hm_terms::{Program, Term};
+use hm_terms::{Program, Term, Typed};
+use hm_terms_cycles::first_in_bad_cycle;
 use hm_text_lens::TextLens;
 use hm_tree::Memory;
+use hm_types_schemas::{is_plain, numbered};
+use hm_types_table::Table;
 use hm_types_terms::{TextType, TypeFault, check_body, first_copy, parts, text_types, view_of};
 use std::alloc::Global;
 

@@ -1,12 +1,12 @@
 //! The nodes that definitions are declared with.
 ghost use Rattle.std.specs.Prelude.{◌≡◌, ◌<◌, ◌+◌, ◌^◌, IfOk, All, map};
 ghost use Rattle.hm_terms.specs.Programs.{definition_value};
-ghost use Rattle.hm_table.specs.Tables.{shift};
+ghost use Rattle.hm_types_table.specs.Tables.{shift};
 ghost use Rattle.hm_types.specs.DeclaredNodes.{DeclaresAll};
 
-use hm_cycles::add_name;
 use hm_schema::NodeId;
 use hm_terms::Definition;
+use hm_terms_cycles::add_name;
 use hm_tree::{Memory, Name};
 use std::alloc::Global;
 

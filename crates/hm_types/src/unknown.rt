@@ -2,7 +2,7 @@
 ghost use Rattle.std.specs.Prelude.{◌≡◌, ◌++◌, ◌∷◌, [], OnOk, IfErr};
 ghost use Rattle.std.specs.Option.{option_map};
 ghost use Rattle.hm_terms.specs.Programs.{lens_of, lenses_of, program_value};
-ghost use Rattle.hm_typing.specs.TextNames.{text_names, text_names_of, program_text_names, AreKnown};
+ghost use Rattle.hm_types_rules.specs.TextNames.{text_names, text_names_of, program_text_names, AreKnown};
 ghost use Rattle.hm_types_terms.specs.Courses.{classes_of};
 ghost use Rattle.hm_types_terms.specs.TextTypes.{first_unknown};
 ghost use Rattle.hm_types.specs.Checks.{IsTextTold};

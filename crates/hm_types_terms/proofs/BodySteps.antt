@@ -2,10 +2,10 @@
 use Rattle.std.proofs.Common.{◌<◌, length, sym, subst}
 use Rattle.hm_schema.specs.declared.node.NodeId.{NodeId}
 use Rattle.hm_terms.specs.Lenses.{Lens}
-use Rattle.hm_typing.specs.Forms.{form}
-use Rattle.hm_typing.specs.SameForms.{IsSame}
-use Rattle.hm_typing.specs.Faults.{at}
-use Rattle.hm_table.specs.Tables.{Nodes, AreFormed, Extends}
+use Rattle.hm_types_forms.specs.Forms.{form}
+use Rattle.hm_types_forms.specs.SameForms.{IsSame}
+use Rattle.hm_types_rules.specs.Faults.{at}
+use Rattle.hm_types_table.specs.Tables.{Nodes, AreFormed, Extends}
 use Rattle.hm_types_terms.specs.Courses.{Scope, IsView}
 use Rattle.hm_types_terms.specs.Bodies.{IsTypedBody, IsMistypedBody, elsewhere}
 use Rattle.hm_types_terms.proofs.Growing.{same_form}

@@ -5,17 +5,17 @@ use Rattle.hm_schema.specs.declared.node.NodeId.{NodeId}
 use Rattle.hm_schema.specs.declared.node.Shape.{Shape}
 use Rattle.hm_schema.specs.Values.{Names, NodeOver}
 use Rattle.hm_terms.specs.Lenses.{Lens, fork, on_concrete, on_view}
-use Rattle.hm_node_laws.specs.Branching.{node_with, node_without}
-use Rattle.hm_node_laws.specs.Shapes.{RequiresTwins}
-use Rattle.hm_typing.specs.Forms.{Form, node_of, formed, form}
-use Rattle.hm_typing.specs.Sound.{IsSound}
-use Rattle.hm_typing.specs.SameForms.{IsSame}
-use Rattle.hm_typing.specs.Typing.{Types, Goes, goes_fork, goes_concrete, goes_view, IsForked, IsBranched, AreJoinable, AreMergeable, inside_form, outside_form}
-use Rattle.hm_typing.specs.Sources.{ForkSource, ForkView, BranchSource, MergeView}
-use Rattle.hm_typing.specs.Faults.{At, at, Faults, size_of, fault_fork, fault_inside, fault_outside, fault_joined, fault_concrete, fault_where_it_has, fault_where_it_lacks, fault_apart, fault_view, fault_where_it_showed, fault_where_it_did_not, fault_merged}
-use Rattle.hm_typing.proofs.SoundForms.{node_sound}
-use Rattle.hm_typing.proofs.SoundViews.{inside_sound, outside_sound, with_sound, without_sound}
-use Rattle.hm_table.specs.Tables.{Nodes, AreFormed, Extends}
+use Rattle.hm_types_nodes.specs.Branching.{node_with, node_without}
+use Rattle.hm_schema.specs.Shapes.{RequiresTwins}
+use Rattle.hm_types_forms.specs.Forms.{Form, node_of, formed, form}
+use Rattle.hm_types_forms.specs.Sound.{IsSound}
+use Rattle.hm_types_forms.specs.SameForms.{IsSame}
+use Rattle.hm_types_rules.specs.Typing.{Types, Goes, goes_fork, goes_concrete, goes_view, IsForked, IsBranched, AreJoinable, AreMergeable, inside_form, outside_form}
+use Rattle.hm_types_rules.specs.Sources.{ForkSource, ForkView, BranchSource, MergeView}
+use Rattle.hm_types_rules.specs.Faults.{At, at, Faults, size_of, fault_fork, fault_inside, fault_outside, fault_joined, fault_concrete, fault_where_it_has, fault_where_it_lacks, fault_apart, fault_view, fault_where_it_showed, fault_where_it_did_not, fault_merged}
+use Rattle.hm_types_forms.proofs.SoundForms.{node_sound}
+use Rattle.hm_types_rules.proofs.SoundViews.{inside_sound, outside_sound, with_sound, without_sound}
+use Rattle.hm_types_table.specs.Tables.{Nodes, AreFormed, Extends}
 use Rattle.hm_types_terms.specs.declared.course.Course.{Course}
 use Rattle.hm_types_terms.specs.declared.memo.Memo.{Memo}
 use Rattle.hm_types_terms.specs.Numbers.{parts_of}

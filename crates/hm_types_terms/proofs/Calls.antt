@@ -8,11 +8,11 @@ use Rattle.hm_tree.specs.Edges.{IsPlaceOf, IsGapFor}
 use Rattle.hm_schema.specs.declared.node.NodeId.{NodeId}
 use Rattle.hm_schema.proofs.NamesOf.{found_value}
 use Rattle.hm_terms.specs.Lenses.{call}
-use Rattle.hm_typing.specs.Forms.{Form, form}
-use Rattle.hm_typing.specs.SameForms.{IsSame}
-use Rattle.hm_typing.specs.Typing.{Types, goes_call}
-use Rattle.hm_typing.specs.Faults.{at, Faults, fault_call}
-use Rattle.hm_table.specs.Tables.{Nodes}
+use Rattle.hm_types_forms.specs.Forms.{Form, form}
+use Rattle.hm_types_forms.specs.SameForms.{IsSame}
+use Rattle.hm_types_rules.specs.Typing.{Types, goes_call}
+use Rattle.hm_types_rules.specs.Faults.{at, Faults, fault_call}
+use Rattle.hm_types_table.specs.Tables.{Nodes}
 use Rattle.hm_types_terms.specs.Courses.{Scope, AreTypes, AreDeclared, IsView}
 
 module _ (nodes : Nodes) (scope : Scope) (d : AreDeclared nodes scope) (name : Name) (i : NodeId) where

@@ -9,13 +9,13 @@ use Rattle.hm_schema.specs.Values.{NodeValue}
 use Rattle.hm_schema.specs.WellFormed.{IsWellFormedNode}
 use Rattle.hm_schema.proofs.Lists.{all_read}
 use Rattle.hm_terms.specs.Lenses.{Lens, each}
-use Rattle.hm_typing.specs.Forms.{Label, Step, named, others, label_of, next_of, under, form, can_be}
-use Rattle.hm_typing.specs.Sound.{IsSound}
-use Rattle.hm_typing.specs.Typing.{Goes, goes_each}
-use Rattle.hm_typing.specs.Faults.{At, at, Faults, Before, GoesOn, fault_each, fault_child}
-use Rattle.hm_typing.proofs.SoundForms.{under_sound}
-use Rattle.hm_table.specs.Tables.{Nodes, AreFormed, Extends, replaced, Replaces, CanReplace}
-use Rattle.hm_table.proofs.Grown.{extends_self, formed_at, next_in_range}
+use Rattle.hm_types_forms.specs.Forms.{Label, Step, named, others, label_of, next_of, under, form, can_be}
+use Rattle.hm_types_forms.specs.Sound.{IsSound}
+use Rattle.hm_types_rules.specs.Typing.{Goes, goes_each}
+use Rattle.hm_types_rules.specs.Faults.{At, at, Faults, Before, GoesOn, fault_each, fault_child}
+use Rattle.hm_types_forms.proofs.SoundForms.{under_sound}
+use Rattle.hm_types_table.specs.Tables.{Nodes, AreFormed, Extends, replaced, Replaces, CanReplace}
+use Rattle.hm_types_table.proofs.Grown.{extends_self, formed_at, next_in_range}
 use Rattle.hm_types_terms.specs.declared.course.Course.{Course}
 use Rattle.hm_types_terms.specs.declared.memo.Memo.{Memo}
 use Rattle.hm_types_terms.specs.Numbers.{parts_of}

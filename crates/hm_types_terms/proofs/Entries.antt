@@ -7,14 +7,14 @@ use Rattle.std.specs.FinMap.{find, is_sorted}
 use Rattle.std.proofs.lemmas.Option.{same_Some, none-some, slice_get_within, get_or_from_slice_get, slice_get-map}
 use Rattle.std.specs.Option.{option_map}
 use Rattle.hm_terms.specs.WellFormedPrograms.{HasOnce}
-use Rattle.hm_lens_laws.proofs.CallLists.{tied}
+use Rattle.hm_terms_laws.proofs.CallLists.{tied}
 use Rattle.std.proofs.lemmas.Cmp.{tied_itself}
 use Rattle.std.proofs.lemmas.Bool.{cases_lt}
 use Rattle.hm_tree.specs.Names.{Name, name_cmp}
 use Rattle.hm_tree.specs.NameLaws.{name_total}
 use Rattle.hm_tree.proofs.Sorted.{rises, place_read, back_less}
 use Rattle.hm_schema.proofs.NamesOf.{tie_one}
-use Rattle.hm_table.specs.Tables.{keys}
+use Rattle.hm_types_table.specs.Tables.{keys}
 
 module _ {X : Type 0} where
   -- a name that is found stands at a place

@@ -5,7 +5,7 @@ use Rattle.hm_tree.specs.Names.{Name}
 use Rattle.hm_terms.specs.declared.term.Term.{Term}
 use Rattle.hm_terms.specs.Lenses.{Lens, Lenses, among}
 use Rattle.hm_terms.specs.Programs.{lens_of, lenses_of}
-use Rattle.hm_typing.specs.Faults.{size_of, size_of_all}
+use Rattle.hm_types_rules.specs.Faults.{size_of, size_of_all}
 
 pub first_falls : (a b t : ℕ) → 4 * (a + b) + 3 ≡ t → 4 * a + 1 < t
 first_falls a b t e = omega (arith, e)

@@ -7,13 +7,13 @@ use Rattle.hm_tree.specs.Names.{Name, name_cmp}
 use Rattle.hm_schema.specs.declared.node.NodeId.{NodeId}
 use Rattle.hm_schema.proofs.NamesOf.{found_value}
 use Rattle.hm_terms.specs.Lenses.{Lens}
-use Rattle.hm_typing.specs.Forms.{Form, form}
-use Rattle.hm_typing.specs.Sound.{IsSound}
-use Rattle.hm_typing.specs.Typing.{Types, Goes}
-use Rattle.hm_typing.specs.Faults.{At, Faults}
-use Rattle.hm_typing.proofs.SoundGoes.{AreSoundTypes, goes_sound}
-use Rattle.hm_table.specs.Tables.{Nodes, AreFormed, Extends}
-use Rattle.hm_table.proofs.Grown.{extends_length, extends_then, form_extends}
+use Rattle.hm_types_forms.specs.Forms.{Form, form}
+use Rattle.hm_types_forms.specs.Sound.{IsSound}
+use Rattle.hm_types_rules.specs.Typing.{Types, Goes}
+use Rattle.hm_types_rules.specs.Faults.{At, Faults}
+use Rattle.hm_types_rules.proofs.SoundGoes.{AreSoundTypes, goes_sound}
+use Rattle.hm_types_table.specs.Tables.{Nodes, AreFormed, Extends}
+use Rattle.hm_types_table.proofs.Grown.{extends_length, extends_then, form_extends}
 use Rattle.hm_types_terms.specs.declared.course.Course.{Course}
 use Rattle.hm_types_terms.specs.declared.memo.Memo.{Memo}
 use Rattle.hm_types_terms.specs.Numbers.{StandFrom}

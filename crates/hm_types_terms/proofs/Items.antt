@@ -2,13 +2,13 @@
 use Rattle.std.proofs.Common.{◌≡◌, ◌<◌, ◌+◌, ℕ, Bool, true, false, cond, length}
 use Rattle.hm_schema.specs.declared.node.NodeId.{NodeId}
 use Rattle.hm_terms.specs.Lenses.{Lens, items}
-use Rattle.hm_typing.specs.Forms.{Form, form}
-use Rattle.hm_typing.specs.Sound.{IsSound}
-use Rattle.hm_typing.specs.Typing.{Types, Goes, goes_list, goes_items, list_form, items_form}
-use Rattle.hm_typing.specs.Faults.{At, at, Faults, fault_items, fault_list_item, fault_some_item}
-use Rattle.hm_typing.proofs.ListForms.{list_first_sound, items_first_sound}
-use Rattle.hm_table.specs.Tables.{Nodes}
-use Rattle.hm_view_nodes.specs.Lists.{IsListOf, IsNoList}
+use Rattle.hm_types_forms.specs.Forms.{Form, form}
+use Rattle.hm_types_forms.specs.Sound.{IsSound}
+use Rattle.hm_types_rules.specs.Typing.{Types, Goes, goes_list, goes_items, list_form, items_form}
+use Rattle.hm_types_rules.specs.Faults.{At, at, Faults, fault_items, fault_list_item, fault_some_item}
+use Rattle.hm_types_rules.proofs.ListForms.{list_first_sound, items_first_sound}
+use Rattle.hm_types_table.specs.Tables.{Nodes}
+use Rattle.hm_types_views.specs.Lists.{IsListOf, IsNoList}
 use Rattle.hm_types_terms.specs.declared.course.Course.{Course}
 use Rattle.hm_types_terms.specs.declared.memo.Memo.{Memo}
 use Rattle.hm_types_terms.specs.Numbers.{parts_of}

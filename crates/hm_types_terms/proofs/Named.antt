@@ -11,10 +11,10 @@ use Rattle.hm_schema.proofs.NamesOf.{tie_one}
 use Rattle.hm_terms.specs.declared.term.Term.{Term}
 use Rattle.hm_terms.specs.Lenses.{Lens, lens_at}
 use Rattle.hm_terms.specs.Programs.{lens_of, lenses_of}
-use Rattle.hm_lens_laws.proofs.CallLists.{tied}
-use Rattle.hm_typing.specs.Forms.{Label, label_of}
-use Rattle.hm_typing.specs.Typing.{AreListed}
-use Rattle.hm_table.proofs.Forms.{is_listed_over}
+use Rattle.hm_terms_laws.proofs.CallLists.{tied}
+use Rattle.hm_types_forms.specs.Forms.{Label, label_of}
+use Rattle.hm_types_rules.specs.Typing.{AreListed}
+use Rattle.hm_types_table.proofs.Forms.{is_listed_over}
 
 abbrev pub Terms : Type 0
 Terms = List (Name × Term)

@@ -12,20 +12,20 @@ use Rattle.hm_schema.specs.declared.node.NodeId.{NodeId}
 use Rattle.hm_schema.specs.Values.{NodeValue, is_listed}
 use Rattle.hm_schema.proofs.NamesOf.{tie_one}
 use Rattle.hm_schema.proofs.Lists.{all_read}
-use Rattle.hm_lens_laws.proofs.CallLists.{tied}
+use Rattle.hm_terms_laws.proofs.CallLists.{tied}
 use Rattle.hm_schema.specs.WellFormed.{IsWellFormedNode}
 use Rattle.hm_terms.specs.declared.term.Term.{Term}
 use Rattle.hm_terms.specs.Lenses.{Lens, Lenses, among, none, also, lens_at}
 use Rattle.hm_terms.specs.Programs.{lens_of, lenses_of}
 use Rattle.hm_terms.specs.WellFormedPrograms.{HasOnce, row_names, IsAmong, here, further}
-use Rattle.hm_typing.specs.Forms.{Label, Step, named, others, label_of, next_of, under, form}
-use Rattle.hm_typing.specs.Sound.{IsSound}
-use Rattle.hm_typing.specs.Typing.{Goes, goes_among, AreListed}
-use Rattle.hm_typing.specs.Faults.{At, at, Faults, GoesOn, behind, size_of, size_of_all, fault_among, fault_named}
-use Rattle.hm_typing.proofs.SoundForms.{under_sound}
-use Rattle.hm_table.specs.Tables.{Nodes, AreFormed, Extends, replaced}
-use Rattle.hm_table.proofs.Grown.{formed_at}
-use Rattle.hm_table.proofs.Forms.{is_listed_over}
+use Rattle.hm_types_forms.specs.Forms.{Label, Step, named, others, label_of, next_of, under, form}
+use Rattle.hm_types_forms.specs.Sound.{IsSound}
+use Rattle.hm_types_rules.specs.Typing.{Goes, goes_among, AreListed}
+use Rattle.hm_types_rules.specs.Faults.{At, at, Faults, GoesOn, behind, size_of, size_of_all, fault_among, fault_named}
+use Rattle.hm_types_forms.proofs.SoundForms.{under_sound}
+use Rattle.hm_types_table.specs.Tables.{Nodes, AreFormed, Extends, replaced}
+use Rattle.hm_types_table.proofs.Grown.{formed_at}
+use Rattle.hm_types_table.proofs.Forms.{is_listed_over}
 use Rattle.hm_types_terms.specs.declared.course.Course.{Course}
 use Rattle.hm_types_terms.specs.declared.memo.Memo.{Memo}
 use Rattle.hm_types_terms.specs.Numbers.{StandFrom, parts_of, parts_of_all}

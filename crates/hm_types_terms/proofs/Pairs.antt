@@ -2,18 +2,18 @@
 use Rattle.std.proofs.Common.{◌≡◌, ◌+◌, ℕ, ◌++◌, ◌≤◌, length, inl, inr, sym, subst, arith}
 use Rattle.hm_schema.specs.declared.node.NodeId.{NodeId}
 use Rattle.hm_terms.specs.Lenses.{Lens, sequence}
-use Rattle.hm_typing.specs.Forms.{form}
-use Rattle.hm_typing.specs.Sound.{IsSound}
-use Rattle.hm_typing.specs.Typing.{goes_sequence}
-use Rattle.hm_typing.specs.Faults.{At, Faults, size_of, fault_first, fault_second}
-use Rattle.hm_table.specs.Tables.{Nodes}
+use Rattle.hm_types_forms.specs.Forms.{form}
+use Rattle.hm_types_forms.specs.Sound.{IsSound}
+use Rattle.hm_types_rules.specs.Typing.{goes_sequence}
+use Rattle.hm_types_rules.specs.Faults.{At, Faults, size_of, fault_first, fault_second}
+use Rattle.hm_types_table.specs.Tables.{Nodes}
 use Rattle.hm_types_terms.specs.declared.course.Course.{Course}
 use Rattle.hm_types_terms.specs.declared.memo.Memo.{Memo}
 use Rattle.hm_types_terms.specs.Numbers.{StandFrom, parts_of}
 use Rattle.hm_types_terms.specs.Courses.{scope_of, Scope, lenses_in, IsView, IsReady, IsNumbered, IsGrown, IsAt}
 use Rattle.hm_types_terms.specs.Pairs.{ArePairReady, ArePairViews, IsPairAt}
 use Rattle.hm_types_terms.proofs.Standing.{count, stand_inside, stand_first, stand_second}
-use Rattle.hm_table.proofs.Grown.{extends_length}
+use Rattle.hm_types_table.proofs.Grown.{extends_length}
 use Rattle.hm_types_terms.proofs.Growing.{types_grown, same_form, view_before, view_later, view_sound, fault_before, ready_at}
 
 module _ (c : Course) (n : ℕ) (l k : Lens) where

@@ -7,8 +7,8 @@ use Rattle.hm_tree.specs.Names.{Name}
 use Rattle.hm_terms.specs.declared.term.Term.{Term}
 use Rattle.hm_terms.specs.Lenses.{Lens}
 use Rattle.hm_terms.specs.Programs.{lens_of, lenses_of}
-use Rattle.hm_typing.specs.Faults.{size_of}
-use Rattle.hm_typing.specs.Texts.{HasTexts, HaveTexts}
+use Rattle.hm_types_rules.specs.Faults.{size_of}
+use Rattle.hm_types_rules.specs.Texts.{HasTexts, HaveTexts}
 use Rattle.hm_types_terms.specs.declared.part.Part.{Part}
 use Rattle.hm_types_terms.specs.Numbers.{parts_of, parts_of_all}
 use Rattle.hm_types_terms.specs.Parts.{part_of, parts_inside, behind_head, IsFirstCopy, copies_first, none_copies}

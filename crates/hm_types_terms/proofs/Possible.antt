@@ -11,7 +11,7 @@ use Rattle.hm_schema.specs.declared.node.NodeId.{NodeId}
 use Rattle.hm_schema.specs.Values.{NodeValue, is_listed}
 use Rattle.hm_schema.specs.Tidied.{has_name, lets_in, is_positive}
 use Rattle.hm_schema.specs.WellFormed.{IsWellFormedNode}
-use Rattle.hm_typing.specs.Forms.{Step, named, others, next_of, can_be}
+use Rattle.hm_types_forms.specs.Forms.{Step, named, others, next_of, can_be}
 
 any_of : {X : Type 0} (p : X → Bool) (Q : Type 0) (xs : List X) → All (λ x. p x ≡ true → Q) xs → list_any p xs ≡ true → Q
 any_of p Q [] h e = absurd (false≢true e)

@@ -2,7 +2,7 @@
 use Rattle.std.proofs.Common.{◌≡◌, ◌<◌, ℕ, length, slice_get, Some, inl, inr, sym, ap, subst, ◌∙◌}
 use Rattle.hm_schema.specs.declared.node.NodeId.{NodeId}
 use Rattle.hm_terms.specs.Lenses.{Lens}
-use Rattle.hm_table.specs.Tables.{Nodes}
+use Rattle.hm_types_table.specs.Tables.{Nodes}
 use Rattle.hm_types_terms.specs.declared.course.Course.{Course}
 use Rattle.hm_types_terms.specs.declared.memo.Memo.{Memo}
 use Rattle.hm_types_terms.specs.Numbers.{parts_of}

@@ -3,7 +3,7 @@ use Rattle.std.proofs.Common.{◌≡◌, ℕ, suc, ◌+◌, ◌-◌, ◌<◌, �
 use Rattle.std.specs.Option.{option_map}
 use Rattle.std.proofs.lemmas.Option.{slice_get-map, slice_get_within, get_or_from_slice_get, same_Some}
 use Rattle.hm_terms.specs.Lenses.{Lens, Lenses, none, also, identity, sequence, constant, hoist, plunge, fork, each, among, items, copy, merge, on_concrete, on_view, text, call}
-use Rattle.hm_typing.specs.Faults.{size_of, size_of_all}
+use Rattle.hm_types_rules.specs.Faults.{size_of, size_of_all}
 use Rattle.hm_types_terms.specs.declared.part.Part.{Part}
 use Rattle.hm_types_terms.specs.Parts.{part_of}
 use Rattle.hm_types_terms.specs.Numbers.{parts_of, parts_of_all, StandFrom}

@@ -5,11 +5,11 @@ use Rattle.std.proofs.lemmas.Slice.Zip.{firsts-zip}
 use Rattle.hm_tree.specs.declared.class.Class.{Class}
 use Rattle.hm_schema.specs.declared.node.NodeId.{NodeId}
 use Rattle.hm_schema.specs.Values.{NodeValue}
-use Rattle.hm_table.specs.declared.kind.Kind.{Kind}
-use Rattle.hm_table.specs.declared.vertex.Vertex.{Vertex}
-use Rattle.hm_table.specs.Tables.{Nodes, seat, replaced}
+use Rattle.hm_types_table.specs.declared.kind.NodeKind.{NodeKind}
+use Rattle.hm_types_table.specs.declared.vertex.Vertex.{Vertex}
+use Rattle.hm_types_table.specs.Tables.{Nodes, seat, replaced}
 
-pub itself : (k : Kind) (v : Vertex) (js : List NodeId) (o : Option (Class × NodeId)) → length v.next.items ≡ length k.names.items → v.next.items ≡ js → v.other ≡ o
+pub itself : (k : NodeKind) (v : Vertex) (js : List NodeId) (o : Option (Class × NodeId)) → length v.next.items ≡ length k.names.items → v.next.items ≡ js → v.other ≡ o
     → (n : NodeValue) → n ≡ seat k v → n ≡ replaced n js o
 itself k v js o count next other n is =
     let names = firsts-zip k.names.items v.next.items count in

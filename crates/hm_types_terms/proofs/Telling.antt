@@ -2,8 +2,8 @@
 use Rattle.std.proofs.Common.{◌≡◌, ℕ, refl, sym, subst}
 use Rattle.hm_schema.specs.declared.node.NodeId.{NodeId}
 use Rattle.hm_terms.specs.Lenses.{Lens}
-use Rattle.hm_typing.specs.Faults.{At, at}
-use Rattle.hm_table.specs.Tables.{Nodes}
+use Rattle.hm_types_rules.specs.Faults.{At, at}
+use Rattle.hm_types_table.specs.Tables.{Nodes}
 use Rattle.hm_types_terms.specs.declared.course.Course.{Course}
 use Rattle.hm_types_terms.specs.Courses.{scope_of, IsAt}
 use Rattle.hm_types_terms.specs.declared.fault.TypeFault.{TypeFault}

@@ -14,9 +14,9 @@ use Rattle.hm_text_lens.specs.Naming.{first_named}
 use Rattle.hm_terms.specs.declared.term.Definition.{Definition}
 use Rattle.hm_terms.specs.declared.term.Term.{Term}
 use Rattle.hm_terms.specs.Programs.{lens_of, lenses_of, definition_value}
-use Rattle.hm_typing.specs.Typing.{Classes}
-use Rattle.hm_typing.specs.TextNames.{text_names, text_names_of, body_text_names, AreKnown, IsFirstUnknown}
-use Rattle.hm_typing.specs.Programs.{classes_in}
+use Rattle.hm_types_rules.specs.Typing.{Classes}
+use Rattle.hm_types_rules.specs.TextNames.{text_names, text_names_of, body_text_names, AreKnown, IsFirstUnknown}
+use Rattle.hm_types_rules.specs.Programs.{classes_in}
 use Rattle.hm_types_terms.specs.declared.texts.TextType.{TextType}
 use Rattle.hm_types_terms.specs.Courses.{classes_of}
 use Rattle.hm_types_terms.specs.TextTypes.{text_type, first_unknown}

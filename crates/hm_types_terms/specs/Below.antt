@@ -5,9 +5,9 @@ use Rattle.hm_tree.specs.Names.{Name}
 use Rattle.hm_schema.specs.declared.node.NodeId.{NodeId}
 use Rattle.hm_schema.specs.Values.{NodeValue}
 use Rattle.hm_terms.specs.Lenses.{Lens}
-use Rattle.hm_typing.specs.Forms.{named, others, can_be}
-use Rattle.hm_typing.specs.Faults.{At}
-use Rattle.hm_table.specs.Tables.{Nodes}
+use Rattle.hm_types_forms.specs.Forms.{named, others, can_be}
+use Rattle.hm_types_rules.specs.Faults.{At}
+use Rattle.hm_types_table.specs.Tables.{Nodes}
 use Rattle.hm_types_terms.specs.Courses.{Scope, IsView, IsAt}
 
 -- a lens goes from one node to the other, or there is no lens and it is the same node

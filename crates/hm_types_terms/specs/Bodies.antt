@@ -2,11 +2,11 @@
 use Rattle.hm_schema.specs.declared.node.NodeId.{NodeId}
 use Rattle.hm_terms.specs.Lenses.{Lens, Lenses, among}
 use Rattle.hm_terms.specs.WellFormedPrograms.{StandsIn, HasOnce, row_names}
-use Rattle.hm_typing.specs.Forms.{Form, form}
-use Rattle.hm_typing.specs.SameForms.{IsSame}
-use Rattle.hm_typing.specs.Typing.{Types, Goes}
-use Rattle.hm_typing.specs.Faults.{At, at, Faults}
-use Rattle.hm_table.specs.Tables.{Nodes}
+use Rattle.hm_types_forms.specs.Forms.{Form, form}
+use Rattle.hm_types_forms.specs.SameForms.{IsSame}
+use Rattle.hm_types_rules.specs.Typing.{Types, Goes}
+use Rattle.hm_types_rules.specs.Faults.{At, at, Faults}
+use Rattle.hm_types_table.specs.Tables.{Nodes}
 use Rattle.hm_types_terms.specs.Courses.{Scope, AreTypes}
 
 -- no name has two lenses side by side

@@ -7,11 +7,11 @@ use Rattle.hm_schema.specs.declared.node.NodeId.{NodeId}
 use Rattle.hm_terms.specs.Lenses.{Lens, Lenses, among}
 use Rattle.hm_terms.specs.WellFormedPrograms.{HasOnce, row_names}
 use Rattle.hm_terms.specs.Programs.{lens_of}
-use Rattle.hm_typing.specs.Forms.{form}
-use Rattle.hm_typing.specs.Sound.{IsSound}
-use Rattle.hm_typing.specs.Typing.{Classes, Types, Goes}
-use Rattle.hm_typing.specs.Faults.{At, Faults}
-use Rattle.hm_table.specs.Tables.{Nodes, AreFormed, Extends}
+use Rattle.hm_types_forms.specs.Forms.{form}
+use Rattle.hm_types_forms.specs.Sound.{IsSound}
+use Rattle.hm_types_rules.specs.Typing.{Classes, Types, Goes}
+use Rattle.hm_types_rules.specs.Faults.{At, Faults}
+use Rattle.hm_types_table.specs.Tables.{Nodes, AreFormed, Extends}
 use Rattle.std.specs.Ordering.{eq_by_cmp}
 use Rattle.hm_types_terms.specs.declared.course.Course.{Course}
 use Rattle.hm_types_terms.specs.declared.texts.TextType.{TextType}

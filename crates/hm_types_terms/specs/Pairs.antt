@@ -2,11 +2,11 @@
 use Rattle.std.specs.Prelude.{◌⊎◌, ◌<◌, ◌+◌, ◌++◌, ℕ, length}
 use Rattle.hm_schema.specs.declared.node.NodeId.{NodeId}
 use Rattle.hm_terms.specs.Lenses.{Lens}
-use Rattle.hm_typing.specs.Forms.{Form, form}
-use Rattle.hm_typing.specs.Sound.{IsSound}
-use Rattle.hm_typing.specs.Typing.{Types, Goes}
-use Rattle.hm_typing.specs.Faults.{At, Faults, size_of}
-use Rattle.hm_table.specs.Tables.{Nodes}
+use Rattle.hm_types_forms.specs.Forms.{Form, form}
+use Rattle.hm_types_forms.specs.Sound.{IsSound}
+use Rattle.hm_types_rules.specs.Typing.{Types, Goes}
+use Rattle.hm_types_rules.specs.Faults.{At, Faults, size_of}
+use Rattle.hm_types_table.specs.Tables.{Nodes}
 use Rattle.hm_types_terms.specs.declared.course.Course.{Course}
 use Rattle.hm_types_terms.specs.declared.memo.Memo.{Memo}
 use Rattle.hm_types_terms.specs.Numbers.{parts_of, StandFrom}

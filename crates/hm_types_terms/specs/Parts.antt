@@ -1,7 +1,7 @@
 -- What is kept of the lenses in a lens, and the first one that copies.
 use Rattle.std.specs.Prelude.{◌≡◌, ◌<◌, ◌+◌, ℕ, Bool, true, false, List, [], ◌∷◌, Some, slice_get}
 use Rattle.hm_terms.specs.Lenses.{Lens, copy, identity, sequence, constant, hoist, plunge, fork, each, among, items, merge, on_concrete, on_view, text, call}
-use Rattle.hm_typing.specs.Faults.{size_of}
+use Rattle.hm_types_rules.specs.Faults.{size_of}
 use Rattle.hm_types_terms.specs.declared.part.Part.{Part}
 use Rattle.hm_types_terms.specs.Numbers.{parts_of}
 

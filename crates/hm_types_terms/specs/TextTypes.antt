@@ -2,7 +2,7 @@
 use Rattle.std.specs.Prelude.{List, Option, not, is_some, find}
 use Rattle.hm_tree.specs.Names.{Name}
 use Rattle.hm_text_lens.specs.Meanings.{TextMeaning}
-use Rattle.hm_typing.specs.Typing.{Classes}
+use Rattle.hm_types_rules.specs.Typing.{Classes}
 use Rattle.hm_types_terms.specs.declared.texts.TextType.{TextType}
 
 abbrev pub text_type : TextMeaning → TextType

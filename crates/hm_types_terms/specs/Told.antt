@@ -1,6 +1,6 @@
 -- Which fault is told of a lens of a definition.
 use Rattle.std.specs.Prelude.{◌≡◌, ℕ}
-use Rattle.hm_typing.specs.Faults.{At, at}
+use Rattle.hm_types_rules.specs.Faults.{At, at}
 use Rattle.hm_types_terms.specs.declared.fault.TypeFault.{TypeFault}
 use Rattle.hm_types_terms.specs.declared.fault.TypeFault.TheVariants.{Mistyped, UnknownLens, Unguarded, TwinLeft, Memory}
 

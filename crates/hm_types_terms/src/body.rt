@@ -1,8 +1,8 @@
 //! Whole terms, and definitions.
 ghost use Rattle.std.specs.Prelude.{◌≡◌, ◌<◌, IfOk, OnOk, IfErr, length};
 ghost use Rattle.hm_terms.specs.Programs.{lens_of};
-ghost use Rattle.hm_typing.specs.Texts.{HasTexts};
-ghost use Rattle.hm_table.specs.Tables.{AreFormed, Extends};
+ghost use Rattle.hm_types_rules.specs.Texts.{HasTexts};
+ghost use Rattle.hm_types_table.specs.Tables.{AreFormed, Extends};
 ghost use Rattle.hm_types_terms.specs.Told.{IsTold};
 ghost use Rattle.hm_types_terms.specs.Courses.{scoped, IsStart, IsView, IsAt};
 ghost use Rattle.hm_types_terms.specs.Bodies.{HasDistinctRows, IsTypedBody, IsMistypedBody};
@@ -15,9 +15,9 @@ use crate::part::parts;
 use crate::texts::TextType;
 use crate::typing::view;
 use hm_schema::NodeId;
-use hm_table::{Table, same};
 use hm_terms::Term;
 use hm_tree::Name;
+use hm_types_table::{Table, same};
 use std::alloc::Global;
 
 /// The node that the term of a definition of this number goes to from a node.

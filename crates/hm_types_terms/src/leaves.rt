@@ -1,7 +1,7 @@
 //! The views of lenses that have no lenses inside.
 ghost use Rattle.std.specs.Prelude.{◌≡◌, IfOk, IfErr};
 ghost use Rattle.hm_terms.specs.Lenses.{constant as constant_lens, hoist as hoist_lens, plunge as plunge_lens, copy as copy_lens, merge, text as text_lens, call};
-ghost use Rattle.hm_table.specs.Tables.{AreFormed, Extends};
+ghost use Rattle.hm_types_table.specs.Tables.{AreFormed, Extends};
 ghost use Rattle.hm_types_terms.specs.Courses.{scope_of, IsStart, IsView, IsAt};
 ghost use Rattle.hm_types_terms.specs.Told.{IsTold};
 
@@ -10,9 +10,9 @@ use crate::fault::TypeFault;
 use crate::texts::classes_named;
 use crate::unmet::unmet;
 use hm_schema::NodeId;
-use hm_table::{Table, member, same};
 use hm_tree::{Memory, Name, Tree, place_of};
-use hm_view_nodes::{copied, exactly, hidden, hoisted, plunged, valued};
+use hm_types_table::{Table, member, same};
+use hm_types_views::{copied, exactly, hidden, hoisted, plunged, valued};
 
 /// The nodes that have exactly a tree, where the default is a member of the source.
 pub fn constant(

@@ -1,7 +1,7 @@
 //! The numbers of lenses.
 ghost use Rattle.std.specs.Prelude.{◌≡◌, ◌+◌, Some, slice_get};
 ghost use Rattle.hm_terms.specs.Lenses.{Lens};
-ghost use Rattle.hm_typing.specs.Faults.{size_of};
+ghost use Rattle.hm_types_rules.specs.Faults.{size_of};
 ghost use Rattle.hm_types_terms.specs.Numbers.{parts_of, StandFrom};
 ghost use Rattle.hm_types_terms.specs.Courses.{lenses_in, IsNumbered};
 

@@ -1,11 +1,11 @@
 //! Nodes of the kind of another one over other nodes.
 ghost use Rattle.std.specs.Prelude.{◌≡◌, ◌<◌, IsTrue, IfOk, Some, length, slice_get};
 ghost use Rattle.hm_schema.specs.Values.{NodeValue};
-ghost use Rattle.hm_table.specs.Tables.{AreFormed, Extends, CanReplace, replaced};
+ghost use Rattle.hm_types_table.specs.Tables.{AreFormed, Extends, CanReplace, replaced};
 
 use hm_schema::NodeId;
-use hm_table::{Table, equal_ends, equal_others};
 use hm_tree::{Class, Memory};
+use hm_types_table::{Table, equal_ends, equal_others};
 
 /// The node of the kind of a node over other nodes: itself, where these are what it stands over, else one that is added. So a
 /// view that is its source costs no node, and what was found at it is known.

@@ -2,7 +2,7 @@
 ghost use Rattle.std.specs.Prelude.{◌≡◌, ◌<◌, ◌++◌, ◌^◌, IfOk, OnOk, IsUtf8, length, map, suc};
 ghost use Rattle.hm_terms.specs.Lenses.{Lens};
 ghost use Rattle.hm_terms.specs.Programs.{lens_of, lenses_of};
-ghost use Rattle.hm_typing.specs.Texts.{HasTexts, HaveTexts};
+ghost use Rattle.hm_types_rules.specs.Texts.{HasTexts, HaveTexts};
 ghost use Rattle.hm_types_terms.specs.Numbers.{parts_of, parts_of_all};
 ghost use Rattle.hm_types_terms.specs.Parts.{part_of, parts_inside, copies, IsFirstCopy};
 

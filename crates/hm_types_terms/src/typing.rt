@@ -3,8 +3,8 @@ ghost use Rattle.std.specs.Prelude.{◌≡◌, ◌↔◌, ◌<◌, ◌+◌, IsTr
 ghost use Rattle.hm_schema.specs.Values.{NodeValue};
 ghost use Rattle.hm_terms.specs.Lenses.{sequence, fork, each, among, items, on_concrete, on_view};
 ghost use Rattle.hm_terms.specs.Programs.{lens_of, lenses_of};
-ghost use Rattle.hm_typing.specs.Forms.{form, label_of};
-ghost use Rattle.hm_typing.specs.Typing.{AreListed};
+ghost use Rattle.hm_types_forms.specs.Forms.{form, label_of};
+ghost use Rattle.hm_types_rules.specs.Typing.{AreListed};
 ghost use Rattle.hm_types_terms.specs.Numbers.{parts_of};
 ghost use Rattle.hm_types_terms.specs.Courses.{scope_of, IsReady, IsGrown, IsView, IsAt};
 ghost use Rattle.hm_types_terms.specs.Pairs.{ArePairReady, ArePairViews, IsPairAt};
@@ -19,12 +19,12 @@ use crate::numbers::{behind, like};
 use crate::over::over;
 use crate::unmet::unmet;
 use hm_schema::NodeId;
-use hm_table::{
-    Table, count, equal, is_plain, lets_some_in, listed, lists, other, place_of, same, targets,
-};
 use hm_terms::Term;
 use hm_tree::{Class, Name, NameSet};
-use hm_view_nodes::{branched, items_of, joined, list_of, merged, parted};
+use hm_types_table::{
+    Table, count, equal, is_plain, lets_some_in, listed, lists, other, place_of, same, targets,
+};
+use hm_types_views::{branched, items_of, joined, list_of, merged, parted};
 
 /// The two lenses inside one.
 #[derive(Drop)]

@@ -9,13 +9,13 @@ use Rattle.std.proofs.lemmas.List.{append_assoc}
 use Rattle.std.proofs.lemmas.List.Elements.{All-nil, All-cons, All-head, All-tail, All-append}
 use Rattle.hm_lines.specs.Unfolding.{is_blank, begins_with_blank}
 use Rattle.hm_lines.proofs.Laws.{content_no_blank}
-use Rattle.hm_properties.specs.Lines.{Line}
-use Rattle.hm_properties.specs.Lent.{plain}
-use Rattle.hm_components.specs.Components.{Bytes, Component, Piece, item, components_of}
-use Rattle.hm_components.specs.Renewed.{AreRenewed, behind, stays, goes, exchanged}
-use Rattle.hm_components.specs.Forms.{is_full}
+use Rattle.hm_lines_cards.specs.Lines.{Line}
+use Rattle.hm_lines_cards.specs.Lent.{plain}
+use Rattle.hm_lines_files.specs.Components.{Bytes, Component, Piece, item, components_of}
+use Rattle.hm_lines_files.specs.Renewed.{AreRenewed, behind, stays, goes, exchanged}
+use Rattle.hm_lines_files.specs.Forms.{is_full}
 use Rattle.hm_vcard.specs.Cards as cards
-use Rattle.hm_vcard.specs.Cards.{CardLines, IsProperty, IsCard, begin_line, version_line, end_line, frame_names, is_frame, is_line, birthday, single, component_with, pieces_with, IsCardComponent, IsFileOfCards, card_kind, vcards}
+use Rattle.hm_vcard.specs.Cards.{CardLines, IsProperty, IsCard, begin_line, version_line, end_line, frame_names, is_frame, is_line, birthday, single, component_with, pieces_with, IsCardComponent, IsFileOfCards, vcards}
 use Rattle.hm_vcard.specs.Opening.{IsOther}
 use Rattle.hm_vcard.proofs.Frames.{end_other}
 use Rattle.hm_vcard.proofs.Fronts.{one_line}

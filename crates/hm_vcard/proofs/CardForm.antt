@@ -3,14 +3,14 @@ use Rattle.std.proofs.Common.{[], ◌∷◌, None, refl, sym, ap, ◌∙◌, sub
 use Rattle.std.specs.Prelude.{All, IsUtf8}
 use Rattle.std.proofs.lemmas.List.Elements.{All-nil, All-cons}
 use Rattle.hm_lines.specs.Folding.{IsPlain}
-use Rattle.hm_properties.specs.Lines.{Line, IsLine, AreFew}
-use Rattle.hm_components.specs.Components.{Component, Layout, components}
-use Rattle.hm_components.specs.Rewriting.{showing}
-use Rattle.hm_components.specs.Forms.{shown_of}
-use Rattle.hm_components.specs.FormLaws.{IsForm}
-use Rattle.hm_components.proofs.KnownNames.{capital, all_apart, sound_line}
+use Rattle.hm_lines_cards.specs.Lines.{Line, IsLine, AreFew}
+use Rattle.hm_lines_files.specs.Components.{Component, Layout, components}
+use Rattle.hm_lines_files.specs.Rewriting.{showing}
+use Rattle.hm_lines_files.specs.Forms.{shown_of}
+use Rattle.hm_lines_files.specs.FormLaws.{IsForm}
+use Rattle.hm_lines_files.proofs.KnownNames.{capital, all_apart, sound_line}
 use Rattle.hm_vcard.specs.Cards as cards
-use Rattle.hm_vcard.specs.Cards.{CardLines, IsProperty, IsCard, begin_line, version_line, end_line, frame_names, is_frame, is_line, birthday, single, component_with, pieces_with, IsCardComponent, IsFileOfCards, card_kind, vcards}
+use Rattle.hm_vcard.specs.Cards.{CardLines, IsProperty, IsCard, begin_line, version_line, end_line, frame_names, is_frame, is_line, birthday, single, component_with, pieces_with, IsCardComponent, IsFileOfCards, card_template, vcards}
 use Rattle.hm_vcard.proofs.FileStops.{lines_are, layout_with}
 use Rattle.hm_vcard.proofs.CardNames.{name_named, card_properties}
 use Rattle.hm_vcard.proofs.CardProperties.{card_are_lines, shown_few}
@@ -26,8 +26,8 @@ pub vcards_form : IsForm vcards
 vcards_form = record {
   properties = card_properties;
   word = name_named.0;
-  capitals = capital card_kind.key refl;
-  apart = all_apart card_kind.key cards.properties refl;
+  capitals = capital card_template.key refl;
+  apart = all_apart card_template.key cards.properties refl;
   front = refl;
   more = refl;
   end = sound_line end_line refl refl refl;

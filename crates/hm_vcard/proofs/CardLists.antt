@@ -4,17 +4,16 @@ use Rattle.std.specs.Prelude.{All}
 use Rattle.std.proofs.lemmas.List.{append_assoc, append-nil, length-append, map-append, drop_at, drop_all}
 use Rattle.std.proofs.lemmas.List.Elements.{All-head, All-tail, All-cons, All-nil, All-append, All-push}
 use Rattle.std.proofs.lemmas.Grind.{flat_map-append}
-use Rattle.hm_lines.specs.declared.content.LineParts.{LineParts}
-use Rattle.hm_lines.specs.Content.{colon, IsContentLine}
-use Rattle.hm_properties.specs.Lines.{Line}
-use Rattle.hm_properties.specs.Lent.{plain}
+use Rattle.hm_lines_cards.specs.Lines.{Line}
+use Rattle.hm_lines_cards.specs.Lent.{plain}
 use Rattle.hm_vcard.specs.Cards.{CardLines, IsProperty, IsCard, is_line, begin_line, version_line, end_line, lines_of, all_lines, component_with}
-use Rattle.hm_components.specs.Components.{Bytes, Piece, item}
-use Rattle.hm_components.specs.Forms.{is_full}
+use Rattle.hm_lines_files.specs.Components.{Bytes, Piece, item}
+use Rattle.hm_lines_files.specs.Forms.{is_full}
 use Rattle.hm_vcard.specs.Opening.{IsStopBehind, IsStop, IsInFront, IsOther, AreFront, AreAll}
-use Rattle.hm_components.specs.declared.stop.Stop.{Stop}
-use Rattle.hm_components.specs.declared.stop.Stop.TheVariants as stop
+use Rattle.hm_lines_files.specs.declared.layout_fault.LayoutFault.{LayoutFault}
+use Rattle.hm_lines_files.specs.declared.layout_fault.LayoutFault.TheVariants as stop
 use Rattle.hm_vcard.proofs.Frames.{end_other}
+use Rattle.hm_lines_files.proofs.ContentLines.{content_full}
 
 -- ---- what stands behind a card is known
 
@@ -56,14 +55,6 @@ others (c ∷ cards) (d ∷ cs) X one two same =
 
 abbrev Full : List Bytes → Type 0
 Full lines = All (λ l. is_full l ≡ true) lines
-
-content_full : (line : Bytes) (parts : LineParts) → IsContentLine line parts → is_full line ≡ true
-content_full [] parts is =
-    let one = ap length is.bytes ∙ length-append is.group (is.name ++ (is.parameters ++ colon ∷ is.value)) in
-    let two = length-append is.name (is.parameters ++ colon ∷ is.value) in
-    let three = length-append is.parameters (colon ∷ is.value) in
-    absurd (omega (arith, one, two, three))
-content_full (b ∷ line) parts is = refl
 
 properties_full : (ps : List Line) → All IsProperty ps → Full (plain ps)
 properties_full [] all = All-nil (λ l. is_full l ≡ true)
@@ -131,7 +122,7 @@ module _ (L : List Bytes) (from : ℕ) (pieces : List Piece) (done : AreFront L 
         let same = counted_more in
         omega (arith, long, same)
 
-  pub stops_behind : from < length L → (s : Stop) → IsStopBehind L from s → IsStop L s
+  pub stops_behind : from < length L → (s : LayoutFault) → IsStopBehind L from s → IsStop L s
   stops_behind lt (stop.At place) why = record {
     cards = done.cards;
     each = done.each;

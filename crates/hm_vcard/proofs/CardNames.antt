@@ -11,12 +11,12 @@ use Rattle.hm_tree.specs.Names.{Name, name_cmp}
 use Rattle.hm_tree.specs.Nodes.{are_edges}
 use Rattle.hm_lines.specs.Content.{colon, is_of_word, IsWord}
 use Rattle.hm_lines.specs.Values.{escaped}
-use Rattle.hm_cards.specs.Cards.{Shown}
-use Rattle.hm_properties.specs.Lines.{AreProperties}
-use Rattle.hm_properties.specs.Rewriting.{Property, new_line}
-use Rattle.hm_components.proofs.KnownNames.{all_true, not_true, word, capital}
+use Rattle.hm_book_cards.specs.Cards.{Shown}
+use Rattle.hm_lines_cards.specs.Lines.{AreProperties}
+use Rattle.hm_lines_cards.specs.Rewriting.{Property, new_line}
+use Rattle.hm_lines_files.proofs.KnownNames.{all_true, not_true, word, capital}
 use Rattle.hm_vcard.specs.Cards as cards
-use Rattle.hm_vcard.specs.Cards.{CardLines, IsProperty, IsCard, begin_line, version_line, end_line, frame_names, is_frame, is_line, birthday, single, component_with, pieces_with, IsCardComponent, IsFileOfCards, card_kind, vcards}
+use Rattle.hm_vcard.specs.Cards.{CardLines, IsProperty, IsCard, begin_line, version_line, end_line, frame_names, is_frame, is_line, birthday, single, component_with, pieces_with, IsCardComponent, IsFileOfCards, card_template, vcards}
 
 -- ---- names of properties
 
@@ -46,8 +46,8 @@ named_from (b ∷ k) e =
 pub all_named : All IsNamed cards.properties
 all_named i d lt = named_from (get_or cards.properties i d).0 (all_true (λ p. is_free_word p.0) cards.properties refl i d lt)
 
-pub name_named : IsNamed (card_kind.key, false)
-name_named = named_from card_kind.key refl
+pub name_named : IsNamed (card_template.key, false)
+name_named = named_from card_template.key refl
 
 properties_rise : T (are_edges cards.properties)
 unfolding name_cmp is_utf8 chars encode

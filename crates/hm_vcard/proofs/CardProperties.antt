@@ -6,15 +6,15 @@ use Rattle.std.proofs.lemmas.List.Elements.{All-nil, All-cons, All-head, All-tai
 use Rattle.hm_tree.specs.Names.{Name}
 use Rattle.hm_schema.specs.Values.{OptionsValue}
 use Rattle.hm_lines.specs.declared.content.LineParts.{LineParts}
-use Rattle.hm_properties.specs.Lines.{Line, HasParts, IsLine, texts_of, AreFew}
-use Rattle.hm_properties.specs.Rewriting.{Property, with_value, new_line}
-use Rattle.hm_properties.proofs.Laws.{made_new, made_is_line, same_property}
+use Rattle.hm_lines_cards.specs.Lines.{Line, HasParts, IsLine, texts_of, AreFew}
+use Rattle.hm_lines_cards.specs.Rewriting.{Property, with_value, new_line}
+use Rattle.hm_lines_cards.proofs.Laws.{made_new, made_is_line, same_property}
 use Rattle.hm_format.specs.Options.{values_of, is_among}
-use Rattle.hm_components.specs.Forms.{shown_of}
+use Rattle.hm_lines_files.specs.Forms.{shown_of}
 use Rattle.hm_vcard.specs.Cards as cards
-use Rattle.hm_vcard.specs.Cards.{CardLines, IsProperty, IsCard, begin_line, version_line, end_line, frame_names, is_frame, is_line, birthday, single, component_with, pieces_with, IsCardComponent, IsFileOfCards, card_kind, vcards}
+use Rattle.hm_vcard.specs.Cards.{CardLines, IsProperty, IsCard, begin_line, version_line, end_line, frame_names, is_frame, is_line, birthday, single, component_with, pieces_with, IsCardComponent, IsFileOfCards, vcards}
 use Rattle.hm_vcard.proofs.CardNames.{IsNamed, others}
-use Rattle.hm_components.proofs.KnownNames.{all_true}
+use Rattle.hm_lines_files.proofs.KnownNames.{all_true}
 
 -- ---- lines
 

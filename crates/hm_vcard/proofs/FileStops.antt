@@ -6,10 +6,10 @@ use Rattle.std.proofs.lemmas.List.Elements.{All-push, All-head}
 use Rattle.std.proofs.Math.Seq.{take-append-add}
 use Rattle.std.specs.List.{flat_map}
 use Rattle.hm_schema.specs.Values.{OptionsValue}
-use Rattle.hm_components.specs.Components.{Bytes, piece_lines, Layout, all_lines as layout_lines}
-use Rattle.hm_components.specs.Stops.{Opens, StopsAtLine, AreOf, IsStop as IsFileStop}
-use Rattle.hm_components.specs.declared.stop.Stop.{Stop}
-use Rattle.hm_components.specs.declared.stop.Stop.TheVariants as stop
+use Rattle.hm_lines_files.specs.Components.{Bytes, piece_lines, Layout, all_lines as layout_lines}
+use Rattle.hm_lines_files.specs.Stops.{Opens, StopsAtLine, AreOf, IsStop as IsFileStop}
+use Rattle.hm_lines_files.specs.declared.layout_fault.LayoutFault.{LayoutFault}
+use Rattle.hm_lines_files.specs.declared.layout_fault.LayoutFault.TheVariants as stop
 use Rattle.hm_vcard.specs.Cards.{CardLines, IsCard, lines_of, all_lines, pieces_with, IsFileOfCards, vcards}
 use Rattle.hm_vcard.specs.Opening.{StopsCards, AreAll, IsStop}
 use Rattle.hm_vcard.proofs.CardLists.{AreOthers, others, all_more}
@@ -96,7 +96,7 @@ module _ (o : OptionsValue) (L : List Bytes) (place : ℕ) (stops : StopsCards L
   pub file_stops : StopsAtLine vcards o L place
   file_stops = record { within = within; opens = opens; next = next; none = none }
 
-pub stop_told : (o : OptionsValue) (L : List Bytes) (s : Stop) → IsStop L s → IsFileStop vcards o L s
+pub stop_told : (o : OptionsValue) (L : List Bytes) (s : LayoutFault) → IsStop L s → IsFileStop vcards o L s
 stop_told o L (stop.At place) why = file_stops o L place why
 stop_told o L stop.Memory why = tt
 

@@ -4,13 +4,14 @@ use Rattle.std.specs.Prelude.{All}
 use Rattle.std.proofs.lemmas.List.{append_assoc, length-map, length-take-le, take-map, take_all}
 use Rattle.std.proofs.lemmas.List.Elements.{All-nil, All-head, All-take}
 use Rattle.std.proofs.Math.Seq.{take-take}
-use Rattle.hm_properties.specs.Lines.{Line, AreFew, IsFirstSecond}
-use Rattle.hm_properties.specs.Lent.{plain}
+use Rattle.hm_lines_cards.specs.Lines.{Line, AreFew, IsFirstSecond}
+use Rattle.hm_lines_cards.specs.Lent.{plain}
 use Rattle.hm_vcard.specs.Cards.{CardLines, IsProperty, IsCard, is_line, begin_line, version_line, end_line, single, lines_of}
-use Rattle.hm_components.specs.Components.{Bytes}
+use Rattle.hm_lines_files.specs.Components.{Bytes}
 use Rattle.hm_vcard.specs.Opening.{Opens, StopsCard, IsInFront, EndsAt}
 use Rattle.hm_vcard.proofs.Frames.{end_other}
-use Rattle.hm_vcard.proofs.Fronts.{in_front, behind, fewer, got_behind, split_at, taken_front, less_taken, got_front}
+use Rattle.hm_vcard.proofs.Fronts.{in_front, fewer, got_behind, taken_front, less_taken, got_front}
+use Rattle.hm_facts.proofs.Lists.{behind, split_at}
 
 both : (b : Bool) → b ≡ true → b ≡ false → ⊥
 both b e f = let bad : ⊥ = cc in bad

@@ -1,24 +1,19 @@
 -- The card in front of lines, as the code looks for it.
-use Rattle.std.proofs.Common.{◌≡◌, ℕ, suc, ◌+◌, ◌≤◌, List, [], ◌∷◌, length, take, drop, slice_get, Some, Result, Ok, Err, sym, ap, ◌∙◌, subst, arith}
-use Rattle.std.specs.Prelude.{All, IfErr, IsErrAnd}
+use Rattle.std.proofs.Common.{◌≡◌, ℕ, suc, ◌+◌, ◌≤◌, List, [], ◌∷◌, length, take, drop, slice_get, Some, sym, ap, ◌∙◌, subst, arith}
+use Rattle.std.specs.Prelude.{All}
 use Rattle.std.specs.Borrow.{Bor}
 use Rattle.std.proofs.lemmas.List.{length-map, length-take, drop-map}
 use Rattle.std.proofs.lemmas.Option.{same_Some, none-some}
-use Rattle.hm_properties.specs.Lines.{Line, AreFew, IsFirstSecond}
-use Rattle.hm_properties.specs.declared.line.Line.{Line as Found}
-use Rattle.hm_properties.specs.Lent.{plain, lent, line_of}
+use Rattle.hm_lines_cards.specs.Lines.{Line, AreFew, IsFirstSecond}
+use Rattle.hm_lines_cards.specs.declared.line.Line.{Line as Found}
+use Rattle.hm_lines_cards.specs.Lent.{plain, lent, line_of}
 use Rattle.hm_vcard.specs.Cards.{IsProperty, begin_line, version_line, end_line, single}
-use Rattle.hm_components.specs.Components.{Bytes}
+use Rattle.hm_lines_files.specs.Components.{Bytes}
 use Rattle.hm_vcard.specs.Opening.{StopsCard, IsCardStop, IsInFront, IsLineAt, IsNoLineAt, EndsAt}
-use Rattle.hm_components.specs.Lent.{texts}
-use Rattle.hm_components.specs.declared.stop.Stop.{Stop}
-use Rattle.hm_components.specs.declared.stop.Stop.TheVariants as stop
+use Rattle.hm_lines_files.specs.Lent.{texts}
+use Rattle.hm_lines_files.specs.declared.layout_fault.LayoutFault.{LayoutFault}
+use Rattle.hm_lines_files.specs.declared.layout_fault.LayoutFault.TheVariants as stop
 use Rattle.hm_vcard.proofs.FirstCard.{ended, stops_at_begin, stops_at_version, stops_at_second, stops_at_end, is_first}
-
--- a stop that is passed on
-pub passed : {X : Type 0} (r : Result X Stop) (s : Stop) (P : Stop → Type 0) → IsErrAnd r (λ e. e ≡ s) → P s → IfErr r P
-passed (Ok x) s P e h = absurd e
-passed (Err f) s P e h = subst P (sym e) h
 
 one_front : (L : List Bytes) (b : Bytes) → slice_get L 0 ≡ Some b → L ≡ b ∷ drop 1 L
 one_front [] b e = absurd (none-some b e)
@@ -29,12 +24,12 @@ two_front [] b v e f = absurd (none-some b e)
 two_front (x ∷ []) b v e f = absurd (none-some v f)
 two_front (x ∷ y ∷ L) b v e f = λ i. same_Some x b e i ∷ same_Some y v f i ∷ L
 
-pub begin_stop : (L : List Bytes) (s : Stop) → IsNoLineAt L 0 begin_line s → IsCardStop L s
+pub begin_stop : (L : List Bytes) (s : LayoutFault) → IsNoLineAt L 0 begin_line s → IsCardStop L s
 begin_stop L (stop.At place) none = subst (StopsCard L) (sym none.0) (stops_at_begin L none.1)
 begin_stop L stop.Memory none = tt
 
 module _ (L : List Bytes) (b : Bytes) (begin : IsLineAt L 0 begin_line b) where
-  pub version_stop : (s : Stop) → IsNoLineAt L 1 version_line s → IsCardStop L s
+  pub version_stop : (s : LayoutFault) → IsNoLineAt L 1 version_line s → IsCardStop L s
   version_stop (stop.At place) none =
       let is = one_front L b begin.stands in
       subst (λ (l : List Bytes). StopsCard l place) (sym is)
@@ -66,7 +61,7 @@ module _ (L : List Bytes) (b : Bytes) (begin : IsLineAt L 0 begin_line b) where
           ap (slice_get L) e ∙ ap (λ (l : List Bytes). slice_get l (suc (suc (length ps)))) is
 
       module _ (few : AreFew single ps) where
-        pub end_stop : EndsAt (drop 2 L) (length ps) → (s : Stop) → IsNoLineAt L (length ps + 2) end_line s → IsCardStop L s
+        pub end_stop : EndsAt (drop 2 L) (length ps) → (s : LayoutFault) → IsNoLineAt L (length ps + 2) end_line s → IsCardStop L s
         end_stop ends (stop.At place) none =
             subst (StopsCard L) (sym none.0)
             (subst (λ (l : List Bytes). StopsCard l (length ps + 2)) (sym is)

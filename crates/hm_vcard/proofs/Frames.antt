@@ -1,33 +1,16 @@
 -- What ends a card is no property.
-use Rattle.std.proofs.Common.{◌≡◌, ℕ, ◌+◌, ◌≤◌, ◌⊎◌, inl, inr, Bool, true, false, cond, ◌||◌, List, [], ◌∷◌, map, Option, Some, refl, sym, ap, ◌∙◌, subst, arith}
-use Rattle.std.specs.Bool.{nat_lt}
+use Rattle.std.proofs.Common.{◌≡◌, ℕ, ◌+◌, inl, inr, Bool, true, false, ◌||◌, List, [], ◌∷◌, map, Option, Some, refl, sym, ap, ◌∙◌, subst, arith}
 use Rattle.std.specs.Char.{to_ascii_lowercase}
-use Rattle.std.proofs.lemmas.Bool.{cases_lt, lt-ltb, le-ltb}
 use Rattle.std.proofs.lemmas.List.Elements.{All-cons, All-nil}
 use Rattle.std.proofs.lemmas.Slice.Eq.{bytes_eq-Decides}
 use Rattle.hm_lines.specs.declared.content.LineParts.{LineParts}
-use Rattle.hm_lines.specs.Content.{colon, is_of_word, IsWord, IsContentLine}
+use Rattle.hm_lines.specs.Content.{is_of_word, IsWord, IsContentLine}
 use Rattle.hm_lines.proofs.Laws.{new_line, parted_once}
-use Rattle.hm_properties.specs.Lines.{is_of}
+use Rattle.hm_lines_cards.specs.Lines.{is_of}
 use Rattle.hm_vcard.specs.Cards.{IsProperty, is_frame, is_line, end_line}
-use Rattle.hm_components.specs.Components.{Bytes}
+use Rattle.hm_lines_files.specs.Components.{Bytes}
 use Rattle.hm_vcard.specs.Opening.{IsOther}
-
--- a byte that is lowered to another is it, or a capital
-like : (b x : ℕ) → to_ascii_lowercase b ≡ x → (b ≡ x) ⊎ ((b + 32 ≡ x) × (65 ≤ b))
-like b x e = elim (cases_lt b 65) [
-  | inl low ↦ inl (sym (ap (λ t. cond t b (cond (nat_lt b 91) (b + 32) b)) (lt-ltb b 65 low)) ∙ e)
-  | inr le ↦ elim (cases_lt b 91) [
-    | inl upper ↦ inr (sym (ap (λ t. cond t b (cond (nat_lt b 91) (b + 32) b)) (le-ltb b 65 le) ∙ ap (λ t. cond t (b + 32) b) (lt-ltb b 91 upper)) ∙ e, le)
-    | inr high ↦ inl (sym (ap (λ t. cond t b (cond (nat_lt b 91) (b + 32) b)) (le-ltb b 65 le) ∙ ap (λ t. cond t (b + 32) b) (le-ltb b 91 high)) ∙ e)
-  ]
-]
-
-colon_like : (b : ℕ) → to_ascii_lowercase b ≡ colon → b ≡ colon
-colon_like b e = elim (like b colon e) [
-  | inl same ↦ same
-  | inr other ↦ let one = other.0 in let two = other.1 in absurd (omega (arith, one, two))
-]
+use Rattle.hm_lines.proofs.LowerCase.{like, colon_like}
 
 -- a letter, small or capital
 letter : (b small capital : ℕ) → capital + 32 ≡ small → is_of_word small ≡ true → is_of_word capital ≡ true → to_ascii_lowercase b ≡ small → is_of_word b ≡ true

@@ -1,16 +1,15 @@
 -- Properties in front of a line that is none.
-use Rattle.std.proofs.Common.{◌≡◌, ℕ, zero, suc, ◌<◌, ◌≤◌, List, [], ◌∷◌, ◌++◌, length, get_or, take, drop, slice_get, Some, refl, sym, ap, ◌∙◌, subst, arith}
+use Rattle.std.proofs.Common.{◌≡◌, ℕ, zero, suc, ◌<◌, ◌≤◌, List, [], ◌∷◌, ◌++◌, length, get_or, take, slice_get, Some, refl, sym, ap, ◌∙◌, subst, arith}
 use Rattle.std.specs.Prelude.{All}
 use Rattle.std.proofs.lemmas.List.{length-append}
-use Rattle.std.proofs.lemmas.Option.{same_Some, none-some}
 use Rattle.std.proofs.lemmas.List.Elements.{All-head, All-tail, filter_map-append}
 use Rattle.hm_lines.specs.Content.{IsContentLine}
 use Rattle.hm_lines.proofs.Laws.{parted_once}
-use Rattle.hm_cards.specs.Cards.{Shown}
-use Rattle.hm_properties.specs.Lines.{Line, AreFew, text_shown, texts_of}
-use Rattle.hm_properties.specs.Lent.{plain}
+use Rattle.hm_book_cards.specs.Cards.{Shown}
+use Rattle.hm_lines_cards.specs.Lines.{Line, AreFew, text_shown, texts_of}
+use Rattle.hm_lines_cards.specs.Lent.{plain}
 use Rattle.hm_vcard.specs.Cards.{IsProperty}
-use Rattle.hm_components.specs.Components.{Bytes}
+use Rattle.hm_lines_files.specs.Components.{Bytes}
 use Rattle.hm_vcard.specs.Opening.{IsOther}
 
 -- a line is a property in one way
@@ -32,10 +31,6 @@ in_front (p ∷ ps) (c ∷ cs) e rest all others is_other t =
     let r = in_front ps cs e rest (All-tail IsProperty p ps all) (All-tail IsProperty c cs others) is_other later in
     (r.0, (λ i. one_line c p (All-head IsProperty c cs others) (All-head IsProperty p ps all) here i ∷ r.1 i))
 
-pub behind : {X : Type 0} (P : X → Type 0) (xs ys : List X) → All P (xs ++ ys) → All P ys
-behind P [] ys all = all
-behind P (x ∷ xs) ys all = behind P xs ys (All-tail P x (xs ++ ys) all)
-
 -- fewer lines have fewer texts
 pub fewer : (properties : Shown) (ps more : List Line) → AreFew properties (ps ++ more) → AreFew properties ps
 fewer properties ps more few = λ i d lt e.
@@ -48,11 +43,6 @@ fewer properties ps more few = λ i d lt e.
 pub got_behind : (ps more : List Line) (rest : List Bytes) → slice_get (plain (ps ++ more) ++ rest) (length ps) ≡ slice_get (plain more ++ rest) 0
 got_behind [] more rest = refl
 got_behind (p ∷ ps) more rest = got_behind ps more rest
-
-pub split_at : {X : Type 0} (n : ℕ) (xs : List X) (x : X) → slice_get xs n ≡ Some x → xs ≡ take n xs ++ x ∷ drop (suc n) xs
-split_at n [] x e = absurd (none-some x e)
-split_at zero (y ∷ xs) x e = ap (λ z. z ∷ xs) (same_Some y x e)
-split_at (suc n) (y ∷ xs) x e = ap (λ l. y ∷ l) (split_at n xs x e)
 
 pub taken_front : {X : Type 0} (n : ℕ) (xs more : List X) → n ≤ length xs → take n (take n xs ++ more) ≡ take n xs
 taken_front zero xs more le = refl

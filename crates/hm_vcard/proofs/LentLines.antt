@@ -5,13 +5,13 @@ use Rattle.std.specs.Borrow.{Bor}
 use Rattle.std.proofs.lemmas.List.{length-append, length-map, get_or-map, map-append, take_more}
 use Rattle.std.proofs.lemmas.List.Elements.{All-push}
 use Rattle.std.proofs.lemmas.Option.{slice_get-get_or, get_or_from_slice_get}
-use Rattle.hm_properties.specs.declared.line.Line.{Line}
-use Rattle.hm_properties.specs.Lines.{Line as PlainLine, HasParts, IsLine}
-use Rattle.hm_properties.specs.Lent.{AreLines, line_of, lent, plain}
+use Rattle.hm_lines_cards.specs.declared.line.Line.{Line}
+use Rattle.hm_lines_cards.specs.Lines.{Line as PlainLine, HasParts, IsLine}
+use Rattle.hm_lines_cards.specs.Lent.{AreLines, line_of, lent, plain}
 use Rattle.hm_vcard.specs.Cards.{IsProperty}
-use Rattle.hm_components.specs.Components.{Bytes}
+use Rattle.hm_lines_files.specs.Components.{Bytes}
 use Rattle.hm_vcard.specs.Opening.{IsOther, IsPropertyOf, EndsAt}
-use Rattle.hm_components.specs.Lent.{texts}
+use Rattle.hm_lines_files.specs.Lent.{texts}
 use Rattle.hm_vcard.proofs.LentTexts.{read_text, same_at, past_none}
 
 -- ---- properties

@@ -7,8 +7,8 @@ use Rattle.std.proofs.lemmas.List.{length-map}
 use Rattle.std.proofs.lemmas.Option.{slice_get-map, slice_get_within, same_Some}
 use Rattle.std.proofs.lemmas.Slice.Eq.{bytes_eq-Decides}
 use Rattle.hm_vcard.specs.Cards.{is_line}
-use Rattle.hm_components.specs.Components.{Bytes}
-use Rattle.hm_components.specs.Lent.{texts}
+use Rattle.hm_lines_files.specs.Components.{Bytes}
+use Rattle.hm_lines_files.specs.Lent.{texts}
 
 -- ---- one of them
 

@@ -7,18 +7,18 @@ use Rattle.std.proofs.lemmas.Option.{slice_get_within, get_or_from_slice_get}
 use Rattle.hm_tree.specs.Names.{Name}
 use Rattle.hm_tree.specs.Nodes.{Tree}
 use Rattle.hm_schema.specs.Values.{OptionsValue}
-use Rattle.hm_cards.specs.Cards.{Shown, IsCard as IsTreeOfCard}
-use Rattle.hm_properties.specs.Lines.{Line, AreProperties, text_shown, texts_of, AreFew}
-use Rattle.hm_properties.specs.Rewriting.{Property, line_in, new_line, rewritten_from, lines_for, rewritten}
-use Rattle.hm_properties.proofs.Laws.{in_kept, in_new, rewritten_few, key_stays, unparted_hidden}
+use Rattle.hm_book_cards.specs.Cards.{Shown, IsCard as IsTreeOfCard}
+use Rattle.hm_lines_cards.specs.Lines.{Line, AreProperties, text_shown, texts_of, AreFew}
+use Rattle.hm_lines_cards.specs.Rewriting.{Property, line_in, new_line, rewritten_from, lines_for, rewritten}
+use Rattle.hm_lines_cards.proofs.Laws.{in_kept, in_new, rewritten_few, key_stays, unparted_hidden}
 use Rattle.hm_format.specs.Options.{values_of, is_among}
-use Rattle.hm_components.specs.Rewriting.{blank, showing}
-use Rattle.hm_components.specs.Forms.{shown_of}
-use Rattle.hm_components.proofs.ShownProperties.{shown_properties}
+use Rattle.hm_lines_files.specs.Rewriting.{blank, showing}
+use Rattle.hm_lines_files.specs.Forms.{shown_of}
+use Rattle.hm_lines_files.proofs.ShownProperties.{shown_properties}
 use Rattle.hm_vcard.specs.Cards as cards
-use Rattle.hm_vcard.specs.Cards.{CardLines, IsProperty, IsCard, begin_line, version_line, end_line, frame_names, is_frame, is_line, birthday, single, component_with, pieces_with, IsCardComponent, IsFileOfCards, card_kind, vcards}
+use Rattle.hm_vcard.specs.Cards.{CardLines, IsProperty, IsCard, begin_line, version_line, end_line, frame_names, is_frame, is_line, birthday, single, component_with, pieces_with, IsCardComponent, IsFileOfCards, card_template, vcards}
 use Rattle.hm_vcard.proofs.CardNames.{IsNamed, others, all_named, name_named, card_properties}
-use Rattle.hm_components.proofs.KnownNames.{capital, all_apart}
+use Rattle.hm_lines_files.proofs.KnownNames.{capital, all_apart}
 use Rattle.hm_vcard.proofs.CardProperties.{card_are_lines, all_are_lines, made, made_new_line, all_shown, IsFew, card_few, shown_few}
 
 -- ---- a card that is to show another tree
@@ -101,15 +101,15 @@ one_few l = go (text_shown birthday l)
     go None = omega arith
     go (Some t) = omega arith
 
-pub new_card : (k : Name) → IsCardComponent (blank card_kind k)
+pub new_card : (k : Name) → IsCardComponent (blank card_template k)
 new_card k = record {
-  card = record { begin = begin_line; version = version_line; properties = new_line card_kind.key k ∷ []; end = end_line };
+  card = record { begin = begin_line; version = version_line; properties = new_line card_template.key k ∷ []; end = end_line };
   is = record {
     begins = refl;
     versioned = refl;
-    properties = All-cons IsProperty (new_line card_kind.key k) [] (made_new_line (card_kind.key, false) name_named k tt) (All-nil IsProperty);
+    properties = All-cons IsProperty (new_line card_template.key k) [] (made_new_line (card_template.key, false) name_named k tt) (All-nil IsProperty);
     ends = refl;
-    few = All-cons (IsFew (new_line card_kind.key k ∷ [])) (birthday, false) [] (λ e. one_few (new_line card_kind.key k)) (All-nil (IsFew (new_line card_kind.key k ∷ [])));
+    few = All-cons (IsFew (new_line card_template.key k ∷ [])) (birthday, false) [] (λ e. one_few (new_line card_template.key k)) (All-nil (IsFew (new_line card_template.key k ∷ [])));
   };
   same = refl;
 }

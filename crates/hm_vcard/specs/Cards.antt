@@ -6,12 +6,12 @@ use Rattle.std.specs.Str.{str_eq_ignore_ascii_case}
 use Rattle.hm_tree.specs.Names.{Name}
 use Rattle.hm_lines.specs.declared.content.LineParts.{LineParts}
 use Rattle.hm_lines.specs.Content.{IsContentLine}
-use Rattle.hm_cards.specs.Cards.{Shown}
-use Rattle.hm_properties.specs.Lines.{Line, is_of, AreFew}
-use Rattle.hm_properties.specs.Lent.{plain}
-use Rattle.hm_components.specs.Components.{Bytes, Component, Piece, item, Layout}
-use Rattle.hm_components.specs.Rewriting.{Kind}
-use Rattle.hm_components.specs.Forms.{Form}
+use Rattle.hm_book_cards.specs.Cards.{Shown}
+use Rattle.hm_lines_cards.specs.Lines.{Line, is_of, AreFew}
+use Rattle.hm_lines_cards.specs.Lent.{plain}
+use Rattle.hm_lines_files.specs.Components.{Bytes, Component, Piece, item, Layout}
+use Rattle.hm_lines_files.specs.Rewriting.{Template}
+use Rattle.hm_lines_files.specs.Forms.{Form}
 
 -- the lines of a card; properties are known with their parts
 pub record CardLines : Type 0 where
@@ -98,8 +98,8 @@ properties =
     (birthday, false) ∷ (codes "EMAIL", true) ∷ (codes "NOTE", true) ∷ (codes "ROLE", true) ∷ (codes "TEL", true) ∷ (codes "TITLE", true) ∷ []
 
 -- the first text of its full names is a card's key; a new card has nothing else
-abbrev pub card_kind : Kind
-card_kind = record { key = codes "FN"; front = (begin_line, None) ∷ (version_line, None) ∷ []; more = []; end = end_line }
+abbrev pub card_template : Template
+card_template = record { key = codes "FN"; front = (begin_line, None) ∷ (version_line, None) ∷ []; more = []; end = end_line }
 
 abbrev pub vcards : Form
-vcards = record { tag = 3; properties = properties; kind = card_kind; fits = λ o c. IsCardComponent c; has = λ o l. IsFileOfCards l }
+vcards = record { tag = 3; properties = properties; template = card_template; fits = λ o c. IsCardComponent c; has = λ o l. IsFileOfCards l }

@@ -1,5 +1,5 @@
 -- What contracts see of cards that are made of lines which are lent.
-use Rattle.hm_properties.specs.Lent.{lent}
+use Rattle.hm_lines_cards.specs.Lent.{lent}
 use Rattle.hm_vcard.specs.Cards.{CardLines}
 use Rattle.hm_vcard.specs.declared.card.Card.{Card}
 

@@ -2,10 +2,10 @@
 -- left out here.
 use Rattle.std.specs.Prelude.{◌≡◌, ◌≢◌, ℕ, ◌+◌, ◌<◌, ◌≤◌, false, true, List, [], ◌++◌, length, take, drop, slice_get, All, Option, Some}
 use Rattle.hm_lines.specs.declared.content.LineParts.{LineParts}
-use Rattle.hm_properties.specs.Lines.{Line}
-use Rattle.hm_components.specs.Components.{Bytes, Piece}
-use Rattle.hm_components.specs.declared.stop.Stop.{Stop}
-use Rattle.hm_components.specs.declared.stop.Stop.TheVariants as stop
+use Rattle.hm_lines_cards.specs.Lines.{Line}
+use Rattle.hm_lines_files.specs.Components.{Bytes, Piece}
+use Rattle.hm_lines_files.specs.declared.layout_fault.LayoutFault.{LayoutFault}
+use Rattle.hm_lines_files.specs.declared.layout_fault.LayoutFault.TheVariants as stop
 use Rattle.hm_vcard.specs.Cards.{CardLines, IsProperty, IsCard, is_line, lines_of, all_lines, pieces_with}
 
 -- ---- one card
@@ -48,7 +48,7 @@ pub record IsLineAt (lines : List Bytes) (place : ℕ) (wanted line : Bytes) : T
   pub stands : slice_get lines place ≡ Some line
   pub is : is_line wanted line ≡ true
 
-abbrev pub IsNoLineAt : List Bytes → ℕ → Bytes → Stop → Type 0
+abbrev pub IsNoLineAt : List Bytes → ℕ → Bytes → LayoutFault → Type 0
 IsNoLineAt lines place wanted (stop.At at) = (at ≡ place) × ((line : Bytes) → slice_get lines place ≡ Some line → is_line wanted line ≡ false)
 IsNoLineAt lines place wanted stop.Memory = ⊥
 
@@ -80,15 +80,15 @@ pub record StopsCards (lines : List Bytes) (place : ℕ) : Type 0 where
   pub stops : StopsCard rest at
   pub place_is : place ≡ length (all_lines cards) + at
 
-abbrev pub IsCardStop : List Bytes → Stop → Type 0
+abbrev pub IsCardStop : List Bytes → LayoutFault → Type 0
 IsCardStop lines (stop.At place) = StopsCard lines place
 IsCardStop lines stop.Memory = Unit {0}
 
-abbrev pub IsStop : List Bytes → Stop → Type 0
+abbrev pub IsStop : List Bytes → LayoutFault → Type 0
 IsStop lines (stop.At place) = StopsCards lines place
 IsStop lines stop.Memory = Unit {0}
 
 -- of the card that begins at a place
-abbrev pub IsStopBehind : List Bytes → ℕ → Stop → Type 0
+abbrev pub IsStopBehind : List Bytes → ℕ → LayoutFault → Type 0
 IsStopBehind lines from (stop.At place) = (at : ℕ) × ((place ≡ from + at) × StopsCard (drop from lines) at)
 IsStopBehind lines from stop.Memory = Unit {0}

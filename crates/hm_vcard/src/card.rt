@@ -1,12 +1,12 @@
 //! Cards by their lines.
-ghost use Rattle.std.specs.Prelude.{◌≡◌, None, IfOk, length};
-ghost use Rattle.hm_properties.specs.Lent.{AreLines};
-ghost use Rattle.hm_components.specs.Lent.{component_of};
+ghost use Rattle.std.specs.Prelude.{◌≡◌, IfOk, length};
+ghost use Rattle.hm_lines_cards.specs.Lent.{AreLines};
+ghost use Rattle.hm_lines_files.specs.Lent.{component_of};
 ghost use Rattle.hm_vcard.specs.Cards.{lines_of, component_with};
 ghost use Rattle.hm_vcard.specs.Lent.{card_lines};
 
-use hm_components::Component;
-use hm_properties::Line;
+use hm_lines_cards::Line;
+use hm_lines_files::Component;
 use hm_tree::Memory;
 
 /// The lines of a card, unfolded and without their ends.
@@ -34,19 +34,11 @@ impl<'a> Card<'a> {
         ensures lines { IfOk result (λ made. AreLines made.lines.items) }
     {
         let mut lines = self.properties;
-        lines.insert(0, frame_line(self.version))?;
-        lines.insert(0, frame_line(self.begin))?;
+        lines.insert(0, Line::bare(self.version))?;
+        lines.insert(0, Line::bare(self.begin))?;
         Ok(Component {
             lines,
             end: self.end,
         })
     }
-}
-
-// A line that is no property.
-fn frame_line(text: &str) -> Line
-    ensures text { result.text.now ≡ text.now }
-    ensures parts { result.parts ≡ None }
-{
-    Line { text, parts: None }
 }

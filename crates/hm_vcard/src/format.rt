@@ -1,7 +1,7 @@
 //! The format of files of vCards.
 use crate::grammar::VCards;
-use hm_component_files::{read_book, schema_of, write_book};
 use hm_format::{Format, FormatFault};
+use hm_lines_files::{read_book, schema_of, write_book};
 use hm_schema::{Options, Schema};
 use hm_tree::Tree;
 use std::alloc::Global;
@@ -11,7 +11,7 @@ use std::alloc::Global;
 pub struct VCard;
 
 impl Format for VCard {
-    ghost use Rattle.hm_components.specs.Writing.{meaning_of};
+    ghost use Rattle.hm_lines_files.specs.Writing.{meaning_of};
     ghost use Rattle.hm_vcard.specs.Cards.{vcards};
 
     ghost means = { λ f. meaning_of vcards };

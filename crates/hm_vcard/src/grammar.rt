@@ -1,9 +1,8 @@
 //! The form of files of vCards.
-ghost use Rattle.std.specs.Prelude.{◌≡◌, None};
 
 use crate::opening::cards_in;
-use hm_components::{Grammar, Kind, Layout, Stop};
-use hm_properties::Line;
+use hm_lines_cards::Line;
+use hm_lines_files::{Grammar, Layout, LayoutFault, Template};
 use hm_tree::{Memory, Name};
 use std::alloc::Global;
 
@@ -31,10 +30,10 @@ impl Grammar for VCards {
         ]?)
     }
 
-    fn kind(&self, alloc: Global) -> Result<Kind<'static>, Memory> {
-        Ok(Kind {
+    fn template(&self, alloc: Global) -> Result<Template<'static>, Memory> {
+        Ok(Template {
             key: Name::from_text(alloc, "FN")?,
-            front: vec![in alloc; frame_line("BEGIN:VCARD"), frame_line("VERSION:4.0")]?,
+            front: vec![in alloc; Line::bare("BEGIN:VCARD"), Line::bare("VERSION:4.0")]?,
             more: Vec::new(alloc),
             end: "END:VCARD",
         })
@@ -45,15 +44,7 @@ impl Grammar for VCards {
         alloc: Global,
         _shown: &[(Name, bool)],
         lines: &[&'a str],
-    ) -> Result<Layout<'a>, Stop> {
+    ) -> Result<Layout<'a>, LayoutFault> {
         cards_in(alloc, lines)
     }
-}
-
-// A line that is no property.
-fn frame_line(text: &str) -> Line
-    ensures text { result.text.now ≡ text.now }
-    ensures parts { result.parts ≡ None }
-{
-    Line { text, parts: None }
 }

@@ -1,21 +1,21 @@
 //! The cards that lines are.
 ghost use Rattle.std.specs.Prelude.{◌≡◌, ◌≢◌, ◌<◌, [], IfOk, IfErr, drop, length};
 ghost use Rattle.hm_schema.specs.Values.{OptionsValue};
-ghost use Rattle.hm_components.specs.Lent.{texts, layout_of, pieces_of, HaveLines};
-ghost use Rattle.hm_components.specs.Stops.{AreOf, IsStop as IsFileStop};
+ghost use Rattle.hm_lines_files.specs.Lent.{texts, layout_of, pieces_of, HaveLines};
+ghost use Rattle.hm_lines_files.specs.Stops.{AreOf, IsStop as IsFileStop};
 ghost use Rattle.hm_vcard.specs.Cards as spec;
 ghost use Rattle.hm_vcard.specs.Opening.{IsInFront, IsLineAt, IsNoLineAt, AreAll, IsCardStop, IsStopBehind, IsStop};
 ghost use Rattle.hm_vcard.specs.Lent.{card_lines};
 
 use crate::card::Card;
 use crate::property::properties;
-use hm_components::{Layout, Piece, Stop};
-use hm_properties::second_of;
+use hm_lines_cards::second_of;
+use hm_lines_files::{Layout, LayoutFault, Piece};
 use hm_tree::{Memory, Name};
 use std::alloc::Global;
 
 /// The layout of lines, of which none is empty, or the place at which they stop to be those of cards.
-pub(crate) fn cards_in<'a>(alloc: Global, lines: &[&'a str]) -> Result<Layout<'a>, Stop>
+pub(crate) fn cards_in<'a>(alloc: Global, lines: &[&'a str]) -> Result<Layout<'a>, LayoutFault>
     ensures layout { (o : OptionsValue) → IfOk result (λ layout. AreOf spec.vcards o (texts lines.now) (layout_of layout)) }
     ensures lines { IfOk result (λ layout. HaveLines layout.pieces.items) }
     ensures stop { (o : OptionsValue) → IfErr result (IsFileStop spec.vcards o (texts lines.now)) }
@@ -27,7 +27,7 @@ pub(crate) fn cards_in<'a>(alloc: Global, lines: &[&'a str]) -> Result<Layout<'a
 }
 
 // The cards of lines.
-fn all_of<'a>(alloc: Global, lines: &[&'a str]) -> Result<Vec<Piece<'a>>, Stop>
+fn all_of<'a>(alloc: Global, lines: &[&'a str]) -> Result<Vec<Piece<'a>>, LayoutFault>
     ensures cards { IfOk result (λ pieces. AreAll (texts lines.now) (pieces_of pieces.items)) }
     ensures lines { IfOk result (λ pieces. HaveLines pieces.items) }
     ensures stop { IfErr result (IsStop (texts lines.now)) }
@@ -56,7 +56,7 @@ fn card_at<'a>(
     single: &[(Name, bool)],
     lines: &[&'a str],
     from: usize,
-) -> Result<Card<'a>, Stop>
+) -> Result<Card<'a>, LayoutFault>
     requires single { single.now ≡ spec.single }
     requires within { from < length lines.now }
     ensures card { IfOk result (λ card. IsInFront (drop from (texts lines.now)) (card_lines card)) }
@@ -65,8 +65,8 @@ fn card_at<'a>(
     let (_, rest) = lines.split_at(from);
     match first_card(alloc, single, rest) {
         Ok(card) => Ok(card),
-        Err(Stop::At(place)) => Err(Stop::At(from + place)),
-        Err(Stop::Memory) => Err(Stop::Memory),
+        Err(LayoutFault::At(place)) => Err(LayoutFault::At(from + place)),
+        Err(LayoutFault::Memory) => Err(LayoutFault::Memory),
     }
 }
 
@@ -75,7 +75,7 @@ fn first_card<'a>(
     alloc: Global,
     single: &[(Name, bool)],
     lines: &[&'a str],
-) -> Result<Card<'a>, Stop>
+) -> Result<Card<'a>, LayoutFault>
     requires single { single.now ≡ spec.single }
     requires some { lines.now ≢ [] }
     ensures card { IfOk result (λ card. IsInFront (texts lines.now) (card_lines card)) }
@@ -86,7 +86,7 @@ fn first_card<'a>(
     let (_, others) = lines.split_at(2);
     let properties = properties(alloc, others, lines)?;
     if let Some(place) = second_of(alloc, single, &properties)? {
-        return Err(Stop::At(place + 2));
+        return Err(LayoutFault::At(place + 2));
     }
     let end = line_at(lines, properties.len() + 2, "END:VCARD")?;
     Ok(Card {
@@ -98,12 +98,12 @@ fn first_card<'a>(
 }
 
 // The line at a place, which has to be a certain one without regard to case.
-fn line_at<'a>(lines: &[&'a str], place: usize, wanted: &str) -> Result<&'a str, Stop>
+fn line_at<'a>(lines: &[&'a str], place: usize, wanted: &str) -> Result<&'a str, LayoutFault>
     ensures line { IfOk result (λ line. IsLineAt (texts lines.now) place wanted.now line.now) }
     ensures stop { IfErr result (IsNoLineAt (texts lines.now) place wanted.now) }
 {
     match lines.get(place) {
         Some(line) if line.eq_ignore_ascii_case(wanted) => Ok(line),
-        _ => Err(Stop::At(place)),
+        _ => Err(LayoutFault::At(place)),
     }
 }

@@ -1,14 +1,14 @@
 //! The lines of properties.
 ghost use Rattle.std.specs.Prelude.{◌≡◌, All, IfOk, MatchOption, Some, length, take};
-ghost use Rattle.hm_properties.specs.Lines.{HasParts, is_named};
-ghost use Rattle.hm_properties.specs.Lent.{lent, line_of, plain};
-ghost use Rattle.hm_components.specs.Lent.{texts};
+ghost use Rattle.hm_lines_cards.specs.Lines.{HasParts};
+ghost use Rattle.hm_lines_cards.specs.Lent.{lent, line_of, plain};
+ghost use Rattle.hm_lines_files.specs.Lent.{texts};
 ghost use Rattle.hm_vcard.specs.Cards.{IsProperty, is_frame};
 ghost use Rattle.hm_vcard.specs.Opening.{IsOther, IsPropertyOf, EndsAt};
 
-use hm_components::room_for;
 use hm_lines::{LineParts, parts};
-use hm_properties::Line;
+use hm_lines_cards::{Line, is_named};
+use hm_lines_files::room_for;
 use hm_tree::Memory;
 use std::alloc::Global;
 
@@ -53,12 +53,4 @@ fn is_frame(text: &str, parts: LineParts) -> bool
     is_named(text, parts, "BEGIN")
         || is_named(text, parts, "END")
         || is_named(text, parts, "VERSION")
-}
-
-// Whether a content line has a name, without regard to case.
-fn is_named(text: &str, parts: LineParts, name: &str) -> bool
-    requires { HasParts text.now (Some parts) }
-    ensures { result ≡ is_named name.now text.now (Some parts) }
-{
-    text.as_bytes()[parts.name_from..parts.name_to].eq_ignore_ascii_case(name.as_bytes())
 }

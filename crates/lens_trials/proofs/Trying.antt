@@ -10,8 +10,9 @@ use Rattle.hm_terms.specs.Put.{Puts}
 use Rattle.hm_terms.specs.Fitting.{Fits}
 use Rattle.hm_terms.specs.Programs.{ProgramValue, setting_of}
 use Rattle.hm_eval_terms.specs.Conditions.{IsShown, IsPut}
-use Rattle.hm_types.specs.Checks.{Trees, IsAccepted}
-use Rattle.hm_types.specs.declared.typed.Typed.{Typed}
+use Rattle.hm_schema.specs.Membership.{IsMemberTree}
+use Rattle.hm_types.specs.Checks.{IsAccepted}
+use Rattle.hm_terms.specs.declared.typed.Typed.{Typed}
 use Rattle.lens_trials.specs.Trials.{FitsTrees}
 
 module _ {S : Setting} {l : Lens} {C A : Tree → Type 0} (f : Fits S l C A) where
@@ -44,8 +45,8 @@ module _ {S : Setting} {l : Lens} {C A : Tree → Type 0} (f : Fits S l C A) whe
 
 pub fits_trees : {texts : List TextMeaning} {p : ProgramValue} {s : SchemaValue} (t : Typed) → IsAccepted texts p s t → FitsTrees texts t
 fits_trees {texts} {p} {s} t a =
-    subst (λ (p : ProgramValue). Fits (setting_of texts p) p.main (Trees t.source) (Trees t.view)) (sym a.program)
-    (subst (λ (s : SchemaValue). Fits (setting_of texts p) p.main (Trees s) (Trees t.view)) (sym a.source) a.fits)
+    subst (λ (p : ProgramValue). Fits (setting_of texts p) p.main (IsMemberTree t.source) (IsMemberTree t.view)) (sym a.program)
+    (subst (λ (s : SchemaValue). Fits (setting_of texts p) p.main (IsMemberTree s) (IsMemberTree t.view)) (sym a.source) a.fits)
 
 -- a test that holds isn't refused
 pub holds : {X : Type 0} {b : Bool} → b ≡ true → b ≡ false → X

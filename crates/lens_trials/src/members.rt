@@ -1,6 +1,6 @@
 //! The trees of files.
 ghost use Rattle.std.specs.Prelude.{IfOk, All};
-ghost use Rattle.hm_types.specs.Checks.{Trees};
+ghost use Rattle.hm_schema.specs.Membership.{IsMemberTree};
 
 use hm_outside::{Loaded, Store};
 use hm_schema::Schema;
@@ -32,7 +32,7 @@ pub fn members<S: Store>(
     schema: &Schema,
     names: &[Name],
 ) -> Result<Vec<Tree>, Memory>
-    ensures { IfOk result (λ trees. All (Trees schema.now) trees.items) }
+    ensures { IfOk result (λ trees. All (IsMemberTree schema.now) trees.items) }
 {
     let mut trees = Vec::new(alloc);
     for name in names {

@@ -14,11 +14,11 @@ use hm_focal::{LensFault, read_lens};
 use hm_outside::Store;
 use hm_schema::Schema;
 use hm_schema_text::{SchemaFault, read_schema};
-use hm_terms::Program;
+use hm_terms::{Program, Typed};
 use hm_text_kit::{FoldCase, TrimEnds, date, email, trim, yes_no};
 use hm_text_lens::TextLens;
 use hm_tree::{Memory, Name};
-use hm_types::{Typed, check};
+use hm_types::check;
 use std::alloc::Global;
 
 /// What is said of these files at a step. There are the text lenses of the program `harmony`, the lens `fold` that is a

@@ -1,13 +1,13 @@
 //! What a lens shows and puts, in lines.
 ghost use Rattle.std.specs.Prelude.{map};
-ghost use Rattle.hm_types.specs.Checks.{Trees};
+ghost use Rattle.hm_schema.specs.Membership.{IsMemberTree};
 ghost use Rattle.lens_trials.specs.Trials.{FitsTrees};
 
 use hm_eval::{get, put, put_changes};
+use hm_terms::Typed;
 use hm_text_lens::TextLens;
 use hm_tree::{Memory, Tree};
 use hm_tree_text::write_tree;
-use hm_types::Typed;
 
 // A line more: a word, and a tree.
 fn say(lines: &mut Vec<u8>, word: &str, tree: &Tree) -> Result<(), Memory> {
@@ -90,8 +90,8 @@ fn say_otherwise(
     made: &Tree,
 ) -> Result<(), Memory>
     requires fits { FitsTrees (map (λ b. meaning b) texts.now) typed.now }
-    requires view { Trees typed.now.view view.now }
-    requires before { Trees typed.now.source before.now }
+    requires view { IsMemberTree typed.now.view view.now }
+    requires before { IsMemberTree typed.now.source before.now }
 {
     let old = get(&typed.program, texts, before)?;
     let edited = view.copy()?;

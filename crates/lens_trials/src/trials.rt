@@ -1,12 +1,12 @@
-//! Trees shown and put back, and the laws tried on them.
+//! IsMemberTree shown and put back, and the laws tried on them.
 ghost use Rattle.std.specs.Prelude.{◌≡◌, IfOk, All, true, map};
-ghost use Rattle.hm_types.specs.Checks.{Trees};
+ghost use Rattle.hm_schema.specs.Membership.{IsMemberTree};
 ghost use Rattle.lens_trials.specs.Trials.{FitsTrees};
 
 use hm_eval::{get, put};
+use hm_terms::Typed;
 use hm_text_lens::TextLens;
 use hm_tree::{Memory, Tree};
-use hm_types::Typed;
 
 /// Whether the lens keeps the laws on trees of its source, as far as a step goes.
 pub fn are_lawful(
@@ -16,7 +16,7 @@ pub fn are_lawful(
     step: &str,
 ) -> Result<bool, Memory>
     requires fits { FitsTrees (map (λ b. meaning b) texts.now) typed.now }
-    requires members { All (Trees typed.now.source) trees.now }
+    requires members { All (IsMemberTree typed.now.source) trees.now }
     ensures { IfOk result (λ lawful. lawful ≡ true) }
 {
     for tree in trees {
@@ -36,8 +36,8 @@ fn is_lawful(
     step: &str,
 ) -> Result<bool, Memory>
     requires fits { FitsTrees (map (λ b. meaning b) texts.now) typed.now }
-    requires tree { Trees typed.now.source tree.now }
-    requires members { All (Trees typed.now.source) trees.now }
+    requires tree { IsMemberTree typed.now.source tree.now }
+    requires members { All (IsMemberTree typed.now.source) trees.now }
     ensures { IfOk result (λ lawful. lawful ≡ true) }
 {
     match step {
@@ -51,7 +51,7 @@ fn is_lawful(
 // A tree is shown.
 fn is_shown(texts: &[Box<dyn TextLens>], typed: &Typed, tree: &Tree) -> Result<bool, Memory>
     requires fits { FitsTrees (map (λ b. meaning b) texts.now) typed.now }
-    requires tree { Trees typed.now.source tree.now }
+    requires tree { IsMemberTree typed.now.source tree.now }
     ensures { IfOk result (λ shown. shown ≡ true) }
 {
     get(&typed.program, texts, tree)?;
@@ -61,7 +61,7 @@ fn is_shown(texts: &[Box<dyn TextLens>], typed: &Typed, tree: &Tree) -> Result<b
 // What is shown of a tree, put back, is the tree.
 fn is_put_back(texts: &[Box<dyn TextLens>], typed: &Typed, tree: &Tree) -> Result<bool, Memory>
     requires fits { FitsTrees (map (λ b. meaning b) texts.now) typed.now }
-    requires tree { Trees typed.now.source tree.now }
+    requires tree { IsMemberTree typed.now.source tree.now }
     ensures { IfOk result (λ same. same ≡ true) }
 {
     let shown = get(&typed.program, texts, tree)?;
@@ -77,8 +77,8 @@ fn keeps_all(
     trees: &[Tree],
 ) -> Result<bool, Memory>
     requires fits { FitsTrees (map (λ b. meaning b) texts.now) typed.now }
-    requires tree { Trees typed.now.source tree.now }
-    requires members { All (Trees typed.now.source) trees.now }
+    requires tree { IsMemberTree typed.now.source tree.now }
+    requires members { All (IsMemberTree typed.now.source) trees.now }
     ensures { IfOk result (λ lawful. lawful ≡ true) }
 {
     if !is_in_view(texts, typed, tree)? || !is_put_back(texts, typed, tree)? {
@@ -93,7 +93,7 @@ fn keeps_all(
 // What is shown of a tree is a member of the view.
 fn is_in_view(texts: &[Box<dyn TextLens>], typed: &Typed, tree: &Tree) -> Result<bool, Memory>
     requires fits { FitsTrees (map (λ b. meaning b) texts.now) typed.now }
-    requires tree { Trees typed.now.source tree.now }
+    requires tree { IsMemberTree typed.now.source tree.now }
     ensures { IfOk result (λ inside. inside ≡ true) }
 {
     let shown = get(&typed.program, texts, tree)?;
@@ -103,7 +103,7 @@ fn is_in_view(texts: &[Box<dyn TextLens>], typed: &Typed, tree: &Tree) -> Result
 // What is shown of a tree, put with no tree from before, is a member of the source and shows the same.
 fn shows_anew(texts: &[Box<dyn TextLens>], typed: &Typed, tree: &Tree) -> Result<bool, Memory>
     requires fits { FitsTrees (map (λ b. meaning b) texts.now) typed.now }
-    requires tree { Trees typed.now.source tree.now }
+    requires tree { IsMemberTree typed.now.source tree.now }
     ensures { IfOk result (λ same. same ≡ true) }
 {
     let shown = get(&typed.program, texts, tree)?;
@@ -122,8 +122,8 @@ fn all_show_again(
     trees: &[Tree],
 ) -> Result<bool, Memory>
     requires fits { FitsTrees (map (λ b. meaning b) texts.now) typed.now }
-    requires before { Trees typed.now.source before.now }
-    requires members { All (Trees typed.now.source) trees.now }
+    requires before { IsMemberTree typed.now.source before.now }
+    requires members { All (IsMemberTree typed.now.source) trees.now }
     ensures { IfOk result (λ same. same ≡ true) }
 {
     for tree in trees {
@@ -142,8 +142,8 @@ fn shows_again(
     tree: &Tree,
 ) -> Result<bool, Memory>
     requires fits { FitsTrees (map (λ b. meaning b) texts.now) typed.now }
-    requires before { Trees typed.now.source before.now }
-    requires tree { Trees typed.now.source tree.now }
+    requires before { IsMemberTree typed.now.source before.now }
+    requires tree { IsMemberTree typed.now.source tree.now }
     ensures { IfOk result (λ same. same ≡ true) }
 {
     let shown = get(&typed.program, texts, tree)?;

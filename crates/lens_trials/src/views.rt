@@ -1,8 +1,8 @@
 //! The schemas of views, as files.
 ghost use Rattle.std.specs.Prelude.{◌≡◌, length, IfOk};
 
-use hm_node_writer::append_nodes;
 use hm_schema::Schema;
+use hm_schema_writer::append_nodes;
 use hm_tree::{Memory, Name};
 use std::alloc::Global;
 

@@ -1,8 +1,12 @@
-//! Runs Harmony's words over files in memory, and tells what became of the three files that a run may write.
+//! Runs Harmony with the words of a command line over files in memory, and tells what became of the three files that a
+//! run may write.
 //!
 //! Each file of the folder that a word names is taken into a store, and no file is written. What the run puts out is
 //! printed, then a line with its status, and behind six names a line for each of the last three: `NAME is absent`,
-//! `NAME stays` where it has the bytes from before, or `NAME becomes`, with the bytes that it has now in the lines below.
+//! `NAME stays` where it has the bytes from before, or `NAME becomes`, with the bytes that it has now in the lines
+//! below. `tests/run-cases` runs it.
+//!
+//! Proved: that what it calls is called as the contracts ask. Nothing is said of what it prints.
 #![tactic(auto)]
 
 mod files;

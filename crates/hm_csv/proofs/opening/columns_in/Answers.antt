@@ -5,7 +5,7 @@ use Rattle.std.proofs.lemmas.List.{map-append, length-map}
 use Rattle.csv.specs.Records.{fields_of}
 use Rattle.hm_tree.specs.Names.{Name}
 use Rattle.hm_schema.specs.Values.{options_value}
-use Rattle.hm_columns.specs.declared.column.Column.{Column}
+use Rattle.hm_csv_columns.specs.declared.column.Column.{Column}
 use Rattle.hm_csv.specs.Options.{shown_of}
 use Rattle.hm_csv.specs.Tables.{column_for}
 use Rattle.hm_csv.proofs.ColumnFacts.{next_place}

@@ -3,8 +3,8 @@ use Rattle.std.specs.Prelude.{All}
 use Rattle.csv.specs.Records.{Row, fields_of}
 use Rattle.hm_tree.specs.Names.{Name}
 use Rattle.hm_schema.specs.Values.{options_value}
-use Rattle.hm_records.specs.Rows.{IsHeader}
-use Rattle.hm_columns.specs.declared.column.Column.{Column}
+use Rattle.hm_csv_records.specs.Rows.{IsHeader}
+use Rattle.hm_csv_columns.specs.declared.column.Column.{Column}
 use Rattle.hm_csv.specs.Tables.{columns_of}
 use Rattle.hm_csv.proofs.ColumnFacts.{within}
 use Rattle.hm_csv.proofs.Openings.{header_good, header_text}

@@ -1,5 +1,5 @@
 use Rattle.std.proofs.Common.{rules, ◌-◌, ◌<◌, set, Some, sym, subst, arith}
-use Rattle.hm_columns.specs.declared.column.Column.{Column}
+use Rattle.hm_csv_columns.specs.declared.column.Column.{Column}
 use Rattle.hm_csv.proofs.Signs.{AreLateSigns, sign_more}
 use Rattle.hm_csv.proofs.opening.signs.Goals as goal
 

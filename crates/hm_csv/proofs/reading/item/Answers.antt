@@ -1,7 +1,7 @@
 use Rattle.std.proofs.Common.{rules, true, ◌≡◌, [], get_or, ap, ◌∙◌}
 use Rattle.csv.specs.Records.{fields_of}
 use Rattle.hm_tree.specs.Cleaned.{cleaned}
-use Rattle.hm_pieces.specs.Texts.{is_text}
+use Rattle.hm_tree.specs.Classes.{is_text}
 use Rattle.hm_csv.proofs.Keys.{key_filled}
 use Rattle.hm_csv.proofs.reading.item.Goals as goal
 

@@ -3,8 +3,8 @@ use Rattle.std.specs.Prelude.{All}
 use Rattle.csv.specs.Records.{Row, fields_of}
 use Rattle.hm_tree.specs.Nodes.{are_edges}
 use Rattle.hm_schema.specs.Values.{options_value}
-use Rattle.hm_columns.specs.declared.column.Column.{Column}
-use Rattle.hm_columns.specs.Records.{shown_by}
+use Rattle.hm_csv_columns.specs.declared.column.Column.{Column}
+use Rattle.hm_csv_columns.specs.Records.{shown_by}
 use Rattle.hm_csv.specs.Files.{CsvReads}
 use Rattle.hm_csv.specs.Reading.{Suits, item_by, IsKeyed, IsKeyFault}
 use Rattle.hm_csv.proofs.ShownNames.{none_bad}

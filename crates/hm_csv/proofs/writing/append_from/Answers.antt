@@ -1,6 +1,6 @@
 use Rattle.std.proofs.Common.{◌∷◌, ◌++◌, [], sym, subst}
-use Rattle.hm_records.specs.Rows.{Fields}
-use Rattle.hm_records.specs.Written.{HasWritten}
+use Rattle.hm_csv_records.specs.Rows.{Fields}
+use Rattle.hm_csv_records.specs.Written.{HasWritten}
 use Rattle.hm_csv.proofs.Slots.{row_at}
 use Rattle.hm_csv.proofs.writing.append_from.Goals as goal
 

@@ -1,6 +1,6 @@
 use Rattle.std.proofs.Common.{◌≡◌, ◌∙◌, [], List, get_or, map, sym, ap}
 use Rattle.csv.specs.Records.{Row, fields_of}
-use Rattle.hm_columns.specs.Records.{rewritten}
+use Rattle.hm_csv_columns.specs.Records.{rewritten}
 use Rattle.hm_csv.specs.Rewriting.{rows_in}
 use Rattle.hm_csv.proofs.Slots.{text_at, row_at}
 use Rattle.hm_csv.proofs.Appended.{appended_same}

@@ -1,6 +1,6 @@
 use Rattle.std.proofs.Common.{◌+◌, [], get_or, refl, None}
-use Rattle.hm_item_trees.specs.Lent.{lent_lists}
-use Rattle.hm_columns.specs.Records.{rewritten}
+use Rattle.hm_book_items.specs.Lent.{lent_lists}
+use Rattle.hm_csv_columns.specs.Records.{rewritten}
 use Rattle.hm_csv.specs.Rewriting.{rows_in, row_in, slot_in}
 use Rattle.hm_csv.proofs.Slots.{lent_parts, item_below, old_is, fresh_is}
 use Rattle.hm_csv.proofs.Appended.{appended_same}

@@ -1,6 +1,6 @@
 use Rattle.std.proofs.Common.{◌≡◌, take}
-use Rattle.hm_items.specs.Lent.{lent_counts}
-use Rattle.hm_item_trees.specs.Lent.{lent_lists}
+use Rattle.hm_book_items.specs.LentKeys.{lent_counts}
+use Rattle.hm_book_items.specs.Lent.{lent_lists}
 use Rattle.hm_csv.specs.Rewriting.{counts_in}
 use Rattle.hm_csv.proofs.writing.counts_of.Given as goal
 

@@ -1,7 +1,7 @@
 use Rattle.std.proofs.Common.{◌≡◌, ◌≤◌, ◌∷◌, length, take}
 use Rattle.std.specs.Prelude.{IsTrue, ◌↔◌}
-use Rattle.hm_item_trees.specs.Lent.{lent_lists}
-use Rattle.hm_records.specs.Written.{HasWritten}
+use Rattle.hm_book_items.specs.Lent.{lent_lists}
+use Rattle.hm_csv_records.specs.Written.{HasWritten}
 use Rattle.hm_csv.specs.Rewriting.{header_in, others_in, slot_rows}
 use Rattle.hm_csv.proofs.writing.rewrite_all.Given as goal
 

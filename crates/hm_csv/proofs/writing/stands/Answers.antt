@@ -2,7 +2,7 @@ use Rattle.std.proofs.Common.{◌≡◌, map, slice_get, Some, sym, subst, arith
 use Rattle.std.specs.Prelude.{IsTrue, ◌↔◌}
 use Rattle.std.proofs.lemmas.List.{length-map}
 use Rattle.csv.specs.Records.{fields_of}
-use Rattle.hm_records.specs.Rows.{Fields}
+use Rattle.hm_csv_records.specs.Rows.{Fields}
 use Rattle.hm_csv.proofs.Slots.{row_at}
 use Rattle.hm_csv.proofs.Appended.{stands_there}
 use Rattle.hm_csv.proofs.writing.stands.Goals as goal

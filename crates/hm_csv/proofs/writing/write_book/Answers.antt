@@ -1,8 +1,8 @@
 use Rattle.std.proofs.Common.{sym, subst, List, arith}
 use Rattle.hm_tree.specs.Nodes.{edges}
 use Rattle.hm_schema.specs.Values.{options_value}
-use Rattle.hm_item_trees.specs.ItemTrees.{AreLists}
-use Rattle.hm_item_trees.specs.Lent.{LentList, lent_lists}
+use Rattle.hm_book_items.specs.ItemTrees.{AreLists}
+use Rattle.hm_book_items.specs.Lent.{LentList, lent_lists}
 use Rattle.hm_format.specs.Formats.{depth_over}
 use Rattle.hm_format.proofs.Limits.{not_over}
 use Rattle.hm_csv.specs.Rewriting.{IsAnew}

@@ -1,7 +1,7 @@
 use Rattle.std.proofs.Common.{sym, ap, ◌∙◌}
 use Rattle.hm_tree.specs.Archives.{under}
-use Rattle.hm_terms.specs.Parts.{head, tail}
-use Rattle.hm_terms.proofs.Maps.{below-head, below-tail}
+use Rattle.hm_tree_parts.specs.Lists.{head, tail}
+use Rattle.hm_tree_parts.proofs.OneList.{below-head, below-tail}
 use Rattle.hm_eval_terms.proofs.before.item_before.Goals as goal
 
 pub returns-in-Some-take_first-clause-first : goal.returns-in-Some-take_first-clause-first

@@ -1,4 +1,4 @@
-use Rattle.hm_node_lines.proofs.Laws.{gap_within}
+use Rattle.hm_schema_lines.proofs.Laws.{gap_within}
 use Rattle.hm_focal.proofs.Fronts.{gap_is}
 use Rattle.hm_focal.proofs.front.behind_gap.Goals as goal
 

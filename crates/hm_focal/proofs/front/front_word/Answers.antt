@@ -1,5 +1,5 @@
 use Rattle.std.proofs.Common.{refl}
-use Rattle.hm_node_lines.specs.declared.token.Token.TheVariants.{Word}
+use Rattle.hm_schema_lines.specs.declared.token.Token.TheVariants.{Word}
 use Rattle.hm_focal.proofs.Fronts.{no_word}
 use Rattle.hm_focal.proofs.front.front_word.Goals as goal
 

@@ -2,9 +2,9 @@ use Rattle.std.proofs.Common.{◌+◌, add-one, refl, sym, ap, subst, ◌∙◌,
 use borrow.Author.Count.{below_more}
 use Rattle.std.specs.Int.{from_bool}
 use Rattle.std.proofs.lemmas.List.{length-map}
-use Rattle.hm_node_lines.specs.Entries.{entry_value, entry_values}
-use Rattle.hm_node_lines.specs.BadLines.{around}
-use Rattle.hm_node_lines.specs.Sections.{IsSection}
+use Rattle.hm_schema_lines.specs.Entries.{entry_value, entry_values}
+use Rattle.hm_schema_lines.specs.BadLines.{around}
+use Rattle.hm_schema_lines.specs.Sections.{IsSection}
 use Rattle.hm_focal.specs.OwnLines.{own_value, own_values, is_lens}
 use Rattle.hm_focal.specs.BadLines.{IsBadLine}
 use Rattle.hm_focal.proofs.LensNames.{own_at}

@@ -1,8 +1,8 @@
 use Rattle.std.proofs.Common.{◌≡◌, ℕ, ◌<◌, take, count_by}
-use Rattle.hm_node_lines.specs.Entries.{entry_values}
-use Rattle.hm_node_lines.specs.BadLines.{around}
-use Rattle.hm_node_lines.specs.Sections.{IsSection}
-use Rattle.hm_node_lines.specs.Counting.{IsBefore}
+use Rattle.hm_schema_lines.specs.Entries.{entry_values}
+use Rattle.hm_schema_lines.specs.BadLines.{around}
+use Rattle.hm_schema_lines.specs.Sections.{IsSection}
+use Rattle.hm_schema_lines.specs.Counting.{IsBefore}
 use Rattle.hm_focal.specs.OwnLines.{own_values, is_lens}
 use Rattle.hm_focal.specs.BadLines.{IsBadLine}
 use Rattle.hm_focal.proofs.judge.first_bad.Given as goal

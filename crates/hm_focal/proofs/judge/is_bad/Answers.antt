@@ -1,10 +1,10 @@
 use Rattle.std.proofs.Common.{◌≡◌, Some, sym, ap, subst, ◌∙◌}
 use Rattle.std.specs.Prelude.{IsTrue, ◌↔◌}
-use Rattle.hm_node_lines.specs.declared.entry.Entry.{Entry}
-use Rattle.hm_node_lines.specs.NodeLines.{node_line_value}
-use Rattle.hm_node_lines.specs.Entries.{entry_value, says, unknown}
-use Rattle.hm_node_lines.specs.Judging.{lines_of}
-use Rattle.hm_node_lines.proofs.Laws.{entry_at, always}
+use Rattle.hm_schema_lines.specs.declared.entry.Entry.{Entry}
+use Rattle.hm_schema_lines.specs.NodeLines.{node_line_value}
+use Rattle.hm_schema_lines.specs.Entries.{entry_value, says, unknown}
+use Rattle.hm_schema_lines.specs.Judging.{lines_of}
+use Rattle.hm_schema_lines.proofs.Laws.{entry_at, always}
 use Rattle.hm_focal.specs.OwnLines.{own_value, own_values, nothing}
 use Rattle.hm_focal.proofs.LensNames.{own_at}
 use Rattle.hm_focal.proofs.JudgingOwn.{own_bad, node_told, quiet_told, skipped_says, unknown_says}

@@ -1,6 +1,6 @@
 use Rattle.std.proofs.Common.{sym, subst}
 use Rattle.std.specs.Prelude.{IsTrue, ◌↔◌}
-use Rattle.hm_node_lines.specs.Judging.{lines_of}
+use Rattle.hm_schema_lines.specs.Judging.{lines_of}
 use Rattle.hm_focal.specs.declared.own.Own.{Own}
 use Rattle.hm_focal.specs.declared.own.LensLine.{LensLine}
 use Rattle.hm_focal.specs.OwnLines.{own_value, lens_value}

@@ -1,6 +1,6 @@
 use Rattle.std.proofs.Common.{ap, ◌∙◌}
 use Rattle.std.proofs.lemmas.List.{map-append}
-use Rattle.hm_node_lines.specs.Entries.{entry_value, entry_values}
+use Rattle.hm_schema_lines.specs.Entries.{entry_value, entry_values}
 use Rattle.hm_focal.specs.OwnLines.{own_value, own_values}
 use Rattle.hm_focal.proofs.Placing.{one_read}
 use Rattle.hm_focal.proofs.lines.read_lines.Goals as goal

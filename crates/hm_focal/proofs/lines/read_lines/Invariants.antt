@@ -1,4 +1,4 @@
-use Rattle.hm_node_lines.specs.Entries.{entry_values}
+use Rattle.hm_schema_lines.specs.Entries.{entry_values}
 use Rattle.hm_focal.specs.OwnLines.{own_values}
 use Rattle.hm_focal.proofs.Placing.{IsReadTo}
 use Rattle.hm_focal.proofs.lines.read_lines.Given as goal

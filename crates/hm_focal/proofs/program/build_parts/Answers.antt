@@ -1,5 +1,5 @@
 use Rattle.std.proofs.Common.{ap}
-use Rattle.hm_node_lines.specs.Entries.{entry_values}
+use Rattle.hm_schema_lines.specs.Entries.{entry_values}
 use Rattle.hm_focal.specs.OwnLines.{own_values}
 use Rattle.hm_focal.proofs.Taking.{line_named, one_taken}
 use Rattle.hm_focal.proofs.program.build_parts.Goals as goal

@@ -1,5 +1,5 @@
 use Rattle.std.proofs.Common.{length}
-use Rattle.hm_node_lines.specs.Entries.{entry_values}
+use Rattle.hm_schema_lines.specs.Entries.{entry_values}
 use Rattle.hm_focal.specs.OwnLines.{own_values}
 use Rattle.hm_focal.proofs.Taking.{IsTakenTo}
 use Rattle.hm_focal.proofs.program.build_parts.Given as goal

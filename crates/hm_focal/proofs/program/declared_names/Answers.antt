@@ -1,8 +1,8 @@
 use Rattle.std.proofs.Common.{[], ◌∷◌, ◌++◌, take, sym, ap, ◌∙◌}
 use Rattle.std.specs.List.{cons_option}
 use Rattle.std.proofs.lemmas.List.Elements.{filter_map-append}
-use Rattle.hm_node_lines.specs.Entries.{entry_value, entry_values}
-use Rattle.hm_node_lines.specs.Firsts.{begun_name, node_names}
+use Rattle.hm_schema_lines.specs.Entries.{entry_value, entry_values}
+use Rattle.hm_schema_lines.specs.Firsts.{begun_name, node_names}
 use Rattle.hm_focal.proofs.LensNames.{one_more}
 use Rattle.hm_focal.proofs.program.declared_names.Goals as goal
 

@@ -1,10 +1,10 @@
 use Rattle.std.proofs.Common.{List, map, sym, ap, subst, ◌∙◌, arith}
 use Rattle.std.proofs.lemmas.Option.{MatchOption-at_some, MatchOption-at_none}
-use Rattle.hm_node_lines.specs.declared.entry.Entry.{Entry}
-use Rattle.hm_node_lines.specs.Entries.{entry_values}
-use Rattle.hm_node_lines.specs.BadLines.{IsBadNodeLine}
-use Rattle.hm_node_lines.specs.FirstBad.{HasNoBad}
-use Rattle.hm_node_lines.specs.Nodes.{AreTypeNames, AreNodesOf}
+use Rattle.hm_schema_lines.specs.declared.entry.Entry.{Entry}
+use Rattle.hm_schema_lines.specs.Entries.{entry_values}
+use Rattle.hm_schema_lines.specs.BadLines.{IsBadNodeLine}
+use Rattle.hm_schema_lines.specs.FirstBad.{HasNoBad}
+use Rattle.hm_schema_lines.specs.Nodes.{AreTypeNames, AreNodesOf}
 use Rattle.hm_tree.specs.Names.{Name}
 use Rattle.hm_schema.specs.Values.{node_value}
 use Rattle.hm_focal.specs.declared.own.Own.{Own}

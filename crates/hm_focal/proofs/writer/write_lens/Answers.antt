@@ -4,8 +4,8 @@ use Rattle.hm_tree.specs.Names.{Name}
 use Rattle.hm_schema.specs.Values.{pair_value, node_value}
 use Rattle.hm_terms.specs.declared.term.Definition.{Definition}
 use Rattle.hm_terms.specs.Programs.{definition_value, program_value, lens_of}
-use Rattle.hm_term_text.specs.Written.{term_text}
-use Rattle.hm_node_writer.specs.WrittenNodes.{nodes_text}
+use Rattle.hm_focal_terms.specs.Written.{term_text}
+use Rattle.hm_schema_writer.specs.WrittenNodes.{nodes_text}
 use Rattle.std.proofs.lemmas.List.{length-map}
 use Rattle.hm_focal.specs.LensFiles.{IsLensFile}
 use Rattle.hm_focal.proofs.WrittenFiles.{written_lens_reads}

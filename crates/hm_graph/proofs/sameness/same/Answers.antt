@@ -10,6 +10,7 @@ use Rattle.hm_graph.proofs.Ends.{search_ends}
 use Rattle.hm_graph.proofs.Owed.{owed, owes_less, owed_shortened}
 use Rattle.hm_graph.proofs.Shortened.{step_begins}
 use Rattle.hm_graph.proofs.sameness.same.Goals as goal
+use Rattle.hm_facts.proofs.Lists.{no_items}
 
 pub loop-first-init : goal.loop-first-init
 loop-first-init c =
@@ -28,10 +29,6 @@ loop-first-smaller-then-low-high c =
     let same_owed = owed_shortened c.loop-first.parents.items c.roots-low.new.parents.items c.args.graph.now c.roots-low.ensures.shortened in
     let old = ap length c.in-Some.ensures.items in
     omega (arith, same_owed, old, length-append c.pop.new.self.items ((c.in-Some.first, c.in-Some.second) ∷ []))
-
-no_items : {X : Type 0} (xs : List X) → length xs ≡ 0 → xs ≡ []
-no_items [] e = refl
-no_items (x ∷ xs) e = absurd (omega arith)
 
 -- a pair of roots that look different
 differ : {g : Graph} {i j : ℕ} {parents : List ℕ} {todo : List (ℕ × ℕ)} {a b low high : ℕ} (v w : Vertex) → IsStep g i j parents todo a b low high

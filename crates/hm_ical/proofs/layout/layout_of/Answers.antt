@@ -1,15 +1,16 @@
 use Rattle.std.proofs.Common.{List, sym, ap, ◌∙◌, subst}
 use Rattle.std.specs.Borrow.{Bor}
-use Rattle.hm_cards.specs.Cards.{Shown}
-use Rattle.hm_components.specs.Components.{Bytes}
-use Rattle.hm_components.specs.Stops.{AreOf, IsStop}
-use Rattle.hm_components.specs.Lent.{texts, pieces_of}
+use Rattle.hm_book_cards.specs.Cards.{Shown}
+use Rattle.hm_lines_files.specs.Components.{Bytes}
+use Rattle.hm_lines_files.specs.Stops.{AreOf, IsStop}
+use Rattle.hm_lines_files.specs.Lent.{texts, pieces_of}
 use Rattle.hm_ical.specs.Events.{singles}
 use Rattle.hm_ical.specs.Calendars.{ical}
 use Rattle.hm_ical.specs.Scanning.{Runs, before, behind, IsRunStop}
 use Rattle.hm_ical.proofs.Stopped.{stopped}
-use Rattle.hm_ical.proofs.LentRuns.{passed, are_of, lines_there}
+use Rattle.hm_ical.proofs.LentRuns.{are_of, lines_there}
 use Rattle.hm_ical.proofs.layout.layout_of.Goals as goal
+use Rattle.hm_lines_files.proofs.Stopped.{passed}
 
 pub returns-in_err-pieces-clause-stop : goal.returns-in_err-pieces-clause-stop
 returns-in_err-pieces-clause-stop c = λ o e.

@@ -1,5 +1,5 @@
 use Rattle.std.proofs.Common.{take}
-use Rattle.hm_components.specs.Lent.{texts, pieces_of}
+use Rattle.hm_lines_files.specs.Lent.{texts, pieces_of}
 use Rattle.hm_ical.specs.Lent.{place_of}
 use Rattle.hm_ical.proofs.Soundness.{runs_sound}
 use Rattle.hm_ical.proofs.LentRuns.{run_push, not_all}

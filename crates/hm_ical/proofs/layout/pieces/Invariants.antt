@@ -1,5 +1,5 @@
 use Rattle.std.proofs.Common.{take}
-use Rattle.hm_components.specs.Lent.{texts, pieces_of}
+use Rattle.hm_lines_files.specs.Lent.{texts, pieces_of}
 use Rattle.hm_ical.specs.Scanning.{Runs, before}
 use Rattle.hm_ical.specs.Lent.{place_of}
 use Rattle.hm_ical.proofs.layout.pieces.Given as goal

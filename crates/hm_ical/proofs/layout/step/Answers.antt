@@ -1,5 +1,5 @@
 use Rattle.std.proofs.Common.{Some, sym, ap, ◌∙◌}
-use Rattle.hm_components.specs.Lent.{piece_of}
+use Rattle.hm_lines_files.specs.Lent.{piece_of}
 use Rattle.hm_ical.specs.Scanning.{Kind, next}
 use Rattle.hm_ical.specs.Lent.{kind_of, place_of, step_of}
 use Rattle.hm_ical.specs.declared.place.Step.{Step}

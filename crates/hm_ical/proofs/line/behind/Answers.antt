@@ -1,6 +1,6 @@
 use Rattle.std.proofs.Common.{◌++◌, sym, ap, ◌∙◌}
 use Rattle.std.proofs.lemmas.Bool.{both_ways, false_from_ne_true}
-use Rattle.hm_components.specs.Components.{Bytes}
+use Rattle.hm_lines_files.specs.Components.{Bytes}
 use Rattle.hm_ical.specs.Lines.{is_same}
 use Rattle.hm_ical.proofs.Fronts.{front_there, front_taken, front_boundary}
 use Rattle.hm_ical.proofs.line.behind.Goals as goal

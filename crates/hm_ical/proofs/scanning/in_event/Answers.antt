@@ -1,8 +1,8 @@
 use Rattle.std.proofs.Common.{◌≡◌, length, sym, ap, ◌∙◌, rules}
 use Rattle.std.specs.Prelude.{vec_len}
 use Rattle.std.proofs.lemmas.Bool.{eqb-false}
-use Rattle.hm_properties.specs.Lines.{Line}
-use Rattle.hm_properties.specs.Lent.{lent}
+use Rattle.hm_lines_cards.specs.Lines.{Line}
+use Rattle.hm_lines_cards.specs.Lent.{lent}
 use Rattle.hm_ical.specs.Scanning.{Kind, next, event, with_line}
 use Rattle.hm_ical.specs.Lent.{kind_of, names_of}
 use Rattle.hm_ical.proofs.Places.{in_some, some_names, then_ok}
@@ -18,6 +18,6 @@ returns-in-Property-2 c =
     let some = some_names inside.names.items (λ none. eqb-false (vec_len inside.names) 0 (sym c.is_empty.ensures ∙ c.if-is_empty.false) (counted ∙ none)) in
     then_ok c.with_line-in-Property-2.result c.with_line-in-Property-2.ensures
     (λ made holds.
-    holds names line ∙ ap (λ (l : Line). with_line lines l names) c.other_line-in-Property-2.ensures
+    holds names line ∙ ap (λ (l : Line). with_line lines l names) c.bare-in-Property-2.ensures
     ∙ in_some c.args.singles.now lines names line c.in-Property-2.field-0 some
     ∙ ap (λ (k : Kind). next c.args.singles.now (event lines names) line k) (ap kind_of (sym c.in-Property-2.is)))

@@ -2,10 +2,10 @@ use Rattle.std.proofs.Common.{◌≡◌, [], length, map, All, sym, subst, ◌�
 use Rattle.std.proofs.lemmas.List.{append-nil}
 use Rattle.hm_schema.specs.Values.{NodeValue, node_value}
 use Rattle.hm_schema.specs.WellFormed.{IsWellFormedNode}
-use Rattle.hm_typing.specs.Forms.{form}
-use Rattle.hm_typing.specs.Sound.{IsSound}
-use Rattle.hm_typing.proofs.TypedFits.{form_sound}
-use Rattle.hm_table.specs.Tables.{Nodes}
+use Rattle.hm_types_forms.specs.Forms.{form}
+use Rattle.hm_types_forms.specs.Sound.{IsSound}
+use Rattle.hm_types_sound.proofs.TypedFits.{form_sound}
+use Rattle.hm_types_table.specs.Tables.{Nodes}
 use Rattle.hm_lens_cases.proofs.numbers.rewritten.Goals as goal
 
 -- well formed nodes without twins are sound

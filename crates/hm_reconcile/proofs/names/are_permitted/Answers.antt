@@ -1,9 +1,9 @@
 use Rattle.std.proofs.Common.{inl, inr, refl, sym, ◌∙◌}
 use mathlib.Core.Bool.{true≢false}
 use Rattle.hm_reconcile.proofs.Naming.{same_names_permitted, sets_permitted, sets_refused}
-use Rattle.hm_reconcile.proofs.Nodes.{refuted}
 use Rattle.hm_reconcile.proofs.names.are_permitted.Goals.{then-permits_names, else-permits_names}
 use Rattle.hm_reconcile.proofs.names.are_permitted.Goals as goal
+use Rattle.hm_facts.proofs.Booleans.{refuted}
 
 pub returns-then-have_same_names-clause-permitted :
     goal.returns-then-have_same_names-clause-permitted

@@ -1,6 +1,6 @@
 use Rattle.std.proofs.Common.{map}
-use Rattle.hm_command.specs.declared.ending.Ending.{Ending}
-use Rattle.hm_sync.specs.Handed.{Handed, handed}
+use Rattle.hm_run_words.specs.declared.ending.Ending.{Ending}
+use Rattle.hm_run_sync.specs.Handed.{Handed, handed}
 use Rattle.hm_run.specs.Endings.{Outside, EndsAs}
 use Rattle.hm_run.proofs.Relied.{relied}
 use Rattle.hm_run.proofs.sync.run.Goals as goal

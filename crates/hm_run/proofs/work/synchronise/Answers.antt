@@ -1,6 +1,6 @@
 use Rattle.std.proofs.Common.{map, ◌≡◌, ◌∙◌, Err, refl, rules}
-use Rattle.hm_sync.specs.Handed.{handed}
-use Rattle.hm_command.specs.Words.{names}
+use Rattle.hm_run_sync.specs.Handed.{handed}
+use Rattle.hm_run_words.specs.Words.{names}
 use Rattle.hm_run.proofs.Working.{loads_stop, plan_stop, writes_stop, done}
 use Rattle.hm_run.proofs.work.synchronise.Goals as goal
 

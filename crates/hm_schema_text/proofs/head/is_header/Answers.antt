@@ -1,6 +1,6 @@
 use Rattle.std.proofs.Common.{sym, ◌∙◌, subst, refl}
-use Rattle.hm_node_lines.specs.Tokens.{Spaced}
-use Rattle.hm_node_lines.proofs.Laws.{spaced_one}
+use Rattle.hm_schema_lines.specs.Tokens.{Spaced}
+use Rattle.hm_schema_lines.proofs.Laws.{spaced_one}
 use Rattle.hm_schema_text.proofs.head.is_header.Goals as goal
 
 pub returns-in-Some : goal.returns-in-Some

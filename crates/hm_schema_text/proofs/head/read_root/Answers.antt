@@ -1,5 +1,5 @@
 use Rattle.std.proofs.Common.{sym, subst}
-use Rattle.hm_node_lines.specs.Tokens.{Spaced}
+use Rattle.hm_schema_lines.specs.Tokens.{Spaced}
 use Rattle.hm_schema_text.proofs.Judging.{root_is}
 use Rattle.hm_schema_text.proofs.head.read_root.Goals as goal
 

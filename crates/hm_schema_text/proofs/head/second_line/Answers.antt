@@ -1,8 +1,8 @@
 use Rattle.std.proofs.Common.{◌+◌, sym, ap, ◌∙◌}
 use Rattle.std.specs.Int.{from_bool}
-use Rattle.hm_node_lines.specs.Entries.{entry_value, entry_values}
-use Rattle.hm_node_lines.specs.BadLines.{lines_before}
-use Rattle.hm_node_lines.proofs.Laws.{entry_at}
+use Rattle.hm_schema_lines.specs.Entries.{entry_value, entry_values}
+use Rattle.hm_schema_lines.specs.BadLines.{lines_before}
+use Rattle.hm_schema_lines.proofs.Laws.{entry_at}
 use Rattle.hm_schema_text.proofs.Judging.{lines_next, few_next}
 use Rattle.hm_schema_text.proofs.head.second_line.Goals.{else-counted-via-then-counted+else-lines-eq1, else-counted-via-else-counted}
 use Rattle.hm_schema_text.proofs.head.second_line.Goals as goal

@@ -1,6 +1,6 @@
 use Rattle.std.proofs.Common.{◌≡◌, ◌≤◌}
-use Rattle.hm_node_lines.specs.Entries.{entry_values}
-use Rattle.hm_node_lines.specs.BadLines.{lines_before}
+use Rattle.hm_schema_lines.specs.Entries.{entry_values}
+use Rattle.hm_schema_lines.specs.BadLines.{lines_before}
 use Rattle.hm_schema_text.proofs.head.second_line.Given as goal
 
 abbrev pub invariant-loop-place : goal.invariant-loop-place

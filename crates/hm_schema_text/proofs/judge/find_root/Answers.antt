@@ -1,4 +1,4 @@
-use Rattle.hm_node_lines.specs.Entries.{entry_values}
+use Rattle.hm_schema_lines.specs.Entries.{entry_values}
 use Rattle.hm_schema_text.proofs.Judging.{root_told}
 use Rattle.hm_schema_text.proofs.judge.find_root.Goals as goal
 

@@ -1,9 +1,9 @@
 use Rattle.std.proofs.Common.{add-one, sym, subst, ◌∙◌, arith, true≢false}
 use borrow.Author.Count.{below_more}
 use Rattle.std.proofs.lemmas.List.{length-map}
-use Rattle.hm_node_lines.specs.Entries.{entry_value, entry_values}
-use Rattle.hm_node_lines.specs.BadLines.{around}
-use Rattle.hm_node_lines.specs.Sections.{IsSection}
+use Rattle.hm_schema_lines.specs.Entries.{entry_value, entry_values}
+use Rattle.hm_schema_lines.specs.BadLines.{around}
+use Rattle.hm_schema_lines.specs.Sections.{IsSection}
 use Rattle.hm_schema_text.specs.BadLines.{IsBadLine}
 use Rattle.hm_schema_text.proofs.Judging.{bad_within}
 use Rattle.hm_schema_text.proofs.judge.first_bad.Goals as goal

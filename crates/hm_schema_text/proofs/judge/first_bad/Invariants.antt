@@ -1,8 +1,8 @@
 use Rattle.std.proofs.Common.{ℕ, ◌<◌}
-use Rattle.hm_node_lines.specs.Entries.{entry_values}
-use Rattle.hm_node_lines.specs.BadLines.{around}
-use Rattle.hm_node_lines.specs.Sections.{IsSection}
-use Rattle.hm_node_lines.specs.Counting.{IsBefore}
+use Rattle.hm_schema_lines.specs.Entries.{entry_values}
+use Rattle.hm_schema_lines.specs.BadLines.{around}
+use Rattle.hm_schema_lines.specs.Sections.{IsSection}
+use Rattle.hm_schema_lines.specs.Counting.{IsBefore}
 use Rattle.hm_schema_text.specs.BadLines.{IsBadLine}
 use Rattle.hm_schema_text.proofs.judge.first_bad.Given as goal
 

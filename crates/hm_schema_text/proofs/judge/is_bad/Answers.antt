@@ -1,7 +1,7 @@
 use Rattle.std.proofs.Common.{Some, ap, ◌∙◌, arith}
-use Rattle.hm_node_lines.specs.Entries.{entry_value}
-use Rattle.hm_node_lines.specs.Judging.{lines_of}
-use Rattle.hm_node_lines.proofs.Laws.{entry_at}
+use Rattle.hm_schema_lines.specs.Entries.{entry_value}
+use Rattle.hm_schema_lines.specs.Judging.{lines_of}
+use Rattle.hm_schema_lines.proofs.Laws.{entry_at}
 use Rattle.hm_schema_text.proofs.Judging.{node_told}
 use Rattle.hm_schema_text.proofs.judge.is_bad.Goals as goal
 

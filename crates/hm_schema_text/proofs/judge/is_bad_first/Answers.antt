@@ -1,5 +1,5 @@
-use Rattle.hm_node_lines.specs.Judging.{lines_of}
-use Rattle.hm_node_lines.proofs.Laws.{turned}
+use Rattle.hm_schema_lines.specs.Judging.{lines_of}
+use Rattle.hm_schema_lines.proofs.Laws.{turned}
 use Rattle.hm_schema_text.specs.BadLines.{no_header}
 use Rattle.hm_schema_text.proofs.Judging.{first_line}
 use Rattle.hm_schema_text.proofs.judge.is_bad_first.Goals as goal

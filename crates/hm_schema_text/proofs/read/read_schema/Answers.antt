@@ -1,8 +1,8 @@
 use Rattle.std.proofs.Common.{List, sym, subst, ◌∙◌, arith}
 use Rattle.std.proofs.lemmas.Option.{MatchOption-at_some, MatchOption-at_none}
-use Rattle.hm_node_lines.specs.declared.entry.Entry.{Entry}
-use Rattle.hm_node_lines.specs.Entries.{entry_values}
-use Rattle.hm_node_lines.specs.FirstBad.{at}
+use Rattle.hm_schema_lines.specs.declared.entry.Entry.{Entry}
+use Rattle.hm_schema_lines.specs.Entries.{entry_values}
+use Rattle.hm_schema_lines.specs.FirstBad.{at}
 use Rattle.hm_schema_text.specs.BadLines.{IsBadLine, of_node}
 use Rattle.hm_schema_text.proofs.Files.{missing_line, schema_file, file_formed}
 use Rattle.hm_schema_text.proofs.read.read_schema.Goals as goal

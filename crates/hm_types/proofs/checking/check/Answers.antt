@@ -1,9 +1,9 @@
 use Rattle.std.proofs.Common.{◌≡◌, map, ap, subst, ◌∙◌}
 use Rattle.std.proofs.lemmas.Result.{err_from_is_err_and}
 use Rattle.hm_terms.specs.Programs.{program_value}
-use Rattle.hm_typing.specs.Forms.{form}
-use Rattle.hm_typing.specs.Typing.{Classes}
-use Rattle.hm_typing.specs.Programs.{classes_in, IsTyped}
+use Rattle.hm_types_forms.specs.Forms.{form}
+use Rattle.hm_types_rules.specs.Typing.{Classes}
+use Rattle.hm_types_rules.specs.Programs.{classes_in, IsTyped}
 use Rattle.hm_types_terms.specs.Courses.{classes_of}
 use Rattle.hm_types.specs.Checks.{IsFault}
 use Rattle.hm_types_terms.proofs.TextTypes.{classes_same}

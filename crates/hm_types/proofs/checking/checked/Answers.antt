@@ -8,9 +8,9 @@ use Rattle.hm_schema.specs.declared.node.NodeId.{NodeId}
 use Rattle.hm_schema.specs.Values.{node_value}
 use Rattle.hm_terms.specs.declared.term.Definition.{Definition}
 use Rattle.hm_terms.specs.Programs.{lens_of, definition_value, program_value}
-use Rattle.hm_typing.specs.Forms.{form}
-use Rattle.hm_table.specs.Tables.{shift}
-use Rattle.hm_numbering.proofs.Twins.{numbered_plain}
+use Rattle.hm_types_forms.specs.Forms.{form}
+use Rattle.hm_types_table.specs.Tables.{shift}
+use Rattle.hm_types_schemas.proofs.Twins.{numbered_plain}
 use Rattle.hm_types_terms.specs.Courses.{classes_of, scoped, IsStart, IsView, IsAt}
 use Rattle.hm_types_terms.specs.Bodies.{IsTypedBody, IsMistypedBody}
 use Rattle.hm_types.specs.Checks.{IsMistyped, in_main}

@@ -3,7 +3,7 @@ use Rattle.std.proofs.lemmas.Option.{slice_get_read}
 use Rattle.hm_terms.specs.Lenses.{among}
 use Rattle.hm_terms.specs.Programs.{lens_of, lenses_of}
 use Rattle.hm_terms.proofs.Rows.{each_items}
-use Rattle.hm_typing.specs.TextNames.{text_names}
+use Rattle.hm_types_rules.specs.TextNames.{text_names}
 use Rattle.hm_types_terms.specs.Courses.{classes_of}
 use Rattle.hm_types_terms.specs.TextTypes.{first_unknown}
 use Rattle.hm_types_terms.proofs.Falling.{rows_fall, row_falls}

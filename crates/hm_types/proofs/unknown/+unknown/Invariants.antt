@@ -1,7 +1,7 @@
 use Rattle.std.proofs.Common.{◌≡◌, ◌+◌, ◌*◌, drop}
 use Rattle.hm_terms.specs.Programs.{lens_of, lenses_of}
-use Rattle.hm_typing.specs.Faults.{size_of, size_of_all}
-use Rattle.hm_typing.specs.TextNames.{text_names_of}
+use Rattle.hm_types_rules.specs.Faults.{size_of, size_of_all}
+use Rattle.hm_types_rules.specs.TextNames.{text_names_of}
 use Rattle.hm_types_terms.specs.Courses.{classes_of}
 use Rattle.hm_types_terms.specs.TextTypes.{first_unknown}
 use Rattle.hm_types.proofs.unknown.+unknown.Given as goal

@@ -1,6 +1,6 @@
 use Rattle.std.proofs.Common.{sym, subst}
 use Rattle.hm_terms.specs.Programs.{program_value}
-use Rattle.hm_typing.specs.TextNames.{program_text_names, IsFirstUnknown}
+use Rattle.hm_types_rules.specs.TextNames.{program_text_names, IsFirstUnknown}
 use Rattle.hm_types_terms.specs.Courses.{classes_of}
 use Rattle.hm_types_terms.proofs.TextTypes.{all_known, is_first_unknown}
 use Rattle.hm_types.proofs.unknown.check_texts.Goals as goal

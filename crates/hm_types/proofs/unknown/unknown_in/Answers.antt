@@ -1,7 +1,7 @@
 use Rattle.std.proofs.Common.{rules, ◌≡◌, ◌<◌, length, slice_get, None, Some, refl, sym, ◌∙◌}
 use Rattle.std.proofs.lemmas.Option.{slice_get_read}
 use Rattle.hm_terms.specs.Programs.{lens_of}
-use Rattle.hm_typing.specs.TextNames.{text_names}
+use Rattle.hm_types_rules.specs.TextNames.{text_names}
 use Rattle.hm_types_terms.specs.Courses.{classes_of}
 use Rattle.hm_types_terms.specs.TextTypes.{first_unknown}
 use Rattle.hm_types_terms.proofs.TextTypes.{body_found, body_passed}

@@ -1,6 +1,6 @@
 use Rattle.std.proofs.Common.{◌≡◌, ◌++◌, drop, map}
 use Rattle.hm_terms.specs.Programs.{lens_of, definition_value, program_value}
-use Rattle.hm_typing.specs.TextNames.{text_names, body_text_names, program_text_names}
+use Rattle.hm_types_rules.specs.TextNames.{text_names, body_text_names, program_text_names}
 use Rattle.hm_types_terms.specs.Courses.{classes_of}
 use Rattle.hm_types_terms.specs.TextTypes.{first_unknown}
 use Rattle.hm_types.proofs.unknown.unknown_in.Given as goal

@@ -10,7 +10,7 @@ use Rattle.hm_types_terms.proofs.Falling.{rows_fall, row_parts_fall}
 use Rattle.hm_types_terms.proofs.alike.+lenses.Goals as goal
 
 pub push_lenses-returns : goal.push_lenses-returns
-push_lenses-returns t c = lens_pushed c.args.all.now.items c.push.new.self.items c.push_inside.new.all.items c.args.term c.in_ok-push.ensures.items c.in_ok-mark.ensures
+push_lenses-returns t c = lens_pushed c.args.all.now.items c.push.new.self.items c.push_inside.new.all.items c.args.term c.in_ok-push.ensures.items c.in_ok-hash.ensures
 
 pub push_inside-returns-in_ok-push_rows-in-Each : goal.push_inside-returns-in_ok-push_rows-in-Each
 push_inside-returns-in_ok-push_rows-in-Each t c =

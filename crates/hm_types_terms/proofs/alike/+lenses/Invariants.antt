@@ -1,6 +1,6 @@
 use Rattle.std.proofs.Common.{◌≡◌, ◌+◌, ◌*◌, ◌++◌, map, take}
 use Rattle.hm_terms.specs.Programs.{lens_of, lenses_of}
-use Rattle.hm_typing.specs.Faults.{size_of, size_of_all}
+use Rattle.hm_types_rules.specs.Faults.{size_of, size_of_all}
 use Rattle.hm_types_terms.specs.Numbers.{parts_of_all}
 use Rattle.hm_types_terms.proofs.alike.+lenses.Given as goal
 

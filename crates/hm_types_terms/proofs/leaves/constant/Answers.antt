@@ -1,8 +1,8 @@
 use Rattle.std.proofs.Common.{refl}
 use mathlib.Core.Bool.{false≢true}
 use Rattle.hm_terms.specs.Lenses.{constant}
-use Rattle.hm_typing.specs.Faults.{fault_constant}
-use Rattle.hm_typing.specs.Typing.{goes_constant}
+use Rattle.hm_types_rules.specs.Faults.{fault_constant}
+use Rattle.hm_types_rules.specs.Typing.{goes_constant}
 use Rattle.hm_types_terms.proofs.Telling.{told_at}
 use Rattle.hm_types_terms.proofs.leaves.constant.Goals as goal
 

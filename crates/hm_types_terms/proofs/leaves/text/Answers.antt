@@ -1,7 +1,7 @@
 use Rattle.std.proofs.Common.{sym, ◌∙◌}
 use Rattle.std.proofs.lemmas.Option.{none-some}
 use Rattle.hm_terms.specs.Lenses.{text}
-use Rattle.hm_typing.specs.Faults.{fault_text}
+use Rattle.hm_types_rules.specs.Faults.{fault_text}
 use Rattle.hm_types_terms.proofs.Telling.{told_at}
 use Rattle.hm_types_terms.proofs.leaves.text.Goals as goal
 

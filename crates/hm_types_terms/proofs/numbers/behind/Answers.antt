@@ -1,5 +1,5 @@
 use Rattle.std.proofs.Common.{◌+◌, false, ap, ◌∙◌, arith}
-use Rattle.hm_typing.specs.Faults.{size_of}
+use Rattle.hm_types_rules.specs.Faults.{size_of}
 use Rattle.hm_types_terms.specs.declared.part.Part.{Part}
 use Rattle.hm_types_terms.specs.Courses.{lenses_in}
 use Rattle.hm_types_terms.proofs.Standing.{part_in, part_is, room_in, stand_once}

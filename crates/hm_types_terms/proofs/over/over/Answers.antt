@@ -1,4 +1,4 @@
-use Rattle.hm_table.specs.Tables.{replaced}
+use Rattle.hm_types_table.specs.Tables.{replaced}
 use Rattle.hm_types_terms.proofs.StandsOver.{added_at}
 use Rattle.hm_types_terms.proofs.over.over.Goals as goal
 

@@ -1,6 +1,6 @@
 use Rattle.std.proofs.Common.{refl, sym, ◌∙◌}
 use Rattle.std.proofs.lemmas.Option.{same_Some}
-use Rattle.hm_table.specs.Tables.{seat}
+use Rattle.hm_types_table.specs.Tables.{seat}
 use Rattle.hm_types_terms.proofs.StandsOver.{itself}
 use Rattle.hm_types_terms.proofs.over.stands_over.Goals as goal
 

@@ -3,8 +3,8 @@ use Rattle.std.proofs.lemmas.Option.{slice_get_read}
 use Rattle.hm_terms.specs.Lenses.{among}
 use Rattle.hm_terms.specs.Programs.{lens_of, lenses_of}
 use Rattle.hm_terms.proofs.Rows.{each_items}
-use Rattle.hm_typing.specs.Faults.{size_of}
-use Rattle.hm_typing.specs.Texts.{HasTexts}
+use Rattle.hm_types_rules.specs.Faults.{size_of}
+use Rattle.hm_types_rules.specs.Texts.{HasTexts}
 use Rattle.hm_types_terms.specs.declared.part.Part.{Part}
 use Rattle.hm_types_terms.specs.Parts.{part_of, parts_inside, copies}
 use Rattle.hm_types_terms.proofs.PartLists.{new_length, first_read, parts_set, rows_next, texts_next}

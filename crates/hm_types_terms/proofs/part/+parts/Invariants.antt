@@ -1,7 +1,7 @@
 use Rattle.std.proofs.Common.{◌≡◌, ◌+◌, ◌*◌, ◌++◌, map, take}
 use Rattle.hm_terms.specs.Programs.{lens_of, lenses_of}
-use Rattle.hm_typing.specs.Faults.{size_of, size_of_all}
-use Rattle.hm_typing.specs.Texts.{HaveTexts}
+use Rattle.hm_types_rules.specs.Faults.{size_of, size_of_all}
+use Rattle.hm_types_rules.specs.Texts.{HaveTexts}
 use Rattle.hm_types_terms.specs.Numbers.{parts_of_all}
 use Rattle.hm_types_terms.specs.Parts.{part_of}
 use Rattle.hm_types_terms.proofs.part.+parts.Given as goal

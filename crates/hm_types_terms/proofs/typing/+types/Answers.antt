@@ -11,12 +11,12 @@ use Rattle.hm_schema.specs.Values.{NodeValue}
 use Rattle.hm_terms.specs.Lenses.{sequence, fork, each, among, items, on_concrete, on_view, lens_at}
 use Rattle.hm_terms.specs.Programs.{lens_of, lenses_of}
 use Rattle.hm_terms.proofs.Rows.{each_items}
-use Rattle.hm_typing.specs.Forms.{named, others, can_be, form}
-use Rattle.hm_typing.specs.Sources.{MergeView}
-use Rattle.hm_typing.specs.Typing.{goes_identity}
-use Rattle.hm_typing.specs.Faults.{size_of}
-use Rattle.hm_table.specs.Tables.{replaced}
-use Rattle.hm_table.proofs.Grown.{extends_self, extends_then, extends_at, formed_at}
+use Rattle.hm_types_forms.specs.Forms.{named, others, can_be, form}
+use Rattle.hm_types_rules.specs.Sources.{MergeView}
+use Rattle.hm_types_rules.specs.Typing.{goes_identity}
+use Rattle.hm_types_rules.specs.Faults.{size_of}
+use Rattle.hm_types_table.specs.Tables.{replaced}
+use Rattle.hm_types_table.proofs.Grown.{extends_self, extends_then, extends_at, formed_at}
 use Rattle.hm_types_terms.specs.Numbers.{parts_of}
 use Rattle.hm_types_terms.specs.Courses.{scope_of, IsReady, IsView, IsAt, IsGrown}
 use Rattle.hm_types_terms.specs.Pairs.{IsPairAt}

@@ -2,8 +2,8 @@ use Rattle.std.proofs.Common.{◌≡◌, ◌+◌, ◌*◌, take, drop, length, s
 use Rattle.hm_schema.specs.Values.{NodeValue}
 use Rattle.hm_terms.specs.Programs.{lens_of, lenses_of}
 use Rattle.hm_terms.specs.Lenses.{lens_at}
-use Rattle.hm_typing.specs.Forms.{named, can_be}
-use Rattle.hm_typing.specs.Faults.{size_of, size_of_all}
+use Rattle.hm_types_forms.specs.Forms.{named, can_be}
+use Rattle.hm_types_rules.specs.Faults.{size_of, size_of_all}
 use Rattle.hm_types_terms.specs.Numbers.{StandFrom, parts_of_all}
 use Rattle.hm_types_terms.specs.Courses.{scope_of, lenses_in, IsGrown}
 use Rattle.hm_types_terms.specs.Below.{AreLed, where_it_can}

@@ -3,8 +3,8 @@ use Rattle.std.proofs.lemmas.List.{take_all}
 use Rattle.std.proofs.lemmas.Option.{slice_get_read}
 use mathlib.Core.Bool.{false≢true}
 use Rattle.hm_terms.specs.Programs.{lenses_of}
-use Rattle.hm_typing.specs.Forms.{label_of}
-use Rattle.hm_typing.specs.Typing.{AreListed}
+use Rattle.hm_types_forms.specs.Forms.{label_of}
+use Rattle.hm_types_rules.specs.Typing.{AreListed}
 use Rattle.hm_types_terms.proofs.Named.{listed_next, not_listed, listed_here}
 use Rattle.hm_types_terms.proofs.typing.are_listed.Goals as goal
 

@@ -1,5 +1,5 @@
 use Rattle.std.proofs.Common.{refl}
-use Rattle.hm_table.proofs.EqualNodes.{equal_forms}
+use Rattle.hm_types_table.proofs.EqualNodes.{equal_forms}
 use Rattle.hm_types_terms.proofs.typing.first_equal.Goals as goal
 
 pub returns-then-equal-clause-form : goal.returns-then-equal-clause-form

@@ -2,9 +2,9 @@ use Rattle.std.proofs.Common.{◌≡◌, ◌+◌, ◌++◌, ◌∷◌, [], ap, s
 use Rattle.std.specs.Borrow.{Bor}
 use Rattle.std.proofs.lemmas.List.{length-map, map-append}
 use Rattle.std.proofs.lemmas.List.Elements.{All-push}
-use Rattle.hm_components.specs.Components.{Bytes, item}
-use Rattle.hm_components.specs.Lent.{texts, piece_of, pieces_of, HasLines, HaveLines}
-use Rattle.hm_components.specs.declared.component.Piece.TheVariants.{Item}
+use Rattle.hm_lines_files.specs.Components.{Bytes, item}
+use Rattle.hm_lines_files.specs.Lent.{texts, piece_of, pieces_of, HasLines, HaveLines}
+use Rattle.hm_lines_files.specs.declared.component.Piece.TheVariants.{Item}
 use Rattle.hm_vcard.specs.Cards.{component_with}
 use Rattle.hm_vcard.specs.Opening.{AreFront}
 use Rattle.hm_vcard.specs.Lent.{card_lines}

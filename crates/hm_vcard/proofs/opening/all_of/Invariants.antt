@@ -1,5 +1,5 @@
 use Rattle.std.proofs.Common.{◌≡◌, ◌≤◌, ◌-◌, length}
-use Rattle.hm_components.specs.Lent.{texts, pieces_of, HaveLines}
+use Rattle.hm_lines_files.specs.Lent.{texts, pieces_of, HaveLines}
 use Rattle.hm_vcard.specs.Cards as spec
 use Rattle.hm_vcard.specs.Opening.{AreFront}
 use Rattle.hm_vcard.proofs.opening.all_of.Given as goal

@@ -1,10 +1,10 @@
 use Rattle.std.proofs.Common.{List, ap, sym, subst, refl, ◌∙◌}
 use Rattle.std.specs.Borrow.{Bor}
 use Rattle.std.proofs.lemmas.List.{drop-map}
-use Rattle.hm_components.specs.Components.{Bytes}
+use Rattle.hm_lines_files.specs.Components.{Bytes}
 use Rattle.hm_vcard.specs.Opening.{IsInFront, StopsCard, IsCardStop}
 use Rattle.hm_vcard.specs.Lent.{card_lines}
-use Rattle.hm_components.specs.Lent.{texts}
+use Rattle.hm_lines_files.specs.Lent.{texts}
 use Rattle.hm_vcard.proofs.opening.card_at.Goals as goal
 
 pub returns-in-Ok-clause-card : goal.returns-in-Ok-clause-card

@@ -1,12 +1,12 @@
 use Rattle.std.proofs.Common.{List, [], refl, sym, subst}
 use Rattle.std.specs.Borrow.{Bor}
-use Rattle.hm_components.specs.Lent.{texts, pieces_of}
-use Rattle.hm_components.specs.Components.{Bytes}
-use Rattle.hm_components.specs.Stops.{AreOf, IsStop}
+use Rattle.hm_lines_files.specs.Lent.{texts, pieces_of}
+use Rattle.hm_lines_files.specs.Components.{Bytes}
+use Rattle.hm_lines_files.specs.Stops.{AreOf, IsStop}
 use Rattle.hm_vcard.specs.Cards.{vcards}
-use Rattle.hm_vcard.proofs.FirstStops.{passed}
 use Rattle.hm_vcard.proofs.FileStops.{stop_told, layout_told}
 use Rattle.hm_vcard.proofs.opening.cards_in.Goals as goal
+use Rattle.hm_lines_files.proofs.Stopped.{passed}
 
 pub returns-in_err-all_of-clause-stop : goal.returns-in_err-all_of-clause-stop
 returns-in_err-all_of-clause-stop c o =

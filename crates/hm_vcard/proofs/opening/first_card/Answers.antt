@@ -2,16 +2,17 @@ use Rattle.std.proofs.Common.{◌≡◌, ◌+◌, List, Bool, length, sym, subst
 use Rattle.std.specs.Borrow.{Bor}
 use Rattle.std.proofs.lemmas.List.{length-map}
 use Rattle.hm_tree.specs.Names.{Name}
-use Rattle.hm_properties.specs.declared.line.Line.{Line}
-use Rattle.hm_properties.specs.Lines.{AreFew, IsFirstSecond}
-use Rattle.hm_properties.specs.Lent.{AreLines, lent, line_of}
+use Rattle.hm_lines_cards.specs.declared.line.Line.{Line}
+use Rattle.hm_lines_cards.specs.Lines.{AreFew, IsFirstSecond}
+use Rattle.hm_lines_cards.specs.Lent.{AreLines, lent, line_of}
 use Rattle.hm_vcard.specs.Cards.{end_line}
-use Rattle.hm_components.specs.Components.{Bytes}
+use Rattle.hm_lines_files.specs.Components.{Bytes}
 use Rattle.hm_vcard.specs.Opening.{IsCardStop, IsNoLineAt, IsLineAt}
-use Rattle.hm_components.specs.Lent.{texts}
+use Rattle.hm_lines_files.specs.Lent.{texts}
 use Rattle.hm_vcard.proofs.LentLines.{are_lines}
-use Rattle.hm_vcard.proofs.FirstStops.{passed, begin_stop, version_stop, two_there, second_stop, end_stop, front_card, front_there, ends_there}
+use Rattle.hm_vcard.proofs.FirstStops.{begin_stop, version_stop, two_there, second_stop, end_stop, front_card, front_there, ends_there}
 use Rattle.hm_vcard.proofs.opening.first_card.Goals as goal
+use Rattle.hm_lines_files.proofs.Stopped.{passed}
 
 pub returns-in_err-begin-clause-stop : goal.returns-in_err-begin-clause-stop
 returns-in_err-begin-clause-stop c =

@@ -2,7 +2,7 @@ use Rattle.std.proofs.Common.{◌≡◌, length, sym, refl, subst}
 use Rattle.std.proofs.lemmas.Option.{slice_get_read}
 use Rattle.std.proofs.lemmas.Bool.{ltb-false}
 use Rattle.hm_vcard.specs.Cards.{is_line}
-use Rattle.hm_components.specs.Lent.{texts}
+use Rattle.hm_lines_files.specs.Lent.{texts}
 use Rattle.hm_vcard.proofs.LentTexts.{read_text, line_yes, line_no, same_at, past_none}
 use Rattle.hm_vcard.proofs.opening.line_at.Goals as goal
 use Rattle.hm_vcard.proofs.opening.line_at.Goals.{in_default-via-in-Some+else-eq_ignore_ascii_case, in_default-via-in_default}

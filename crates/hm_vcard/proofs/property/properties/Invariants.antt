@@ -1,8 +1,8 @@
 use Rattle.std.proofs.Common.{◌≡◌, length, take}
 use Rattle.std.specs.Prelude.{All}
-use Rattle.hm_properties.specs.Lent.{lent, plain}
+use Rattle.hm_lines_cards.specs.Lent.{lent, plain}
 use Rattle.hm_vcard.specs.Cards.{IsProperty}
-use Rattle.hm_components.specs.Lent.{texts}
+use Rattle.hm_lines_files.specs.Lent.{texts}
 use Rattle.hm_vcard.proofs.property.properties.Given as goal
 
 abbrev pub invariant-loop-place : goal.invariant-loop-place

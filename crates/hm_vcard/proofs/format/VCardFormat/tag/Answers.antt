@@ -1,4 +1,4 @@
-use Rattle.hm_component_files.proofs.Laws.{form_lawful}
+use Rattle.hm_lines_files.proofs.Laws.{form_lawful}
 use Rattle.hm_vcard.specs.Cards.{vcards}
 use Rattle.hm_vcard.proofs.CardForm.{vcards_form}
 use Rattle.hm_vcard.proofs.format.VCardFormat.tag.Goals as goal

@@ -1,0 +1,15 @@
+pub mod Sorting
+pub mod ReadBack
+pub mod Runs
+pub mod Lists
+pub mod Made
+pub mod ListDepths
+pub mod Limits
+pub mod Laws
+pub mod Contents
+pub mod Fitting
+pub mod LentKeys
+pub mod Plans
+pub mod Numbers
+pub mod EachItem
+pub mod Taking

@@ -1,7 +1,0 @@
-use Rattle.std.proofs.Common.{◌≡◌, [], take}
-use Rattle.csv.specs.Records.{fields_of, partial_of}
-use Rattle.hm_columns.specs.Records.{rewritten}
-use Rattle.hm_columns.proofs.rewriting.rewrite_from.Given as goal
-
-abbrev pub invariant-loop-place : goal.invariant-loop-place
-invariant-loop-place l = (fields_of l.new ≡ rewritten l.table.columns.items l.card (take l.place (fields_of l.row))) × (partial_of l.new ≡ [])

@@ -1,3 +1,0 @@
-pub mod ShownProperties
-pub mod KnownNames
-mod Pieces

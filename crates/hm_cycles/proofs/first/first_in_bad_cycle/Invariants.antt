@@ -1,5 +1,0 @@
-use Rattle.hm_cycles.proofs.Earliest.{NoneBefore}
-use Rattle.hm_cycles.proofs.first.first_in_bad_cycle.Given as goal
-
-abbrev pub invariant-loop-place : goal.invariant-loop-place
-invariant-loop-place l = NoneBefore l.callees.items l.place

@@ -1,6 +1,0 @@
-use Rattle.std.proofs.Common.{drop}
-use Rattle.hm_item_trees.proofs.ListDepths.{AreLookedAt}
-use Rattle.hm_item_trees.proofs.depths.depth_of_runs.Given as goal
-
-abbrev pub invariant-loop-at : goal.invariant-loop-at
-invariant-loop-at l = AreLookedAt (drop l.at l.items) l.deepest l.list

@@ -1,0 +1,14 @@
+pub mod Components
+pub mod Rewriting
+pub mod Renewed
+pub mod Reading
+pub mod Forms
+pub mod FormLaws
+pub mod Files
+pub mod Writing
+pub mod Stops
+pub mod Lent
+pub mod Faults
+pub mod WrittenFiles
+pub mod WrittenLines
+pub mod WrittenPieces

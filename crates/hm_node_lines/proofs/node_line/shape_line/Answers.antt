@@ -1,6 +1,0 @@
-use Rattle.std.proofs.Common.{rules}
-use Rattle.hm_node_lines.proofs.NodeLines.{no_shape_line}
-use Rattle.hm_node_lines.proofs.node_line.shape_line.Goals as goal
-
-pub returns-in-None : goal.returns-in-None
-returns-in-None c = no_shape_line _ (search rules)

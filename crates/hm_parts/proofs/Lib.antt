@@ -1,3 +1,0 @@
-mod Edges
-mod Items
-mod Merged

@@ -1,7 +1,0 @@
-use Rattle.std.proofs.Common.{◌≡◌, take, map}
-use Rattle.hm_pieces.specs.Cutting.{bytes_of}
-use Rattle.hm_pieces.specs.Texts.{shown}
-use Rattle.hm_pieces.proofs.showing.shown.Given as goal
-
-abbrev pub invariant-loop-piece : goal.invariant-loop-piece
-invariant-loop-piece l = l.texts.items ≡ shown (map bytes_of (take l.piece-index l.pieces))

@@ -1,7 +1,0 @@
-use Rattle.std.proofs.Common.{◌≡◌, take}
-use Rattle.hm_pieces.specs.Pieces.{written}
-use Rattle.hm_pieces.specs.Cutting.{lent}
-use Rattle.hm_pieces.proofs.writing.write_pieces.Given as goal
-
-abbrev pub invariant-loop-place : goal.invariant-loop-place
-invariant-loop-place l = l.made.items ≡ written (take l.place (lent l.pieces))

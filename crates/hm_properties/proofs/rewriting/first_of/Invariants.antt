@@ -1,8 +1,0 @@
-use Rattle.std.proofs.Common.{◌≡◌, drop}
-use Rattle.std.specs.List.{position_from}
-use Rattle.hm_properties.specs.Lines.{is_of}
-use Rattle.hm_properties.specs.Lent.{lent}
-use Rattle.hm_properties.proofs.rewriting.first_of.Given as goal
-
-abbrev pub invariant-loop-place : goal.invariant-loop-place
-invariant-loop-place l = position_from (is_of l.name) l.place (lent (drop l.place l.lines)) ≡ position_from (is_of l.name) 0 (lent l.lines)

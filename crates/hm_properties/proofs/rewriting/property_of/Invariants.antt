@@ -1,7 +1,0 @@
-use Rattle.std.proofs.Common.{◌≡◌, drop}
-use Rattle.hm_properties.specs.Rewriting.{property_of}
-use Rattle.hm_properties.specs.Lent.{line_of}
-use Rattle.hm_properties.proofs.rewriting.property_of.Given as goal
-
-abbrev pub invariant-loop-place : goal.invariant-loop-place
-invariant-loop-place l = property_of (drop l.place l.properties) (line_of l.line) ≡ property_of l.properties (line_of l.line)

@@ -1,9 +1,0 @@
-use Rattle.hm_reduced.specs.Apart.{Respects}
-use Rattle.hm_reduced.proofs.TakenApart.{CalmAlike}
-use Rattle.hm_reduced.proofs.apart.apart.Given as goal
-
-abbrev pub invariant-loop : goal.invariant-loop
-invariant-loop l = record {
-  numbers : Respects l.graph l.now.items;
-  calm : CalmAlike l.graph l.calm.items;
-}

@@ -1,8 +1,0 @@
-use Rattle.std.proofs.Common.{◌≡◌, [], All, length}
-use Rattle.hm_reduced.proofs.calm.empty_lists.Given as goal
-
-abbrev pub invariant-loop : goal.invariant-loop
-invariant-loop l = record {
-  count : length l.lists.items ≡ l.counter;
-  empty : All (λ list. list.items ≡ []) l.lists.items;
-}

@@ -1,5 +1,0 @@
-use Rattle.hm_reduced.specs.Calm.{AreSources}
-use Rattle.hm_reduced.proofs.calm.sources.Given as goal
-
-abbrev pub invariant-loop-i : goal.invariant-loop-i
-invariant-loop-i l = AreSources l.graph l.i l.lists.items

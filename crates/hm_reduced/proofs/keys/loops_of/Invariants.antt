@@ -1,5 +1,0 @@
-use Rattle.hm_reduced.specs.Indexed.{AreLoops}
-use Rattle.hm_reduced.proofs.keys.loops_of.Given as goal
-
-abbrev pub invariant-loop-i : goal.invariant-loop-i
-invariant-loop-i l = AreLoops l.vertices l.i l.loops

@@ -1,9 +1,0 @@
-use Rattle.std.proofs.Common.{length}
-use Rattle.hm_reduced.proofs.Partitions.{IsPartition, slack}
-use Rattle.hm_reduced.proofs.partition.classes.Given as goal
-
-abbrev pub invariant-loop-now : goal.invariant-loop-now
-invariant-loop-now l = IsPartition l.graph l.now.items
-
-abbrev pub decreases-loop-now : goal.decreases-loop-now
-decreases-loop-now l = slack (length l.graph) l.now.items

@@ -1,9 +1,0 @@
-use Rattle.std.proofs.Common.{◌≡◌, ℕ, length}
-use Rattle.hm_reduced.specs.Reduced.{class_at}
-use Rattle.hm_reduced.proofs.partition.zeros.Given as goal
-
-abbrev pub invariant-loop : goal.invariant-loop
-invariant-loop l = record {
-  size : length l.all.items ≡ l.counter;
-  zero : (i : ℕ) → class_at l.all.items i ≡ 0;
-}

@@ -1,5 +1,0 @@
-use Rattle.hm_reduced.specs.Partitions.{IsQuotient}
-use Rattle.hm_reduced.proofs.quotient.quotient.Given as goal
-
-abbrev pub invariant-loop-head : goal.invariant-loop-head
-invariant-loop-head l = IsQuotient l.graph l.head-items l.numbers.items l.vertices.items l.head-index

@@ -1,0 +1,36 @@
+-- A plan, step behind step.
+use Rattle.std.proofs.Common.{◌≡◌, ℕ, List, Ok, Err, refl, sym, ap, ◌∙◌}
+use Rattle.hm_run_files.specs.declared.stop.Refusal.{Refusal}
+use Rattle.hm_run_files.specs.Steps.{stops, goes_on}
+use Rattle.hm_run_files.specs.Files.{New, measures}
+use Rattle.hm_run_words.specs.declared.ending.Output.{Output}
+use Rattle.hm_run_words.specs.Words.{FileNames}
+use Rattle.hm_run_sync.specs.Handed.{Handed}
+use Rattle.hm_run_sync.specs.Reads.{Before, ReadsAll}
+use Rattle.hm_run_sync.specs.Verdict.{Synced, Texts, Plans, PlansFrom, Becomes, Closes, IsReport, news_of, IsUnwritable, IsPlanned}
+
+module _ (h : Handed) (files : FileNames) (all : List (List ℕ)) where
+  pub reads_first : (refusal : Refusal) → ReadsAll h all (Err refusal) → PlansFrom h files all (Err refusal)
+  unfolding PlansFrom
+  reads_first refusal r = stops r
+
+  module _ (before : Before) (reads : ReadsAll h all (Ok before)) where
+    pub unwritable : (refusal : Refusal) → IsUnwritable h before refusal → PlansFrom h files all (Err refusal)
+    unfolding PlansFrom Plans
+    unwritable refusal u = goes_on reads (goes_on u.becomes (stops u.closes))
+
+    module _ (after : Synced) (becomes : Becomes before after) (texts : Texts) (closes : Closes h before.sides before.replicas after (Ok texts))
+        (news : List New) (are : news ≡ news_of files texts) where
+      pub measures_first : (refusal : Refusal) → measures news ≡ Err refusal → PlansFrom h files all (Err refusal)
+      unfolding PlansFrom Plans
+      measures_first refusal m = goes_on reads (goes_on becomes (goes_on closes (stops (sym m ∙ ap measures are))))
+
+      pub planned : (output : Output) → measures news ≡ Ok tt → IsReport before after output → IsPlanned h files all news output
+      unfolding PlansFrom Plans
+      planned output sizes tells = record {
+        plan = record { files = files; before = before; after = after; texts = texts };
+        planned = goes_on reads (goes_on becomes (goes_on closes (goes_on (sym sizes ∙ ap measures are) refl)));
+        of = refl;
+        are = are;
+        tells = tells;
+      }

@@ -1,0 +1,156 @@
+//! Making the new files of what was loaded.
+ghost use Rattle.std.specs.Prelude.{◌≡◌, ◌≤◌, IfOk, length, map};
+ghost use Rattle.hm_tree.specs.Nodes.{depth};
+ghost use Rattle.hm_schema.specs.Membership.{HasNoTwins};
+ghost use Rattle.hm_outcome.specs.Trios.{given, views, AreMembers};
+ghost use Rattle.hm_reconcile.specs.Reconciled.{IsReconciled};
+ghost use Rattle.hm_replica.specs.Bases.{IsBase};
+ghost use Rattle.hm_replica.specs.Replicas.{replica_value};
+ghost use Rattle.hm_run_files.specs.Steps.{Computes};
+ghost use Rattle.hm_run_files.specs.Files.{all_bytes, new_of};
+ghost use Rattle.hm_run_words.specs.Words.{names};
+ghost use Rattle.hm_run_sync.specs.Handed.{handed};
+ghost use Rattle.hm_run_sync.specs.Reads.{before_of, before_with, AreOpened};
+ghost use Rattle.hm_run_sync.specs.Verdict.{news_of, new_texts, MakesTexts, Makes};
+
+use crate::closing::{NewTexts, close, close_as};
+use crate::read::{BasePair, Inputs, ReplicaPair, SidePair, read_all};
+use hm_format::Format;
+use hm_reconcile::reconcile_owned;
+use hm_report::Outcome;
+use hm_run_files::{NewFile, Slot, Stop, measure_all};
+use hm_run_words::{Files, Output};
+use hm_schema::Schema;
+use hm_text_lens::TextLens;
+use hm_tree::{Archive, Memory, Tree};
+use std::alloc::Global;
+
+// The greater of the depths of two trees.
+fn deeper(left: &Tree, right: &Tree) -> usize
+    ensures left { depth left.now ≤ result }
+    ensures right { depth right.now ≤ result }
+{
+    left.depth().max(right.depth())
+}
+
+// What the archive and the views become, and what the new views are put over. The views are taken from the replicas, and copied
+// only where a program of lenses needs the old ones.
+fn reconcile(
+    alloc: Global,
+    schema: &Schema,
+    archive: Archive,
+    replicas: ReplicaPair,
+) -> Result<(Outcome, BasePair), Memory>
+    requires no_twins { HasNoTwins schema.now }
+    requires members { AreMembers schema.now schema.now.root (views (given archive replicas.left.view replicas.right.view)) }
+    ensures outcome { IfOk result (λ r. IsReconciled schema.now (given archive replicas.left.view replicas.right.view) r.0) }
+    ensures left { IfOk result (λ r. IsBase (replica_value replicas.left) r.1.left) }
+    ensures right { IfOk result (λ r. IsBase (replica_value replicas.right) r.1.right) }
+{
+    let (left_view, left) = replicas.left.parted()?;
+    let (right_view, right) = replicas.right.parted()?;
+    let outcome = reconcile_owned(alloc, schema, archive, left_view, right_view)?;
+    Ok((outcome, BasePair { left, right }))
+}
+
+// The new texts of what was read, whatever has changed.
+fn make_both(
+    alloc: Global,
+    formats: &[Box<dyn Format>],
+    texts: &[Box<dyn TextLens>],
+    schema: &Schema,
+    sides: &SidePair,
+    archive: Archive,
+    replicas: ReplicaPair,
+) -> Result<NewTexts, Stop>
+    requires { AreOpened (handed (λ b. means b) formats.now (map (λ b. meaning b) texts.now)) (before_with schema.now sides.now archive replicas) }
+    ensures { Computes (MakesTexts (handed (λ b. means b) formats.now (map (λ b. meaning b) texts.now)) (before_with schema.now sides.now archive replicas)) result }
+{
+    let bound = deeper(&replicas.left.view, &replicas.right.view);
+    let (outcome, bases) = reconcile(alloc, schema, archive, replicas)?;
+    close(alloc, formats, texts, sides, bases, outcome, bound)
+}
+
+// The new texts of what was read. In most runs only one side has changed since the last, or none has; then the archive is
+// let go before the other side is closed, since both together are most of what is in memory.
+fn make(
+    alloc: Global,
+    formats: &[Box<dyn Format>],
+    texts: &[Box<dyn TextLens>],
+    inputs: Inputs,
+) -> Result<NewTexts, Stop>
+    requires { AreOpened (handed (λ b. means b) formats.now (map (λ b. meaning b) texts.now)) (before_of inputs) }
+    ensures { Computes (MakesTexts (handed (λ b. means b) formats.now (map (λ b. meaning b) texts.now)) (before_of inputs)) result }
+{
+    let Inputs {
+        schema,
+        sides,
+        archive,
+        replicas,
+    } = inputs;
+    if archive.records(&replicas.left.view) {
+        drop(archive);
+        let ReplicaPair { left, right } = replicas;
+        let one = close_as(alloc, Slot::A, formats, texts, &sides.left, left, right)?;
+        return Ok(NewTexts {
+            archive: one.archive,
+            left: one.made,
+            right: one.kept,
+            output: one.output,
+        });
+    }
+    if archive.records(&replicas.right.view) {
+        drop(archive);
+        let ReplicaPair { left, right } = replicas;
+        let one = close_as(alloc, Slot::B, formats, texts, &sides.right, right, left)?;
+        return Ok(NewTexts {
+            archive: one.archive,
+            left: one.kept,
+            right: one.made,
+            output: one.output,
+        });
+    }
+    make_both(alloc, formats, texts, &schema, &sides, archive, replicas)
+}
+
+// The new files, in the order in which they are measured and written, and the output.
+fn in_order<'a>(files: Files<'a>, new: NewTexts) -> ([NewFile<'a>; 3], Output)
+    ensures files { map new_of result.0 ≡ news_of (names files.entry) (new_texts new) }
+    ensures output { result.1 ≡ new.output }
+{
+    let news = [
+        NewFile {
+            slot: Slot::A,
+            name: files.left,
+            bytes: new.left,
+        },
+        NewFile {
+            slot: Slot::B,
+            name: files.right,
+            bytes: new.right,
+        },
+        NewFile {
+            slot: Slot::Archive,
+            name: files.archive,
+            bytes: new.archive,
+        },
+    ];
+    (news, new.output)
+}
+
+/// The new files and the output of what was loaded, or the first stop.
+pub fn plan<'a>(
+    alloc: Global,
+    files: Files<'a>,
+    formats: &[Box<dyn Format>],
+    texts: &[Box<dyn TextLens>],
+    loads: Vec<Vec<u8>>,
+) -> Result<([NewFile<'a>; 3], Output), Stop>
+    requires { length loads.items ≡ 6 }
+    ensures { Computes (Makes (handed (λ b. means b) formats.now (map (λ b. meaning b) texts.now)) (names files.entry) (all_bytes loads)) result }
+{
+    let inputs = read_all(alloc, formats, texts, loads)?;
+    let (news, output) = in_order(files, make(alloc, formats, texts, inputs)?);
+    measure_all(&news)?;
+    Ok((news, output))
+}

@@ -1,0 +1,4 @@
+pub mod ListTrees
+pub mod Plain
+pub mod ListNodes
+pub mod Values

@@ -1,0 +1,3 @@
+mod JointGraphs
+mod JointEdges
+mod JointSameness

@@ -1,0 +1,12 @@
+//! Whether two schemas are the same.
+//!
+//! The nodes of both are the vertices of one graph (`specs/JointGraphs`), whose labels are those of the nodes, tidied.
+//! Two schemas are the same, as `hm_schema` defines it, exactly where the vertices of their roots are (`hm_graph`). So
+//! what is asked about schemas alone needs no graphs.
+//!
+//! Proved: `same` answers exactly whether two schemas are the same (`hm_schema/specs/Sameness`).
+#![tactic(auto)]
+
+mod sameness;
+
+pub use sameness::same;

@@ -1,6 +1,0 @@
-use Rattle.std.proofs.Common.{◌≡◌, map, take}
-use Rattle.hm_reduced.specs.Reduced.{class_at}
-use Rattle.hm_table.proofs.edges.classes_at.Given as goal
-
-abbrev pub invariant-loop-place : goal.invariant-loop-place
-invariant-loop-place l = l.at.items ≡ map (class_at l.classes) (take l.place-index l.places)

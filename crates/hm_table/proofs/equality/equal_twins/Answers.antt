@@ -1,5 +1,0 @@
-use Rattle.hm_table.proofs.EqualNodes.{equal_twins}
-use Rattle.hm_table.proofs.equality.equal_twins.Goals as goal
-
-pub returns : goal.returns
-returns c = equal_twins c.eq.result c.args.one.now c.args.two.now c.eq.ensures

@@ -1,5 +1,0 @@
-use Rattle.hm_node_lines.proofs.Laws.{gap_within}
-use Rattle.hm_term_text.proofs.front.unspaced.Goals as goal
-
-pub behind-requires : goal.behind-requires
-behind-requires c = gap_within _ _ c.gap_length.ensures

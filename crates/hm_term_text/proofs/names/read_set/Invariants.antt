@@ -1,9 +1,0 @@
-use Rattle.std.proofs.Common.{length}
-use Rattle.hm_term_text.proofs.Sets.{IsRead}
-use Rattle.hm_term_text.proofs.names.read_set.Given as goal
-
-abbrev pub invariant-names : goal.invariant-names
-invariant-names l = IsRead l.initial.left l.names.items l.left
-
-abbrev pub decreases-names : goal.decreases-names
-decreases-names l = length l.left

@@ -1,0 +1,5 @@
+pub mod MemberNodes
+pub mod Nodes
+pub mod SameForms
+pub mod SoundForms
+pub mod SameMembers

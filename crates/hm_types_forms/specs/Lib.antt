@@ -1,0 +1,4 @@
+pub mod Forms
+pub mod Members
+pub mod SameForms
+pub mod Sound

@@ -1,0 +1,12 @@
+pub mod Refitted
+pub mod OneMore
+pub mod Copying
+pub mod Hiding
+pub mod Branching
+pub mod MergedShapes
+pub mod MergedNodes
+pub mod PartedShapes
+pub mod Parting
+pub mod JoinedShapes
+pub mod Joining
+pub mod JoinedNodes

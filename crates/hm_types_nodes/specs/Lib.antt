@@ -1,0 +1,5 @@
+pub mod Parting
+pub mod Joining
+pub mod Branching
+pub mod Merging
+pub mod Copying

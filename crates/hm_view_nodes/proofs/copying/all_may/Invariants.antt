@@ -1,6 +1,0 @@
-use Rattle.std.proofs.Common.{All, take}
-use Rattle.hm_view_nodes.specs.Conditions.{MayCopy}
-use Rattle.hm_view_nodes.proofs.copying.all_may.Given as goal
-
-abbrev pub invariant-loop-shape : goal.invariant-loop-shape
-invariant-loop-shape l = All (MayCopy l.first l.second l.listed) (take l.shape-index l.shapes)

@@ -1,6 +1,0 @@
-use Rattle.std.proofs.Common.{◌≡◌, take}
-use Rattle.hm_node_laws.specs.Joining.{joined_shapes}
-use Rattle.hm_view_nodes.proofs.joining.all_joined.Given as goal
-
-abbrev pub invariant-loop-one : goal.invariant-loop-one
-invariant-loop-one l = l.shapes.items ≡ joined_shapes (take l.one-index l.ones) l.twos

@@ -1,8 +1,0 @@
-use Rattle.std.proofs.Common.{sym, subst}
-use Rattle.hm_view_nodes.specs.Lists.{IsPart}
-use Rattle.hm_view_nodes.proofs.ListRead.{begins}
-use Rattle.hm_view_nodes.proofs.listing.begins_empty.Goals as goal
-
-pub returns : goal.returns
-returns c = begins c.args.shapes.now c.index-shapes-0.result c.is_empty.result c.requires.some c.index-shapes-0.is
-    (subst IsPart (sym c.index-shapes-0.is) (c.requires.parts 0 c.index-shapes-0.result c.requires.some)) c.is_empty.ensures
