@@ -1,11 +1,11 @@
 -- Which lenses call one that isn't declared, by their parts.
 use Rattle.std.proofs.Common.{◌≡◌, ◌⊎◌, inl, inr, ℕ, zero, suc, ◌+◌, ◌<◌, ◌≤◌, Bool, true, false, List, [], ◌∷◌, length, slice_get, Option, Some, None, is_some, not, refl, sym, ap, ◌∙◌, subst, arith}
-use Rattle.std.specs.Prelude.{String, IsTrue, ◌↔◌, ◌||◌}
+use Rattle.std.specs.Prelude.{IsTrue, ◌↔◌, ◌||◌}
 use mathlib.Core.Bool.{true≢false}
 use Rattle.std.proofs.lemmas.Bool.{cases_lt}
 use Rattle.std.proofs.lemmas.Option.{slice_get_within}
-use Rattle.std.specs.BTreeMap.{BTreeMap, get_by_text}
-use Rattle.std.specs.declared.alloc.Global.{Global}
+use Rattle.indexmap.specs.IndexMap.{get_by_text}
+use Rattle.hm_schema_lines.specs.Firsts.{FirstPlaces}
 use Rattle.hm_tree.specs.Names.{Name}
 use Rattle.hm_tree.specs.Nodes.{Tree}
 use Rattle.hm_schema.specs.Values.{Names}
@@ -34,7 +34,7 @@ callee : (n m : Name) (l : Lens) → StandsIn (call n) l → l ≡ call m → n 
 callee n m _ itself e = let same : n ≡ m = cc in same
 callee n m _ s e = let f : ⊥ = cc in absurd f
 
-module _ (table : BTreeMap (String Global) ℕ) where
+module _ (table : FirstPlaces) where
   no_identity : ¬ (CallsOther table identity)
   no_identity (n, s, e) = leaf s
     where

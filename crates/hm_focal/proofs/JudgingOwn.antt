@@ -1,15 +1,13 @@
 -- When a line of a lens file is bad.
 use Rattle.std.proofs.Common.{◌≡◌, ◌≢◌, inl, inr, ℕ, ◌+◌, ◌<◌, ◌≤◌, Bool, true, false, List, length, take, slice_get, count_by, Some, refl, sym, ap, ◌∙◌, subst, arith}
-use Rattle.std.specs.Prelude.{String, IsTrue, ◌↔◌}
+use Rattle.std.specs.Prelude.{IsTrue, ◌↔◌}
 use mathlib.Core.Bool.{true≢false}
 use Rattle.std.specs.Int.{from_bool}
-use Rattle.std.specs.BTreeMap.{BTreeMap}
-use Rattle.std.specs.declared.alloc.Global.{Global}
 use Rattle.std.proofs.lemmas.Option.{slice_get_within, get_or_from_slice_get}
 use Rattle.std.proofs.lemmas.List.Sums.{count_by_more_yes, count_by_more_no}
 use Rattle.hm_schema_lines.specs.NodeLines.{NodeLineValue}
 use Rattle.hm_schema_lines.specs.Entries.{EntryValue, skipped, unknown, says}
-use Rattle.hm_schema_lines.specs.Firsts.{AreFirsts}
+use Rattle.hm_schema_lines.specs.Firsts.{AreFirsts, FirstPlaces}
 use Rattle.hm_schema_lines.specs.BadLines.{IsBadNodeLine}
 use Rattle.hm_schema_lines.proofs.Laws.{bad_says}
 use Rattle.hm_focal.specs.OwnLines.{BodyValue, term, oversized, LensValue, OwnValue, nothing, header, format, lens, main, is_lens, body_in, lens_names}
@@ -18,7 +16,7 @@ use Rattle.hm_focal.specs.Judging.{IsBadBody, IsBadLens, too_many, not_first, no
 use Rattle.hm_focal.proofs.LensNames.{declared_again, twice_declared, undeclared, no_place}
 
 module _ (es : List EntryValue) (os : List OwnValue) (i : ℕ) (e : EntryValue) (o : OwnValue) (at_e : slice_get es i ≡ Some e)
-    (at_o : slice_get os i ≡ Some o) (table : BTreeMap (String Global) ℕ) (firsts : AreFirsts table (lens_names os)) (before : ℕ)
+    (at_o : slice_get os i ≡ Some o) (table : FirstPlaces) (firsts : AreFirsts table (lens_names os)) (before : ℕ)
     (is : before ≡ count_by is_lens (take i os)) where
   pub Unreadable : Type 0
   Unreadable = (e ≡ unknown) × (o ≡ nothing)

@@ -1,8 +1,6 @@
 -- The first place of the name of each lens, and lists that are built one line after another.
 use Rattle.std.proofs.Common.{◌≡◌, ℕ, zero, suc, ◌+◌, ◌<◌, ◌≤◌, cond, List, [], ◌∷◌, ◌++◌, length, take, drop, map, get_or, slice_get, count_by, Option, Some, None, refl, sym, ap, ◌∙◌, subst, arith}
-use Rattle.std.specs.Prelude.{String}
-use Rattle.std.specs.BTreeMap.{BTreeMap, get_by_text}
-use Rattle.std.specs.declared.alloc.Global.{Global}
+use Rattle.indexmap.specs.IndexMap.{get_by_text}
 use Rattle.std.specs.List.{cons_option}
 use Rattle.std.proofs.lemmas.List.{length_push, map-append, length-map, length-take, take_all, take-append-drop}
 use Rattle.std.proofs.lemmas.List.Elements.{filter_map-append}
@@ -12,7 +10,7 @@ use Rattle.std.proofs.lemmas.Option.{slice_get_read, slice_get-map}
 use Rattle.std.proofs.Math.Seq.{take-suc}
 use mathlib.Core.List.{append-nil}
 use Rattle.hm_tree.specs.Names.{Name}
-use Rattle.hm_schema_lines.specs.Firsts.{place_in, kept_first, AreFirsts}
+use Rattle.hm_schema_lines.specs.Firsts.{place_in, kept_first, AreFirsts, FirstPlaces}
 use Rattle.hm_schema_lines.proofs.Laws.{place_next, there, not_there, first_at, not_before}
 use Rattle.hm_focal.specs.declared.own.Own.{Own}
 use Rattle.hm_focal.specs.OwnLines.{LensValue, OwnValue, nothing, header, format, lens, main, own_value, own_values, is_lens, name_in, lens_names}
@@ -31,7 +29,7 @@ one_more f xs i x below is =
     suc_is n = omega arith
 
 -- a table and the place behind its names, after some lines
-pub record ArePlaced (os : List OwnValue) (table : BTreeMap (String Global) ℕ) (place : ℕ) : Type 0 where
+pub record ArePlaced (os : List OwnValue) (table : FirstPlaces) (place : ℕ) : Type 0 where
   pub firsts : AreFirsts table (lens_names os)
   pub behind : place ≡ length (lens_names os)
   pub bound : place ≤ length os
@@ -39,8 +37,8 @@ pub record ArePlaced (os : List OwnValue) (table : BTreeMap (String Global) ℕ)
 names_more : (os : List OwnValue) (o : OwnValue) → lens_names (os ++ o ∷ []) ≡ lens_names os ++ cons_option (name_in o) []
 names_more os o = filter_map-append name_in os (o ∷ [])
 
-module _ (os : List OwnValue) (o : OwnValue) (old : BTreeMap (String Global) ℕ) (p : ℕ) (h : ArePlaced os old p) where
-  pub placed_name : (name : Name) → name_in o ≡ Some name → (new : BTreeMap (String Global) ℕ)
+module _ (os : List OwnValue) (o : OwnValue) (old : FirstPlaces) (p : ℕ) (h : ArePlaced os old p) where
+  pub placed_name : (name : Name) → name_in o ≡ Some name → (new : FirstPlaces)
       → ((q : Name) → get_by_text new q ≡ kept_first (get_by_text old q) q name p) → ArePlaced (os ++ o ∷ []) new (p + 1)
   placed_name name is new kept =
       let names : lens_names (os ++ o ∷ []) ≡ lens_names os ++ name ∷ [] = names_more os o ∙ ap (λ z. lens_names os ++ cons_option z []) is in
@@ -68,7 +66,7 @@ module _ (os : List OwnValue) (o : OwnValue) (old : BTreeMap (String Global) ℕ
 pub at_most : (xs : List Own) (i : ℕ) → length (own_values (take i xs)) ≤ i
 at_most xs i = let m = length-map (take i xs) own_value in let t = length-take i xs in omega arith
 
-pub places_end : (xs : List Own) (i : ℕ) (table : BTreeMap (String Global) ℕ) (p : ℕ) → ArePlaced (own_values (take i xs)) table p
+pub places_end : (xs : List Own) (i : ℕ) (table : FirstPlaces) (p : ℕ) → ArePlaced (own_values (take i xs)) table p
     → length xs ≤ i → AreFirsts table (lens_names (own_values xs))
 places_end xs i table p h past = subst (λ z. AreFirsts table (lens_names (own_values z))) (take_all i xs past) h.firsts
 
@@ -94,7 +92,7 @@ cut [] i x e = let f : ⊥ = cc in absurd f
 cut (y ∷ xs) zero x e = let same : y ≡ x = cc in (λ j. same j ∷ xs)
 cut (y ∷ xs) (suc i) x e = cut xs i x e
 
-module _ (os : List OwnValue) (i : ℕ) (d : LensValue) (is : slice_get os i ≡ Some (lens d)) (table : BTreeMap (String Global) ℕ)
+module _ (os : List OwnValue) (i : ℕ) (d : LensValue) (is : slice_get os i ≡ Some (lens d)) (table : FirstPlaces)
     (h : AreFirsts table (lens_names os)) where
   front : List Name
   front = lens_names (take i os)
@@ -123,7 +121,7 @@ module _ (os : List OwnValue) (i : ℕ) (d : LensValue) (is : slice_get os i ≡
       go (Some p) e = there d.name front p e
       go None e = absurd (none (declared_first (λ c. not_there d.name front e c)))
 
-module _ (os : List OwnValue) (table : BTreeMap (String Global) ℕ) (h : AreFirsts table (lens_names os)) (n : Name) where
+module _ (os : List OwnValue) (table : FirstPlaces) (h : AreFirsts table (lens_names os)) (n : Name) where
   pub undeclared : get_by_text table n ≡ None → ¬ (DeclaresLens os n)
   undeclared e = not_there n (lens_names os) (sym (h n) ∙ e)
 

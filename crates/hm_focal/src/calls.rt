@@ -5,11 +5,11 @@ ghost use Rattle.hm_focal.specs.Judging.{CallsOther};
 
 use hm_schema_lines::first_place;
 use hm_terms::Term;
-use std::collections::BTreeMap;
+use indexmap::IndexMap;
 use std::string::String;
 
 /// Whether a term calls a lens that isn't declared, anywhere.
-pub fn calls_other(term: &Term, lenses: &BTreeMap<String, usize>) -> bool
+pub fn calls_other(term: &Term, lenses: &IndexMap<String, usize>) -> bool
     ensures { IsTrue result ↔ CallsOther lenses.now (lens_of term.now) }
 {
     match term {

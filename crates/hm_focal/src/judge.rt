@@ -16,13 +16,13 @@ use hm_schema_lines::{
     Before, Entry, Line, is_bad_line, is_first, is_node, read_section, section_at,
 };
 use hm_tree::Memory;
+use indexmap::IndexMap;
 use std::alloc::Global;
-use std::collections::BTreeMap;
 use std::string::String;
 
 const MOST_LENSES: usize = 200;
 
-fn is_bad_body(body: &Body, lenses: &BTreeMap<String, usize>) -> bool
+fn is_bad_body(body: &Body, lenses: &IndexMap<String, usize>) -> bool
     ensures { IsTrue result ↔ IsBadBody lenses.now (body_value body.now) }
 {
     match body {
@@ -40,7 +40,7 @@ fn is_bad_body(body: &Body, lenses: &BTreeMap<String, usize>) -> bool
 fn is_bad_lens(
     line: &Line<'_>,
     lens: &LensLine,
-    lenses: &BTreeMap<String, usize>,
+    lenses: &IndexMap<String, usize>,
     before: usize,
 ) -> bool
     requires { IsKnown line.now }
@@ -62,7 +62,7 @@ fn is_bad_lens(
 }
 
 // Whether a line of the file's own is bad.
-fn is_bad_own(line: &Line<'_>, own: &Own, lenses: &BTreeMap<String, usize>, before: usize) -> bool
+fn is_bad_own(line: &Line<'_>, own: &Own, lenses: &IndexMap<String, usize>, before: usize) -> bool
     requires { IsKnown line.now }
     ensures { IsTrue result ↔ IsBadOwn (lines_of line.now) lenses.now before (own_value own.now) }
 {
@@ -93,7 +93,7 @@ fn is_bad(
     alloc: Global,
     line: &Line<'_>,
     own: &[Own],
-    lenses: &BTreeMap<String, usize>,
+    lenses: &IndexMap<String, usize>,
     before: usize,
 ) -> Result<bool, Memory>
     requires known { IsKnown line.now }
@@ -123,7 +123,7 @@ pub fn first_bad(
     alloc: Global,
     entries: &[Entry],
     own: &[Own],
-    declared: &BTreeMap<String, usize>,
+    declared: &IndexMap<String, usize>,
 ) -> Result<Option<usize>, Memory>
     requires declared { AreFirsts declared.now (node_names (entry_values entries.now)) }
     requires long { length own.now ≡ length entries.now }

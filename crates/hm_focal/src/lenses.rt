@@ -6,8 +6,8 @@ ghost use Rattle.hm_focal.specs.OwnLines.{own_value, own_values, name_in, lens_n
 use crate::own::Own;
 use hm_schema_lines::keep_first;
 use hm_tree::{Memory, Name};
+use indexmap::IndexMap;
 use std::alloc::Global;
-use std::collections::BTreeMap;
 use std::string::String;
 
 // The name of the lens that a line declares.
@@ -21,10 +21,10 @@ fn lens_name(own: &Own) -> Option<&Name>
 }
 
 /// The places, among the lens lines, of the first line of each name.
-pub fn declared_lenses(alloc: Global, own: &[Own]) -> Result<BTreeMap<String, usize>, Memory>
+pub fn declared_lenses(alloc: Global, own: &[Own]) -> Result<IndexMap<String, usize>, Memory>
     ensures { IfOk result (λ declared. AreFirsts declared (lens_names (own_values own.now))) }
 {
-    let mut firsts = BTreeMap::new(alloc);
+    let mut firsts = IndexMap::new(alloc);
     let mut place = 0;
     for line in own {
         if let Some(name) = lens_name(line) {

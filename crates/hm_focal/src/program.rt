@@ -16,8 +16,9 @@ use crate::own::{Body, FormatLine, LensLine, Own};
 use hm_schema_lines::{Entry, begun, is_empty_named, node_of};
 use hm_terms::{Definition, Term};
 use hm_tree::{Memory, Name};
+use indexmap::IndexMap;
 use std::alloc::Global;
-use std::collections::{BTreeMap, VecDeque};
+use std::collections::VecDeque;
 use std::string::String;
 
 // Puts the names of the nodes that a line names behind others.
@@ -102,7 +103,7 @@ impl Parts {
 fn definition_of(
     lens: LensLine,
     entries: &[Entry],
-    declared: &BTreeMap<String, usize>,
+    declared: &IndexMap<String, usize>,
 ) -> Option<Definition>
     requires declared { AreFirsts declared.now (node_names (entry_values entries.now)) }
     requires source { IsNode (entry_values entries.now) (lens_value lens).source }
@@ -133,7 +134,7 @@ fn take_line(
     parts: &mut Parts,
     line: Own,
     entries: &[Entry],
-    declared: &BTreeMap<String, usize>,
+    declared: &IndexMap<String, usize>,
 ) -> Result<(), Memory>
     requires declared { AreFirsts declared.now (node_names (entry_values entries.now)) }
     requires nodes { AreNamed (entry_values entries.now) (own_value line) }
@@ -165,7 +166,7 @@ pub fn build_parts(
     alloc: Global,
     own: Vec<Own>,
     entries: &[Entry],
-    declared: &BTreeMap<String, usize>,
+    declared: &IndexMap<String, usize>,
 ) -> Result<Parts, Memory>
     requires sound { HasNoBad (IsBadLine (entry_values entries.now) (own_values own.items)) }
     requires declared { AreFirsts declared.now (node_names (entry_values entries.now)) }

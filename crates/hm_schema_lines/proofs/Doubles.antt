@@ -2,14 +2,12 @@
 use Rattle.std.proofs.Common.{◌≡◌, ℕ, ◌+◌, ◌<◌, ◌≤◌, true, false, List, [], ◌∷◌, ◌++◌, length, take, Option, Some, None, is_some, refl, sym, ap, ◌∙◌, slice_get, arith, add-one}
 use Rattle.std.proofs.lemmas.Grind.{common_steps}
 use Rattle.std.proofs.lemmas.Option.{gets, slice_get_within}
-use Rattle.std.specs.BTreeMap.{BTreeMap, get_by_text}
-use Rattle.std.specs.Prelude.{String}
-use Rattle.std.specs.declared.alloc.Global.{Global}
+use Rattle.indexmap.specs.IndexMap.{get_by_text}
 use Rattle.std.proofs.lemmas.List.{length-take}
 use Rattle.hm_tree.specs.Names.{Name}
 use Rattle.hm_tree.proofs.Kept.{take_more}
 use Rattle.hm_schema_lines.specs.BadLines.{HasDouble}
-use Rattle.hm_schema_lines.specs.Firsts.{place_in, kept_first, AreFirsts}
+use Rattle.hm_schema_lines.specs.Firsts.{place_in, kept_first, AreFirsts, FirstPlaces}
 use Rattle.hm_schema_lines.proofs.Places.{place_next, name_at, name_nowhere}
 
 -- ---- names that stand twice
@@ -18,11 +16,11 @@ taken : (ns : List Name) (n i : ℕ) → i < n → slice_get (take n ns) i ≡ s
 taken ns n i below = grind (arith, common_steps, gets)
 
 -- a table of the names at the front, of which none stands twice
-pub record AreSingle (names : List Name) (table : BTreeMap (String Global) ℕ) (n : ℕ) : Type 0 where
+pub record AreSingle (names : List Name) (table : FirstPlaces) (n : ℕ) : Type 0 where
   pub firsts : AreFirsts table (take n names)
   pub single : (i j : ℕ) (k : Name) → i < j → j < n → slice_get names i ≡ Some k → slice_get names j ≡ Some k → ⊥
 
-module _ (names : List Name) (table : BTreeMap (String Global) ℕ) (n : ℕ) (h : AreSingle names table n) where
+module _ (names : List Name) (table : FirstPlaces) (n : ℕ) (h : AreSingle names table n) where
   pub no_double : length names ≤ n → HasDouble names → ⊥
   no_double all d = h.single d.0 d.1 d.2 d.3 (let l = slice_get_within names d.1 d.2 d.5 in omega arith) d.4 d.5
 
@@ -41,7 +39,7 @@ module _ (names : List Name) (table : BTreeMap (String Global) ℕ) (n : ℕ) (h
             (p, n, name, below, sym (taken names n p below) ∙ there, is)
 
     -- one that has none joins those before it
-    pub single_next : is_some (get_by_text table name) ≡ false → (new : BTreeMap (String Global) ℕ)
+    pub single_next : is_some (get_by_text table name) ≡ false → (new : FirstPlaces)
         → ((q : Name) → get_by_text new q ≡ kept_first (get_by_text table q) q name n) → AreSingle names new (n + 1)
     single_next none new kept = record {
       firsts = λ q.

@@ -2,14 +2,12 @@
 use Rattle.std.proofs.Common.{◌≡◌, inl, inr, ℕ, suc, List, ◌∷◌, ◌++◌, length, drop, Option, Some, None, refl, sym, ap, subst, ◌∙◌, arith, slice_get, take, count_by}
 use Rattle.std.proofs.lemmas.Grind.{common_steps}
 use Rattle.std.proofs.lemmas.Option.{gets, slice_get_within}
-use Rattle.std.specs.Prelude.{unwrap_or, String}
-use Rattle.std.specs.BTreeMap.{BTreeMap}
-use Rattle.std.specs.declared.alloc.Global.{Global}
+use Rattle.std.specs.Prelude.{unwrap_or}
 use Rattle.hm_tree.specs.Names.{Name}
 use Rattle.hm_schema.specs.declared.node.NodeId.{NodeId}
 use Rattle.hm_schema_lines.specs.NodeLines.{NodeLineValue, node}
 use Rattle.hm_schema_lines.specs.Entries.{EntryValue, says}
-use Rattle.hm_schema_lines.specs.Firsts.{place_in, begun_name, node_names, AreFirsts}
+use Rattle.hm_schema_lines.specs.Firsts.{place_in, begun_name, node_names, AreFirsts, FirstPlaces}
 use Rattle.hm_schema_lines.specs.BadLines.{IsBadNodeLine, Says, IsNode, named, begins_node, nodes_before, names_no_node}
 use Rattle.hm_schema_lines.specs.Nodes.{IsPlaceOf, declared, empty}
 use Rattle.hm_schema_lines.specs.Building.{id_in}
@@ -45,7 +43,7 @@ no_line w es none i is = let a = made_at begun_name es w i (says (node w)) is re
 
 -- ---- the place of a name that is named
 
-module _ (es : List EntryValue) (table : BTreeMap (String Global) ℕ) (firsts : AreFirsts table (node_names es)) where
+module _ (es : List EntryValue) (table : FirstPlaces) (firsts : AreFirsts table (node_names es)) where
   place_of : (w : Name) → IsNode es w → IsPlaceOf es w (id_in table (count_by begins_node es) w).place
   place_of w is_node = subst (IsPlaceOf es w) (ap (λ o. unwrap_or o (count_by begins_node es)) (sym (firsts w)))
       (go (place_in w (node_names es)) refl is_node)

@@ -1,8 +1,6 @@
 -- The first place of each name.
 use Rattle.std.proofs.Common.{◌≡◌, ℕ, zero, suc, ◌+◌, ◌<◌, ◌≤◌, Bool, true, false, cond, List, [], ◌∷◌, ◌++◌, length, take, Option, Some, None, refl, sym, ap, ◌∙◌, subst, get_or, slice_get, arith}
-use Rattle.std.specs.BTreeMap.{BTreeMap, get_by_text}
-use Rattle.std.specs.Prelude.{String}
-use Rattle.std.specs.declared.alloc.Global.{Global}
+use Rattle.indexmap.specs.IndexMap.{get_by_text}
 use Rattle.std.specs.List.{Contains, cons_option}
 use Rattle.std.specs.Option.{option_map}
 use Rattle.std.specs.Str.{bytes_eq}
@@ -17,7 +15,7 @@ use Rattle.std.proofs.Math.Seq.{take-suc}
 use Rattle.hm_schema_lines.specs.declared.firsts.Naming.{Naming}
 use Rattle.hm_schema_lines.specs.declared.entry.Entry.{Entry}
 use Rattle.hm_schema_lines.specs.Entries.{EntryValue, entry_value, entry_values}
-use Rattle.hm_schema_lines.specs.Firsts.{place_in, name_by, names_by, kept_first, AreFirsts}
+use Rattle.hm_schema_lines.specs.Firsts.{place_in, name_by, names_by, kept_first, AreFirsts, FirstPlaces}
 
 -- one more name has the place behind the others, unless it has one
 pub place_next : (q n : Name) (ns : List Name) → place_in q (ns ++ n ∷ []) ≡ kept_first (place_in q ns) q n (length ns)
@@ -39,7 +37,7 @@ place_next q n (m ∷ ns) = go (bytes_eq q m) (place_in q ns) (place_next q n ns
         more false = refl
 
 -- a table and the place behind its names, after some lines
-pub record ArePlaced (n : Naming) (es : List EntryValue) (table : BTreeMap (String Global) ℕ) (place : ℕ) : Type 0 where
+pub record ArePlaced (n : Naming) (es : List EntryValue) (table : FirstPlaces) (place : ℕ) : Type 0 where
   pub firsts : AreFirsts table (names_by n es)
   pub behind : place ≡ length (names_by n es)
   pub bound : place ≤ length es
@@ -47,8 +45,8 @@ pub record ArePlaced (n : Naming) (es : List EntryValue) (table : BTreeMap (Stri
 names_more : (n : Naming) (es : List EntryValue) (e : EntryValue) → names_by n (es ++ e ∷ []) ≡ names_by n es ++ cons_option (name_by n e) []
 names_more n es e = filter_map-append (name_by n) es (e ∷ [])
 
-module _ (n : Naming) (es : List EntryValue) (e : EntryValue) (old : BTreeMap (String Global) ℕ) (p : ℕ) (h : ArePlaced n es old p) where
-  pub placed_name : (name : Name) → name_by n e ≡ Some name → (new : BTreeMap (String Global) ℕ)
+module _ (n : Naming) (es : List EntryValue) (e : EntryValue) (old : FirstPlaces) (p : ℕ) (h : ArePlaced n es old p) where
+  pub placed_name : (name : Name) → name_by n e ≡ Some name → (new : FirstPlaces)
       → ((q : Name) → get_by_text new q ≡ kept_first (get_by_text old q) q name p) → ArePlaced n (es ++ e ∷ []) new (p + 1)
   placed_name name is new kept =
       let names : names_by n (es ++ e ∷ []) ≡ names_by n es ++ name ∷ [] = names_more n es e ∙ ap (λ z. names_by n es ++ cons_option z []) is in
@@ -88,7 +86,7 @@ one_more es i e below is =
 pub at_most : (es : List Entry) (i : ℕ) → length (entry_values (take i es)) ≤ i
 at_most es i = let m = length-map (take i es) entry_value in let t = length-take i es in omega arith
 
-pub places_end : (n : Naming) (es : List Entry) (i : ℕ) (table : BTreeMap (String Global) ℕ) (p : ℕ)
+pub places_end : (n : Naming) (es : List Entry) (i : ℕ) (table : FirstPlaces) (p : ℕ)
     → ArePlaced n (entry_values (take i es)) table p → length es ≤ i → AreFirsts table (names_by n (entry_values es))
 places_end n es i table p h past = subst (λ z. AreFirsts table (names_by n (entry_values z))) (take_all i es past) h.firsts
 

@@ -1,17 +1,29 @@
 -- The lines of a node, and where they stand in the file.
-use Rattle.std.proofs.Common.{◌≡◌, ◌⊎◌, inl, inr, ◌≤◌, ◌<◌, None, refl, ℕ, zero, suc, ◌+◌, Bool, true, false, cond, List, [], ◌∷◌, ◌++◌, length, take, drop, reverse, Some, sym, ap, ◌∙◌, append_assoc, slice_get, get_or, arith}
+use Rattle.std.proofs.Common.{◌≡◌, ◌⊎◌, inl, inr, ◌≤◌, ◌<◌, None, refl, ℕ, zero, suc, ◌+◌, Bool, true, false, cond, List, [], ◌∷◌, ◌++◌, length, take, drop, reverse, Some, sym, ap, ◌∙◌, append_assoc, slice_get, get_or, count_by, arith}
 use Rattle.std.proofs.lemmas.List.{reverse-append, drop_all}
+use Rattle.std.proofs.lemmas.List.Sums.{length-filter, sum_by-cons}
 use mathlib.Core.List.{append-nil}
 use Rattle.std.proofs.lemmas.Option.{slice_get_within, slice_get_cases, get_or_from_slice_get}
 use Rattle.std.proofs.Math.Seq.{drop-cons}
 use Rattle.hm_tree.proofs.Kept.{take_more}
 use Rattle.hm_tree.specs.Names.{Name}
 use Rattle.hm_schema_lines.specs.NodeLines.{node}
-use Rattle.std.specs.Prelude.{not}
+use Rattle.std.specs.Prelude.{filter, not}
 use Rattle.std.specs.List.{prefix_len}
 use Rattle.hm_schema_lines.specs.declared.entry.Entry.{Entry}
 use Rattle.hm_schema_lines.specs.Entries.{EntryValue, says, entry_value, entry_values}
 use Rattle.hm_schema_lines.specs.BadLines.{Says, begins_node, up_to_node, since_node, earlier, around, behind}
+
+-- how many lines are of a kind
+count_values : (f : EntryValue → Bool) (es : List Entry) → count_by (λ e. f (entry_value e)) es ≡ count_by f (entry_values es)
+count_values f [] = refl
+count_values f (e ∷ es) =
+    sum_by-cons (λ z. cond (f (entry_value z)) 1 0) e es
+    ∙ ap (λ n. cond (f (entry_value e)) 1 0 + n) (count_values f es)
+    ∙ sym (sum_by-cons (λ z. cond (f z) 1 0) (entry_value e) (entry_values es))
+
+pub length_of_kind : (f : EntryValue → Bool) (es : List Entry) → length (filter (λ e. f (entry_value e)) es) ≡ count_by f (entry_values es)
+length_of_kind f es = length-filter (λ e. f (entry_value e)) es ∙ count_values f es
 
 since_next : (es : List EntryValue) (e : EntryValue) (b : Bool) → begins_node e ≡ b → since_node (es ++ e ∷ []) ≡ cond b [] (since_node es ++ e ∷ [])
 since_next es e true is = ap (λ z. reverse (up_to_node z)) (reverse-append es (e ∷ []))

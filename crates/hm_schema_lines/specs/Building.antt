@@ -1,8 +1,8 @@
 -- The nodes that are built from the lines of a file.
-use Rattle.std.specs.Prelude.{◌≡◌, ℕ, ◌<◌, List, [], length, slice_get, filter_map, IsPermutation, IsSortedByKey, String, Option, Some, None, unwrap_or}
+use Rattle.std.specs.Prelude.{◌≡◌, ℕ, ◌<◌, List, [], length, slice_get, filter_map, IsPermutation, IsSortedByKey, Option, Some, None, unwrap_or}
 use Rattle.std.specs.List.{Contains}
-use Rattle.std.specs.BTreeMap.{BTreeMap, get_by_text}
-use Rattle.std.specs.declared.alloc.Global.{Global}
+use Rattle.indexmap.specs.IndexMap.{get_by_text}
+use Rattle.hm_schema_lines.specs.Firsts.{FirstPlaces}
 use Rattle.hm_tree.specs.Names.{Name, name_cmp}
 use Rattle.hm_tree.specs.declared.class.Class.{Class}
 use Rattle.hm_schema.specs.declared.node.NodeId.{NodeId}
@@ -14,7 +14,7 @@ use Rattle.hm_schema_lines.specs.BadLines.{Says, SpeaksOfOthers, nodes_before, b
 use Rattle.hm_schema_lines.specs.Nodes.{as_shape}
 
 -- the node of a name: at its place in a table, else behind all of them
-abbrev pub id_in : BTreeMap (String Global) ℕ → ℕ → Name → NodeId
+abbrev pub id_in : FirstPlaces → ℕ → Name → NodeId
 id_in table count w = record { place = unwrap_or (get_by_text table w) count }
 
 -- ---- what a line adds to a node, where each name has its node

@@ -1,7 +1,9 @@
 -- The first place of each name.
 use Rattle.std.specs.Prelude.{String, ◌≡◌, ℕ, suc, cond, List, [], ◌∷◌, Option, Some, None}
-use Rattle.std.specs.BTreeMap.{BTreeMap, get_by_text}
+use Rattle.indexmap.specs.IndexMap.{IndexMap, get_by_text}
 use Rattle.std.specs.declared.alloc.Global.{Global}
+use Rattle.std.specs.declared.hash.BuildHasherDefault.{BuildHasherDefault}
+use Rattle.std.specs.declared.hash.FoldHasher.{FoldHasher}
 use Rattle.std.specs.List.{filter_map}
 use Rattle.std.specs.Option.{option_map, option_or}
 use Rattle.std.specs.Str.{bytes_eq}
@@ -44,6 +46,10 @@ edge_names es = names_by Edges es
 abbrev pub kept_first : Option ℕ → Name → Name → ℕ → Option ℕ
 kept_first old q name place = option_or old (cond (bytes_eq q name) (Some place) None)
 
+-- a table of places by name
+abbrev pub FirstPlaces : Type 0
+FirstPlaces = IndexMap (String Global) ℕ (BuildHasherDefault FoldHasher)
+
 -- a table holds the first place of each name of a list
-abbrev pub AreFirsts : BTreeMap (String Global) ℕ → List Name → Type 0
+abbrev pub AreFirsts : FirstPlaces → List Name → Type 0
 AreFirsts table names = (q : List ℕ) → get_by_text table q ≡ place_in q names

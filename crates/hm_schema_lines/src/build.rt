@@ -19,12 +19,12 @@ use crate::node_line::{NodeLine, ShapeLine};
 use crate::section::{begins_node, count_nodes, lines_of_node};
 use hm_schema::{Node, NodeId, Shape, copy_names};
 use hm_tree::{Class, Memory, Name, NameSet};
+use indexmap::IndexMap;
 use std::alloc::Global;
-use std::collections::BTreeMap;
 use std::string::String;
 
 // The node of a name: behind the declared ones for `Empty`.
-fn node_named(declared: &BTreeMap<String, usize>, count: usize, name: &Name) -> NodeId
+fn node_named(declared: &IndexMap<String, usize>, count: usize, name: &Name) -> NodeId
     ensures { result ≡ id_in declared.now count name.now }
 {
     match first_place(declared, name) {
@@ -57,7 +57,7 @@ fn shape_of(alloc: Global, entry: &Entry) -> Result<Option<Shape>, Memory>
 // The name that a line lists, and its node.
 fn child_of(
     entry: &Entry,
-    declared: &BTreeMap<String, usize>,
+    declared: &IndexMap<String, usize>,
     count: usize,
 ) -> Result<Option<(Name, NodeId)>, Memory>
     ensures { IfOk result (λ child. child ≡ child_of (id_in declared.now count) (entry_value entry.now)) }
@@ -74,7 +74,7 @@ fn child_of(
 // What a line says of unlisted names: their class, and their node.
 fn other_of(
     entry: &Entry,
-    declared: &BTreeMap<String, usize>,
+    declared: &IndexMap<String, usize>,
     count: usize,
 ) -> Option<(Class, NodeId)>
     ensures { MatchOption result ((c : Class) (w : Name) → entry_value entry.now ≢ says (other c w)) (λ o. (w : Name) × (entry_value entry.now ≡ says (other o.0 w)) × (o.1 ≡ id_in declared.now count w)) }
@@ -100,7 +100,7 @@ fn shapes_of(alloc: Global, lines: &[Entry]) -> Result<Vec<Shape>, Memory>
 fn children_of(
     alloc: Global,
     lines: &[Entry],
-    declared: &BTreeMap<String, usize>,
+    declared: &IndexMap<String, usize>,
     count: usize,
 ) -> Result<Vec<(Name, NodeId)>, Memory>
     ensures { IfOk result (λ children. children.items ≡ filter_map (child_of (id_in declared.now count)) (entry_values lines.now)) }
@@ -116,7 +116,7 @@ fn children_of(
 
 fn first_other(
     lines: &[Entry],
-    declared: &BTreeMap<String, usize>,
+    declared: &IndexMap<String, usize>,
     count: usize,
 ) -> Option<(Class, NodeId)>
     ensures { IsOtherOf (id_in declared.now count) (entry_values lines.now) result }
@@ -133,7 +133,7 @@ fn first_other(
 fn build_node(
     alloc: Global,
     lines: &[Entry],
-    declared: &BTreeMap<String, usize>,
+    declared: &IndexMap<String, usize>,
     count: usize,
 ) -> Result<Node, Memory>
     ensures { IfOk result (λ node. IsBuilt (id_in declared.now count) (entry_values lines.now) (node_value node)) }
@@ -153,7 +153,7 @@ fn build_node(
 fn build_declared(
     alloc: Global,
     entries: &[Entry],
-    declared: &BTreeMap<String, usize>,
+    declared: &IndexMap<String, usize>,
 ) -> Result<Vec<Node>, Memory>
     ensures { IfOk result (λ nodes. AreBuilt (id_in declared.now (count_by begins_node (entry_values entries.now))) (entry_values entries.now) (length entries.now) (map node_value nodes.items)) }
 {
@@ -237,7 +237,7 @@ pub fn is_empty_named(entries: &[Entry], own: &[Name]) -> bool
 pub fn build_nodes(
     alloc: Global,
     entries: &[Entry],
-    declared: &BTreeMap<String, usize>,
+    declared: &IndexMap<String, usize>,
     own: &[Name],
 ) -> Result<Vec<Node>, Memory>
     requires sound { HasNoBad (IsBadNodeLine (entry_values entries.now)) }
@@ -252,7 +252,7 @@ pub fn build_nodes(
 }
 
 /// The node that a line of the file's own names.
-pub fn node_of(entries: &[Entry], declared: &BTreeMap<String, usize>, name: &Name) -> NodeId
+pub fn node_of(entries: &[Entry], declared: &IndexMap<String, usize>, name: &Name) -> NodeId
     requires declared { AreFirsts declared.now (node_names (entry_values entries.now)) }
     requires node { IsNode (entry_values entries.now) name.now }
     ensures { IsPlaceOf (entry_values entries.now) name.now result.place }

@@ -1,14 +1,14 @@
 //! The first place of each name.
 ghost use Rattle.std.specs.Prelude.{◌≡◌, ◌↔◌, IsTrue, List, ℕ, Some, IfOk, OnOk, option_copied};
-ghost use Rattle.std.specs.BTreeMap.{get_by_text};
+ghost use Rattle.indexmap.specs.IndexMap.{get_by_text};
 ghost use Rattle.hm_schema_lines.specs.Entries.{entry_value, entry_values};
 ghost use Rattle.hm_schema_lines.specs.Firsts.{kept_first, begun_name, listed_name, name_by, names_by, AreFirsts};
 
 use crate::entry::Entry;
 use crate::node_line::NodeLine;
 use hm_tree::{Memory, Name};
+use indexmap::IndexMap;
 use std::alloc::Global;
-use std::collections::BTreeMap;
 use std::string::String;
 
 /// Lines that bring a name.
@@ -55,7 +55,7 @@ impl Naming {
 /// Keeps the place of a name, if it has none yet.
 pub fn keep_first(
     alloc: Global,
-    firsts: &mut BTreeMap<String, usize>,
+    firsts: &mut IndexMap<String, usize>,
     name: &Name,
     place: usize,
 ) -> Result<(), Memory>
@@ -69,7 +69,7 @@ pub fn keep_first(
 }
 
 /// The place of a name.
-pub fn first_place(firsts: &BTreeMap<String, usize>, name: &Name) -> Option<usize>
+pub fn first_place(firsts: &IndexMap<String, usize>, name: &Name) -> Option<usize>
     ensures { result ≡ get_by_text firsts.now name.now }
 {
     match firsts.get(name.text()) {
@@ -79,7 +79,7 @@ pub fn first_place(firsts: &BTreeMap<String, usize>, name: &Name) -> Option<usiz
 }
 
 /// Whether a place is the first of a name.
-pub fn is_first(firsts: &BTreeMap<String, usize>, name: &Name, place: usize) -> bool
+pub fn is_first(firsts: &IndexMap<String, usize>, name: &Name, place: usize) -> bool
     ensures { IsTrue result ↔ (get_by_text firsts.now name.now ≡ Some place) }
 {
     first_place(firsts, name) == Some(place)
@@ -90,10 +90,10 @@ pub fn first_places(
     alloc: Global,
     naming: Naming,
     entries: &[Entry],
-) -> Result<BTreeMap<String, usize>, Memory>
+) -> Result<IndexMap<String, usize>, Memory>
     ensures { IfOk result (λ firsts. AreFirsts firsts (names_by naming (entry_values entries.now))) }
 {
-    let mut firsts = BTreeMap::new(alloc);
+    let mut firsts = IndexMap::new(alloc);
     let mut place = 0;
     for entry in entries {
         if let Some(name) = naming.name(entry) {

@@ -15,8 +15,8 @@ use crate::node_line::{NodeLine, ShapeLine};
 use crate::section::Section;
 use hm_schema::{append_copies, copy_names};
 use hm_tree::{Class, Memory, Name};
+use indexmap::IndexMap;
 use std::alloc::Global;
-use std::collections::BTreeMap;
 use std::string::String;
 
 const MOST_NODES: usize = 1000;
@@ -31,7 +31,7 @@ pub fn is_empty_node(name: &Name) -> bool
 }
 
 /// The places, among the node lines, of the first line of each declared name.
-pub fn declared_nodes(alloc: Global, entries: &[Entry]) -> Result<BTreeMap<String, usize>, Memory>
+pub fn declared_nodes(alloc: Global, entries: &[Entry]) -> Result<IndexMap<String, usize>, Memory>
     ensures { IfOk result (λ declared. AreFirsts declared (node_names (entry_values entries.now))) }
 {
     first_places(alloc, Naming::Nodes, entries)
@@ -41,7 +41,7 @@ pub fn declared_nodes(alloc: Global, entries: &[Entry]) -> Result<BTreeMap<Strin
 pub fn has_double(alloc: Global, names: &[Name]) -> Result<bool, Memory>
     ensures { IfOk result (λ found. IsTrue found ↔ HasDouble names.now) }
 {
-    let mut firsts = BTreeMap::new(alloc);
+    let mut firsts = IndexMap::new(alloc);
     for place in 0..names.len() {
         if first_place(&firsts, &names[place]).is_some() {
             return Ok(true);
@@ -83,7 +83,7 @@ pub struct Line<'a> {
     pub place: usize,
     pub before: Before,
     /// The places of the nodes' names.
-    pub declared: &'a BTreeMap<String, usize>,
+    pub declared: &'a IndexMap<String, usize>,
     /// What its node holds; where it begins one, that one.
     pub section: &'a Section,
 }

@@ -9,15 +9,15 @@ use crate::entry::Entry;
 use crate::firsts::{Naming, first_places};
 use crate::node_line::NodeLine;
 use hm_tree::Memory;
+use indexmap::IndexMap;
 use std::alloc::Global;
-use std::collections::BTreeMap;
 use std::string::String;
 
 /// What the lines of a node hold.
 #[derive(Drop)]
 pub struct Section {
     /// The first place of each name among the listed ones.
-    pub listed: BTreeMap<String, usize>,
+    pub listed: IndexMap<String, usize>,
     /// How many lines speak of unlisted names.
     pub others: usize,
     pub shapes: usize,

@@ -13,8 +13,8 @@ use hm_schema_lines::{
     Before, Entry, Line, is_bad_line, is_counted, is_node, read_section, section_at,
 };
 use hm_tree::{Memory, Name};
+use indexmap::IndexMap;
 use std::alloc::Global;
-use std::collections::BTreeMap;
 use std::string::String;
 
 // Whether the first line that isn't skipped is bad.
@@ -68,7 +68,7 @@ pub fn first_bad(
     alloc: Global,
     bytes: &[u8],
     entries: &[Entry],
-    declared: &BTreeMap<String, usize>,
+    declared: &IndexMap<String, usize>,
 ) -> Result<Option<usize>, Memory>
     requires read { AreEntries bytes.now (entry_values entries.now) }
     requires declared { AreFirsts declared.now (node_names (entry_values entries.now)) }

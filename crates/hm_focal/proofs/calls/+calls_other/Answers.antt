@@ -1,9 +1,8 @@
-use Rattle.std.proofs.Common.{Bool, ℕ, List, refl, sym, ap, ◌∙◌, subst, length}
-use Rattle.std.specs.Prelude.{String, IsTrue, ◌↔◌, ◌||◌}
-use Rattle.std.specs.BTreeMap.{BTreeMap}
-use Rattle.std.specs.declared.alloc.Global.{Global}
+use Rattle.std.proofs.Common.{Bool, List, refl, sym, ap, ◌∙◌, subst, length}
+use Rattle.std.specs.Prelude.{IsTrue, ◌↔◌, ◌||◌}
 use Rattle.std.proofs.lemmas.Option.{slice_get_read}
 use mathlib.Core.Bool.{true≢false}
+use Rattle.hm_schema_lines.specs.Firsts.{FirstPlaces}
 use Rattle.hm_tree.specs.Names.{Name}
 use Rattle.hm_terms.specs.declared.term.Term.{Term}
 use Rattle.hm_terms.specs.Lenses.{among}
@@ -14,7 +13,7 @@ use Rattle.hm_focal.proofs.Called.{none_first, none_next, none_calls, one_calls,
 use Rattle.hm_focal.proofs.calls.+calls_other.Goals as goal
 
 -- what is told of a term
-abbrev IsTold : BTreeMap (String Global) ℕ → Bool → Term → Type 0
+abbrev IsTold : FirstPlaces → Bool → Term → Type 0
 IsTold table b t = IsTrue b ↔ CallsOther table (lens_of t)
 
 pub loop-term-init : goal.loop-term-init

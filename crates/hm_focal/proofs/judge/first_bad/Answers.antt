@@ -1,7 +1,9 @@
-use Rattle.std.proofs.Common.{◌+◌, add-one, refl, sym, ap, subst, ◌∙◌, arith, true≢false, take, count_by}
+use Rattle.std.proofs.Common.{◌+◌, ◌<◌, ◌≤◌, ◌^◌, rules, add-one, refl, sym, ap, subst, ◌∙◌, arith, true≢false, take, count_by}
 use borrow.Author.Count.{below_more}
 use Rattle.std.specs.Int.{from_bool}
-use Rattle.std.proofs.lemmas.List.{length-map}
+use Rattle.std.proofs.lemmas.Grind.{common_steps}
+use Rattle.std.proofs.lemmas.List.{length-map, length-take}
+use Rattle.std.proofs.lemmas.List.Sums.{count_by-le-length}
 use Rattle.hm_schema_lines.specs.Entries.{entry_value, entry_values}
 use Rattle.hm_schema_lines.specs.BadLines.{around}
 use Rattle.hm_schema_lines.specs.Sections.{IsSection}
@@ -18,6 +20,16 @@ loop-place-init c = record {
   lenses = refl;
   good = λ j below bad. omega arith;
 }
+
+pub overflow_add-lenses_before : goal.overflow_add-lenses_before
+overflow_add-lenses_before c =
+    let lenses = c.loop-place.invariant.lenses in
+    let counted = count_by-le-length is_lens (take c.loop-place.place (own_values c.args.own.now)) in
+    let taken = length-take c.loop-place.place (own_values c.args.own.now) in
+    let few : c.loop-place.lenses_before ≤ c.loop-place.place = omega arith in
+    let one : c.from-lenses_before.result ≤ 1 = grind (arith, common_steps) in
+    let below : c.loop-place.place < 2 ^ 63 = search rules in
+    search rules
 
 pub returns-then-branch : goal.returns-then-branch
 returns-then-branch c = record { bad = c.in_ok-is_bad.ensures.0 c.if-branch.true; first = c.loop-place.invariant.good }

@@ -1,7 +1,8 @@
-use Rattle.std.proofs.Common.{List, map, sym, ap, subst, ◌∙◌, arith}
+use Rattle.std.proofs.Common.{◌<◌, ◌^◌, List, length, map, sym, ap, subst, ◌∙◌, arith, rules}
+use Rattle.std.proofs.lemmas.List.{length-map}
 use Rattle.std.proofs.lemmas.Option.{MatchOption-at_some, MatchOption-at_none}
 use Rattle.hm_schema_lines.specs.declared.entry.Entry.{Entry}
-use Rattle.hm_schema_lines.specs.Entries.{entry_values}
+use Rattle.hm_schema_lines.specs.Entries.{entry_value, entry_values}
 use Rattle.hm_schema_lines.specs.BadLines.{IsBadNodeLine}
 use Rattle.hm_schema_lines.specs.FirstBad.{HasNoBad}
 use Rattle.hm_schema_lines.specs.Nodes.{AreTypeNames, AreNodesOf}
@@ -11,9 +12,23 @@ use Rattle.hm_focal.specs.declared.own.Own.{Own}
 use Rattle.hm_focal.specs.OwnLines.{own_values, named_nodes}
 use Rattle.hm_focal.specs.Building.{AreBuilt}
 use Rattle.hm_focal.specs.BadLines.{IsBadLine, of_node}
+use Rattle.hm_focal.proofs.JudgingOwn.{bad_within}
 use Rattle.hm_focal.proofs.Files.{first_told, sound_of, missing_line, lens_file}
 use Rattle.hm_focal.proofs.Formed.{file_formed}
 use Rattle.hm_focal.proofs.read.read_lens.Goals as goal
+
+pub overflow_add-result : goal.overflow_add-result
+overflow_add-result c =
+    let first = MatchOption-at_some _ _ _ c.in-Some.is c.in_ok-place.ensures in
+    let lines = length-map c.deref-2.result.now entry_value in
+    let long = ap (λ (z : List Own). length (own_values z)) c.deref-3.ensures.value
+    ∙ c.in_ok-lines.ensures.own
+    ∙ sym c.in_ok-lines.ensures.entries
+    ∙ sym (ap (λ (z : List Entry). length (entry_values z)) c.deref-2.ensures.value) in
+    let within = bad_within _ _ c.in-Some.place long first.bad in
+    let below : c.in-Some.place < length c.deref-2.result.now = omega arith in
+    let few : length c.deref-2.result.now < 2 ^ 63 = search rules in
+    search rules
 
 pub returns-in-Some-clause-read : goal.returns-in-Some-clause-read
 returns-in-Some-clause-read c = λ _.

@@ -1,8 +1,7 @@
 use Rattle.std.proofs.Common.{ℕ, List, [], ◌∷◌, ◌++◌, ◌<◌, length, take, refl, sym, ap, ◌∙◌, subst, arith, rules}
 use Rattle.std.proofs.lemmas.Map.Text.{text_keys}
-use Rattle.std.specs.Prelude.{String, option_copied}
-use Rattle.std.specs.BTreeMap.{BTreeMap}
-use Rattle.std.specs.declared.alloc.Global.{Global}
+use Rattle.std.specs.Prelude.{option_copied}
+use Rattle.hm_schema_lines.specs.Firsts.{FirstPlaces}
 use Rattle.hm_schema_lines.specs.Entries.{EntryValue, entry_value, entry_values}
 use Rattle.hm_schema_lines.proofs.Places.{ArePlaced, placed_name, placed_none, one_more, at_most, places_end}
 use Rattle.hm_schema_lines.proofs.firsts.first_places.Goals.{in-Some+in_ok-keep_first, in_default}
@@ -20,7 +19,7 @@ overflow_add-place c =
 
 pub loop-entry-preserved : goal.loop-entry-preserved
 loop-entry-preserved c =
-    subst (λ (z : List EntryValue × BTreeMap (String Global) ℕ × ℕ). ArePlaced c.args.naming z.0 z.1 z.2)
+    subst (λ (z : List EntryValue × FirstPlaces × ℕ). ArePlaced c.args.naming z.0 z.1 z.2)
     (λ i. (
       sym (one_more c.args.entries.now c.loop-entry.entry-index c.entry-item.result c.loop-entry-test.true c.entry-item.is) i,
       c.match-name.firsts,
@@ -28,14 +27,14 @@ loop-entry-preserved c =
     ))
     (elim c.match-name.branch [
       | in-Some+in_ok-keep_first w ↦
-          subst (λ (z : BTreeMap (String Global) ℕ × ℕ). ArePlaced c.args.naming (before ++ read ∷ []) z.0 z.1)
+          subst (λ (z : FirstPlaces × ℕ). ArePlaced c.args.naming (before ++ read ∷ []) z.0 z.1)
           (λ i. (sym w.firsts-is i, sym w.place-is i))
           (placed_name c.args.naming before read c.loop-entry.firsts c.loop-entry.place c.loop-entry.invariant w.in-Some.name.now
           (sym c.name.ensures ∙ ap option_copied w.in-Some.is)
           w.keep_first.new.firsts
           w.in_ok-keep_first.ensures)
       | in_default w ↦
-          subst (λ (z : BTreeMap (String Global) ℕ × ℕ). ArePlaced c.args.naming (before ++ read ∷ []) z.0 z.1)
+          subst (λ (z : FirstPlaces × ℕ). ArePlaced c.args.naming (before ++ read ∷ []) z.0 z.1)
           (λ i. (sym w.firsts-is i, sym w.place-is i))
           (placed_none c.args.naming before read c.loop-entry.firsts c.loop-entry.place c.loop-entry.invariant
           (sym c.name.ensures ∙ ap option_copied w.in_default.is))

@@ -1,7 +1,7 @@
 use Rattle.std.proofs.Common.{◌≡◌, refl, sym, ap, ◌∙◌, arith}
 use Rattle.std.proofs.lemmas.Map.Text.{text_keys}
 use Rattle.std.proofs.lemmas.Option.{slice_get_read}
-use Rattle.std.specs.BTreeMap.{get_by_text}
+use Rattle.indexmap.specs.IndexMap.{get_by_text}
 use Rattle.std.specs.Prelude.{is_some}
 use Rattle.hm_schema_lines.proofs.Doubles.{no_double, double, single_next}
 use Rattle.hm_schema_lines.proofs.judge.has_double.Goals as goal

@@ -1,11 +1,22 @@
-use Rattle.std.proofs.Common.{List, sym, subst, ◌∙◌, arith}
+use Rattle.std.proofs.Common.{◌<◌, ◌^◌, List, length, sym, subst, ◌∙◌, arith, rules}
+use Rattle.std.proofs.lemmas.List.{length-map}
 use Rattle.std.proofs.lemmas.Option.{MatchOption-at_some, MatchOption-at_none}
 use Rattle.hm_schema_lines.specs.declared.entry.Entry.{Entry}
-use Rattle.hm_schema_lines.specs.Entries.{entry_values}
+use Rattle.hm_schema_lines.specs.Entries.{entry_value, entry_values}
 use Rattle.hm_schema_lines.specs.FirstBad.{at}
 use Rattle.hm_schema_text.specs.BadLines.{IsBadLine, of_node}
+use Rattle.hm_schema_text.proofs.Judging.{bad_within}
 use Rattle.hm_schema_text.proofs.Files.{missing_line, schema_file, file_formed}
 use Rattle.hm_schema_text.proofs.read.read_schema.Goals as goal
+
+pub overflow_add-result : goal.overflow_add-result
+overflow_add-result c =
+    let first = MatchOption-at_some _ _ _ c.in-Some.is c.in_ok-place.ensures in
+    let within = bad_within _ _ c.in-Some.place first.bad in
+    let same = length-map c.deref-2.result.now entry_value in
+    let below : c.in-Some.place < length c.deref-2.result.now = omega arith in
+    let few : length c.deref-2.result.now < 2 ^ 63 = search rules in
+    search rules
 
 pub returns-in-Some : goal.returns-in-Some
 returns-in-Some c = λ _. record {
