@@ -3,6 +3,7 @@ use Rattle.std.proofs.Common.{◌≡◌, [], ◌∷◌, Some, None, refl, sym, a
 use mathlib.Core.Bool.{true≢false}
 use Rattle.std.specs.FinSet.{contains, from_list, contains-from_list}
 use Rattle.std.proofs.lemmas.List.Elements.{All-head}
+use Rattle.std.proofs.lemmas.Option.{same_Some}
 use Rattle.hm_tree.specs.Names.{Name}
 use Rattle.hm_tree.proofs.NameSets.{tied_self}
 use Rattle.hm_tree.proofs.Sorted.{name_total}
@@ -13,8 +14,8 @@ use Rattle.hm_schema.specs.OneName.{alone}
 use Rattle.hm_schema.proofs.OneName.{in_alone}
 use Rattle.hm_schema_lists.specs.Plain.{exact_shape, edge_node}
 use Rattle.hm_schema.proofs.Elements.{all_one}
-use Rattle.hm_types_forms.specs.Forms.{Form, formed}
-use Rattle.hm_types_rules.specs.Typing.{Types, Goes, goes_sequence, goes_hoist, goes_plunge, IsAlone}
+use Rattle.hm_types_forms.specs.Forms.{Form, Label, label_of, formed}
+use Rattle.hm_types_rules.specs.Typing.{Types, Goes, goes_sequence, goes_hoist, goes_plunge, IsAlone, IsPlain}
 use Rattle.hm_types_rules.specs.Faults.{Faults, fault_hoist, at}
 use Rattle.hm_types_forms.proofs.MemberNodes.{node_formed}
 use Rattle.hm_types_rules.proofs.Determined.{node_one}
@@ -49,3 +50,15 @@ module _ (T : Types) (m : Name) (u : Form) where
   unfolding optional_node
   hoist_of_an_optional_name = fault_hoist (λ w is one. isn't_alone
       (subst (IsAlone m) (node_one (formed optional_node) w optional_node is (node_formed optional_node tt)) one))
+
+  -- a node with twins, which is no source of a lens on its children
+  twin_node : Name → NodeOver Form
+  twin_node n = record { shapes = []; children = []; other = None; twins = (m, n) ∷ [] }
+
+  isn't_plain : (n : Name) (a : Label) → IsPlain (formed (twin_node n)) a → ⊥
+  unfolding twin_node
+  isn't_plain n a h =
+      let same : label_of (twin_node n) ≡ a = same_Some (label_of (twin_node n)) a h.is in
+      let none : (m, n) ∷ [] ≡ [] = ap (λ (l : Label). l.twins) same ∙ h.plain in
+      let bad : ⊥ = cc in
+      bad
