@@ -9,16 +9,20 @@ use Rattle.hm_tree.proofs.NameSets.{tied_self}
 use Rattle.hm_tree.proofs.Sorted.{name_total}
 use Rattle.hm_schema.specs.declared.node.Shape.{Shape}
 use Rattle.hm_schema.specs.Values.{NodeOver}
-use Rattle.hm_terms.specs.Lenses.{sequence, hoist, plunge}
+use Rattle.hm_terms.specs.Lenses.{Lens, DefinitionValue, identity, sequence, hoist, plunge}
+use Rattle.hm_terms.specs.Programs.{ProgramValue}
 use Rattle.hm_schema.specs.OneName.{alone}
 use Rattle.hm_schema.proofs.OneName.{in_alone}
 use Rattle.hm_schema_lists.specs.Plain.{exact_shape, edge_node}
 use Rattle.hm_schema.proofs.Elements.{all_one}
-use Rattle.hm_types_forms.specs.Forms.{Form, Label, label_of, formed}
-use Rattle.hm_types_rules.specs.Typing.{Types, Goes, goes_sequence, goes_hoist, goes_plunge, IsAlone, IsPlain}
+use Rattle.hm_types_forms.specs.Forms.{Form, Label, label_of, form, formed}
+use Rattle.hm_types_forms.specs.SameForms.{IsSame}
+use Rattle.hm_types_rules.specs.Typing.{Classes, Types, Goes, goes_identity, goes_sequence, goes_hoist, goes_plunge, IsAlone, IsPlain}
 use Rattle.hm_types_rules.specs.Faults.{Faults, fault_hoist, at}
+use Rattle.hm_types_rules.specs.Programs.{IsTypedDefinition, types_of}
 use Rattle.hm_types_forms.proofs.MemberNodes.{node_formed}
 use Rattle.hm_types_rules.proofs.Determined.{node_one}
+use Rattle.hm_types_rules.proofs.Once.{goes_once}
 
 module _ (T : Types) (m : Name) (u : Form) where
   -- `hoist(m)` where m alone is required
@@ -62,3 +66,12 @@ module _ (T : Types) (m : Name) (u : Form) where
       let none : (m, n) ∷ [] ≡ [] = ap (λ (l : Label). l.twins) same ∙ h.plain in
       let bad : ⊥ = cc in
       bad
+
+-- a definition whose body is `id`
+module _ (texts : Classes) (p : ProgramValue) (d : DefinitionValue) (is : d.body ≡ identity) where
+  -- it is typed only where the view that it declares is the same as its source
+  the_declared_view : IsTypedDefinition texts p d → IsSame (form p.options.types d.source) (form p.options.types d.view)
+  the_declared_view h =
+      let source : Form = form p.options.types d.source in
+      let own : Goes (types_of texts p) d.body source source = subst (λ (l : Lens). Goes (types_of texts p) l source source) (sym is) goes_identity in
+      subst (λ (v : Form). IsSame v (form p.options.types d.view)) (goes_once (types_of texts p) h.goes own) h.same
