@@ -41,14 +41,14 @@ tree_of_lists ls = node (map list_edge ls)
 
 -- ---- depth
 
--- the depth of the list of these items: two edges lead from it, to its first item and to the list of the others
-abbrev pub list_depth : List Tree → ℕ
-list_depth [] = 0
-list_depth (x ∷ xs) = max (depth x) (list_depth xs) + 1
+-- the depth of the list of items that are so deep: two edges lead from it, to its first item and to the list of the others
+abbrev pub list_depth : {X : Type 0} → (X → ℕ) → List X → ℕ
+list_depth deep [] = 0
+list_depth deep (x ∷ xs) = max (deep x) (list_depth deep xs) + 1
 
 -- the depth of a tree that has these lists below its names
-abbrev pub lists_depth : List (Name × List Tree) → ℕ
-lists_depth ls = most (λ l. list_depth l.1 + 1) ls
+abbrev pub lists_depth : {X : Type 0} → (X → ℕ) → List (Name × List X) → ℕ
+lists_depth deep ls = most (λ l. list_depth deep l.1 + 1) ls
 
 -- the tree of these items is deeper than allowed, and so deep
 pub record IsTooDeep (items : List (Name × Tree)) (deepest found : ℕ) : Type 0 where

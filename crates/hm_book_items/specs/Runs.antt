@@ -7,21 +7,21 @@ use Rattle.hm_tree_parts.specs.Lists.{HasItems}
 use Rattle.hm_book_items.specs.ItemTrees.{AreLists, list_depth}
 
 -- the list of a key that stands first; the empty one where another key stands there
-abbrev pub list_first : Name → List (Name × List Tree) → List Tree
+abbrev pub list_first : {X : Type 0} → Name → List (Name × List X) → List X
 list_first k [] = []
 list_first k (l ∷ ls) = cond (eq_by_cmp name_cmp k l.0) l.1 []
 
 -- the lists without it
-abbrev pub lists_behind : Name → List (Name × List Tree) → List (Name × List Tree)
+abbrev pub lists_behind : {X : Type 0} → Name → List (Name × List X) → List (Name × List X)
 lists_behind k [] = []
 lists_behind k (l ∷ ls) = cond (eq_by_cmp name_cmp k l.0) ls (l ∷ ls)
 
 -- an item before lists: where its key stands first, it is an item more of that list
-abbrev pub with_item : Name × Tree → List (Name × List Tree) → List (Name × List Tree)
+abbrev pub with_item : {X : Type 0} → Name × X → List (Name × List X) → List (Name × List X)
 with_item x ls = (x.0, x.1 ∷ list_first x.0 ls) ∷ lists_behind x.0 ls
 
 -- each run of items with one key, as a list
-abbrev pub runs : List (Name × Tree) → List (Name × List Tree)
+abbrev pub runs : {X : Type 0} → List (Name × X) → List (Name × List X)
 runs [] = []
 runs (x ∷ xs) = with_item x (runs xs)
 
@@ -31,6 +31,6 @@ IsListTaken k old new list =
     (ls : List (Name × List Tree)) → AreLists old ls → HasItems list (list_first k ls) × AreLists new (lists_behind k ls)
 
 -- the depth of the list that stands first
-abbrev pub first_depth : List (Name × List Tree) → ℕ
-first_depth [] = 0
-first_depth (l ∷ ls) = list_depth l.1
+abbrev pub first_depth : {X : Type 0} → (X → ℕ) → List (Name × List X) → ℕ
+first_depth deep [] = 0
+first_depth deep (l ∷ ls) = list_depth deep l.1

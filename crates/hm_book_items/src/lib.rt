@@ -32,6 +32,7 @@ mod new_trees;
 mod planned;
 mod wanted;
 
+pub use depths::{Deep, depth_of_runs};
 pub use fault::ItemTreeFault;
 pub use gathering::item_tree;
 pub use listing::item_lists;
