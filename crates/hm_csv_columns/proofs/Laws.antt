@@ -27,7 +27,7 @@ got columns card place (field ∷ fields) (suc j) lt =
     let e : (place + 1) + j ≡ place + suc j = omega arith in
     got columns card (place + 1) fields j (omega (arith, lt)) ∙ ap (λ i. field_in (column_at columns i) card (get_or fields j [])) e
 
-got_here : (columns : List Column) (card : Tree) (row : Fields) (j : ℕ) → j < length row
+pub got_here : (columns : List Column) (card : Tree) (row : Fields) (j : ℕ) → j < length row
     → get_or (rewritten columns card row) j [] ≡ field_in (column_at columns j) card (get_or row j [])
 got_here columns card row j lt = let e : 0 + j ≡ j = omega arith in got columns card 0 row j lt ∙ ap (λ i. field_in (column_at columns i) card (get_or row j [])) e
 

@@ -9,6 +9,8 @@
 //! Proved: `card_of` gives the card that a record shows through columns of one text or of many, and `rewrite` the
 //! record that is to show another card: fields that aren't shown, and those whose texts stay, are left alone
 //! (`specs/Records`). What is made shows the card, and a record which is to show its own card stays (`proofs/Laws`).
+//! Said of the two records alone (`specs/Kept`): fields that are hidden or show the same texts are equal, and in
+//! another field of many texts the pieces that stay are there, in their order.
 #![tactic(auto)]
 
 mod card;

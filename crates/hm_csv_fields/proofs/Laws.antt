@@ -1,7 +1,7 @@
 -- What is written is read back: the pieces, and the texts of a field that is made anew.
 pub use Rattle.hm_csv_fields.proofs.Utf8Pieces.{pieces_utf8, written_utf8}
 pub use Rattle.hm_csv_fields.proofs.Led.{one_piece}
-use Rattle.std.proofs.Common.{◌≡◌, ℕ, suc, Bool, true, false, not, cond, ◌&&◌, ◌||◌, IsTrue, List, [], ◌∷◌, ◌++◌, get_or, map, filter, All, refl, sym, ap, ◌∙◌, arith}
+use Rattle.std.proofs.Common.{◌≡◌, ◌⊎◌, inl, inr, ℕ, suc, Bool, true, false, not, cond, ◌&&◌, ◌||◌, IsTrue, List, [], ◌∷◌, ◌++◌, get_or, map, filter, All, refl, sym, ap, ◌∙◌, arith}
 use Rattle.std.specs.Bool.{◌==◌}
 use Rattle.std.specs.List.{list_any}
 use Rattle.std.specs.Ordering.{eq_by_cmp}
@@ -46,6 +46,15 @@ written_read p [] =
 written_read p (q ∷ ps) =
     spelled_read p (stroke ∷ written (q ∷ ps))
     ∙ (λ i. append-nil p i ∷ written_read q ps i)
+
+-- pieces that are written are read again, but for one empty piece alone, which is written as none
+pub written_pieces : (ps : List (List ℕ)) → (pieces (written ps) ≡ ps) ⊎ ((ps ≡ [] ∷ []) × (written ps ≡ []))
+written_pieces [] = inl refl
+written_pieces (p ∷ ps) = go (written (p ∷ ps)) (written_read p ps)
+  where
+    go : (bytes : List ℕ) → pieces_behind false bytes ≡ p ∷ ps → (pieces bytes ≡ p ∷ ps) ⊎ ((p ∷ ps ≡ [] ∷ []) × (bytes ≡ []))
+    go [] e = inr (sym e, refl)
+    go (b ∷ bytes) e = inl e
 
 -- what is written of pieces shows what they show; one empty piece alone is written as none
 pub written_shown : (ps : List (List ℕ)) → shown (pieces (written ps)) ≡ shown ps

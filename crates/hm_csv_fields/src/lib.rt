@@ -13,8 +13,8 @@
 //!
 //! Proved: `pieces` cuts a field of many texts, and `texts` gives the set of the texts that it shows (`specs/Pieces`,
 //! `specs/Texts`). `rewrite` makes of a field one for another set, which that shows if its texts are clean and not of
-//! spaces alone. `write_pieces` writes pieces with strokes between them; what is written of pieces shows what they show
-//! (`proofs/Laws`).
+//! spaces alone. `write_pieces` writes pieces with strokes between them; what is written of pieces is cut into the same
+//! ones, but for one empty piece alone, and shows what they show (`proofs/Laws`).
 #![tactic(auto)]
 
 mod cutting;

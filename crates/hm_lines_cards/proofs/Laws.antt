@@ -1,10 +1,11 @@
 -- What is known of lines and cards. Lines show a card, and what is rewritten for a card shows it; lines that are to show their
--- own card stay; lines of no property stay, in their order, and so does the key that they show; and what is rewritten are
--- content lines of UTF-8 again, which can be folded and read.
+-- own card stay; of lines that are rewritten stays what has to; lines of no property stay, in their order, and so does the key
+-- that they show; and what is rewritten are content lines of UTF-8 again, which can be folded and read.
 pub use Rattle.hm_lines_cards.proofs.PropertyNames.{property_found}
 pub use Rattle.hm_lines_cards.proofs.OwnCards.{shown_card, own_texts}
 pub use Rattle.hm_lines_cards.proofs.ShownCards.{rewritten_shows, rewritten_few}
 pub use Rattle.hm_lines_cards.proofs.StayingLines.{rewritten_stays}
+pub use Rattle.hm_lines_cards.proofs.KeptLines.{lines_kept}
 pub use Rattle.hm_lines_cards.proofs.HiddenLines.{is_hidden, hidden_stay}
 pub use Rattle.hm_lines_cards.proofs.Keys.{key_stays}
 pub use Rattle.hm_lines_cards.proofs.LinesAgain.{in_kept, in_new, rewritten_lines, rewritten_plain}

@@ -15,4 +15,5 @@ mod HiddenLines
 mod Keys
 mod OwnCards
 mod StayingLines
+mod KeptLines
 pub mod Laws

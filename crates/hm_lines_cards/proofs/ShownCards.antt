@@ -96,7 +96,7 @@ module _ (properties : Shown) (are : AreProperties properties) (card : Tree) (li
     no_new : new_texts card lines q ≡ []
     no_new = (λ j. cond (one j) (new_names (set_of q.0 lines) set) (cond (is_none (t.at j)) (ascending set) []))
 
-  shows_one : q.1 ≡ false → texts_of q.0 (rewritten properties card lines) ≡ ascending set
+  pub shows_one : q.1 ≡ false → texts_of q.0 (rewritten properties card lines) ≡ ascending set
   shows_one one = elim (target_is q.0 lines (few one)) [
     | has_target t ↦ all_shown ∙ (λ j. kept_one one t j ++ no_new one t j) ∙ append-nil (ascending set)
     | no_target e none ↦
@@ -118,7 +118,7 @@ module _ (properties : Shown) (are : AreProperties properties) (card : Tree) (li
 
 -- ---- all properties
 
-suit_at : (shown : Shown) (t : Tree) → AllSuit shown (cards.texts_of shown t) → (i : ℕ) (q : Property) → slice_get shown i ≡ Some q → Suits q.1 (texts_at q.0 t)
+pub suit_at : (shown : Shown) (t : Tree) → AllSuit shown (cards.texts_of shown t) → (i : ℕ) (q : Property) → slice_get shown i ≡ Some q → Suits q.1 (texts_at q.0 t)
 suit_at [] t all i q at = absurd (none-some q at)
 suit_at (p ∷ shown) t all zero q at = subst (λ (r : Property). Suits r.1 (texts_at r.0 t)) (same_Some p q at) all.0.1
 suit_at (p ∷ shown) t all (suc i) q at = suit_at shown t all.1 i q at

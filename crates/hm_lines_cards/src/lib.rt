@@ -14,8 +14,9 @@
 //! Proved: `card_of` gives the card that the content lines of an item show below the names of properties (RFC 6350
 //! section 3.3, RFC 5545 section 3.1), `second_of` the first line that shows a second text of a property which may have
 //! one alone, and `rewrite` the lines for another card, with those that stay as they are lent. What is rewritten shows
-//! the card, an item which is to show its own card stays, lines of no property stay in their order, and what is
-//! rewritten are content lines which can be folded and read again (`proofs/Laws`).
+//! the card, and an item which is to show its own card stays. Each line of no property, and each whose text stays, is
+//! there byte for byte and in its order, and a line with another text begins with its old bytes up to `:`
+//! (`specs/Kept`). What is rewritten are content lines which can be folded and read again (`proofs/Laws`).
 #![tactic(auto)]
 
 mod card;
