@@ -29,8 +29,10 @@ use Rattle.hm_format.proofs.Limits.{shallow}
 use Rattle.hm_csv.specs.Options.{shown_of, column_names}
 use Rattle.hm_csv.specs.Tables.{IsTable, key_place, columns_of, HasKey, item_of, items_of}
 use Rattle.hm_csv.specs.Files.{IsBook, CsvReads}
+use Rattle.hm_csv.specs.Kept.{AreKept}
 use Rattle.hm_csv.specs.Writing.{keyed, row_for, AreNewRows, IsWrittenAnew, CsvWrites, stays, anew, CsvKeeps}
 use Rattle.hm_csv.proofs.RowLaws.{shown_is, FitsTree, FitsFile, AreRows, new_rows, new_tree, rows_stay}
+use Rattle.hm_csv.proofs.KeptRows.{rows_kept}
 use Rattle.hm_csv.proofs.ReadOnce.{mark_once, header_once, others_once}
 use Rattle.hm_facts.proofs.Booleans.{is_true}
 
@@ -162,6 +164,12 @@ module _ (o : OptionsValue) (found : (header : Fields) → IsHeader (column_name
         subst (λ rows. IsItemTree (items_of o table.header rows) t) (sym new.rows_are)
         (new_tree o table.header are table.others old t new.lists new.below rising fits new.slots new.rewritten_is)
 
+    -- what stays of them
+    pub rows_keep : AreKept o table.header rows [] table.others rows
+    rows_keep =
+        subst (λ (rs : List Fields). AreKept o table.header rs [] table.others rs) (sym new.rows_are)
+        (rows_kept o table.header are table.others old t new.lists new.below rising fits new.slots new.rewritten_is)
+
     -- behind the mark and the header they are read as the tree
     pub written_book : IsBook o (written table.mark (table.header ∷ rows)) t
     written_book = record {
@@ -213,17 +221,21 @@ module _ (o : OptionsValue) (found : (header : Fields) → IsHeader (column_name
       put_get after (stays h) = h
       put_get after (anew not_read w) = anew_read after w
 
-      pub keeps : (after : List ℕ) → CsvWrites o t before after → CsvKeeps o before after
-      keeps after (stays h) = record { table = h.0.table; rows = h.0.table.others; sheet = h.0.table.sheet; tree = t; read = h; new = own_rows before t h.0 }
-      keeps after (anew not_read w) = record {
-        table = w.table;
-        rows = w.rows;
-        sheet = subst (λ bytes. IsSheet (column_names o) bytes (record { mark = w.table.mark; rows = w.table.header ∷ w.rows })) (sym w.text)
-            (new_sheet before w.table w.rows (rows_fit before w.table (has_moved before read.0.table w.table read.0.keyed) t (book_of t member) w.rows w.new));
-        tree = t;
-        read = anew_read after w;
-        new = w.new;
+      kept_by : (table : IsTable o before) (rows : List Fields) → AreNewRows o table.header table.others t rows → (after : List ℕ)
+          → IsSheet (column_names o) after (record { mark = table.mark; rows = table.header ∷ rows }) → CsvKeeps o before after
+      kept_by table rows new after sheet = record {
+        table = table;
+        rows = rows;
+        sheet = sheet;
+        kept = rows_keep before table (has_moved before read.0.table table read.0.keyed) t (book_of t member) rows new;
       }
+
+      pub keeps : (after : List ℕ) → CsvWrites o t before after → CsvKeeps o before after
+      keeps after (stays h) = kept_by h.0.table h.0.table.others (own_rows before t h.0) before h.0.table.sheet
+      keeps after (anew not_read w) =
+          kept_by w.table w.rows w.new after
+          (subst (λ bytes. IsSheet (column_names o) bytes (record { mark = w.table.mark; rows = w.table.header ∷ w.rows })) (sym w.text)
+          (new_sheet before w.table w.rows (rows_fit before w.table (has_moved before read.0.table w.table read.0.keyed) t (book_of t member) w.rows w.new)))
 
       -- the bytes from before are read as the tree where its rows are the old ones
       pub decides_stays : (table : IsTable o before) (rows : List Fields) → AreNewRows o table.header table.others t rows → rows ≡ table.others → CsvReads o before (Ok t)

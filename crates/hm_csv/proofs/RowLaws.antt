@@ -109,10 +109,10 @@ module _ (o : OptionsValue) (header : Fields) (are : AreColumns (columns_of o he
   columns_in : (n : ℕ) → n ≡ length header → AreColumns (columns_of o header) (key_place o header) n
   columns_in n e = subst (AreColumns (columns_of o header) (key_place o header)) (sym e) are
 
-  card_by : (card : Tree) → IsCard (shown_of o) card → IsCard (shown_by (columns_of o header)) card
+  pub card_by : (card : Tree) → IsCard (shown_of o) card → IsCard (shown_by (columns_of o header)) card
   card_by card is = subst (λ (s : Shown). IsCard s card) (sym (shown_is o header)) is
 
-  writing : IsWriting name_cmp FitsTree FitsFile show write
+  pub writing : IsWriting name_cmp FitsTree FitsFile show write
   writing = record {
     shows = λ k old card p q.
         record_shows (columns_of o header) card (base o header k old) (key_place o header) (columns_in _ (base_long k old q)) (card_by card p.card_is);
@@ -175,7 +175,7 @@ module _ (o : OptionsValue) (header : Fields) (are : AreColumns (columns_of o he
       }
 
   module _ (others : List Fields) (old : AreRows others) where
-    standing : Each name_cmp (λ x. FitsFile x.0 x.1) (keyed o header others)
+    pub standing : Each name_cmp (λ x. FitsFile x.0 x.1) (keyed o header others)
     standing = stand others old.long old.text old.has
 
     module _ (t : Tree) (lists : List (Name × List Tree)) (below : AreLists (edges t) lists) (tree_is : IsTree name_cmp lists)

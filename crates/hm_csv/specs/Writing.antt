@@ -1,5 +1,5 @@
 -- What is written of a tree behind the bytes from before, and what stays.
-use Rattle.std.specs.Prelude.{◌≡◌, ℕ, List, ◌∷◌, map, length, Option, Some, None, Ok}
+use Rattle.std.specs.Prelude.{◌≡◌, ℕ, List, [], ◌∷◌, map, length, Option, Some, None, Ok}
 use Rattle.hm_tree.specs.Names.{Name, name_cmp}
 use Rattle.hm_tree.specs.Nodes.{Tree, edges}
 use Rattle.hm_schema.specs.Values.{OptionsValue}
@@ -15,6 +15,7 @@ use Rattle.hm_book_cards.specs.Books.{book_schema}
 use Rattle.hm_csv.specs.Options.{csv_rules, shown_of, column_names}
 use Rattle.hm_csv.specs.Tables.{key_place, columns_of, key_of, IsTable}
 use Rattle.hm_csv.specs.Files.{CsvReads}
+use Rattle.hm_csv.specs.Kept.{AreKept}
 
 -- ---- records
 
@@ -62,15 +63,13 @@ pub data CsvWrites (o : OptionsValue) (t : Tree) (before : List ℕ) : List ℕ 
 
 -- ---- what stays
 
--- the mark and the header stay, and the records are those from before that survive, each as it is to show the card that it
--- shows now, and new ones
+-- the mark and the header stay, and of the records what has to, whatever tree is written: they survive by their keys and places,
+-- each with its fields that are hidden or whose texts don't change, and with the pieces of the others that stay
 pub record CsvKeeps (o : OptionsValue) (before after : List ℕ) : Type 0 where
   pub table : IsTable o before
   pub rows : List Fields
   pub sheet : IsSheet (column_names o) after (record { mark = table.mark; rows = table.header ∷ rows })
-  pub tree : Tree
-  pub read : CsvReads o after (Ok tree)
-  pub new : AreNewRows o table.header table.others tree rows
+  pub kept : AreKept o table.header rows [] table.others rows
 
 -- ---- the format
 

@@ -16,7 +16,7 @@
 //! Proved: `Csv` is the format of files of comma-separated values as address books: what a file is read as, and
 //! otherwise the first of the reasons why it isn't, is told exactly (`specs/Files`); what is written of a tree is read
 //! as it, records survive by their keys and places with the mark, the header and all fields that aren't shown or don't
-//! change, and the bytes stay where nothing changes (`specs/Writing`). It is lawful (`proofs/Laws`).
+//! change (`specs/Kept`), and the bytes stay where nothing changes (`specs/Writing`). It is lawful (`proofs/Laws`).
 #![tactic(auto)]
 
 mod format;

@@ -1,5 +1,5 @@
 -- What is written is read as the tree, and what stays.
-use Rattle.std.proofs.Common.{◌≡◌, ◌≢◌, ◌⊎◌, ℕ, inl, inr, T, List, refl, sym, ap, ◌∙◌, subst}
+use Rattle.std.proofs.Common.{◌≡◌, ◌≢◌, ◌⊎◌, ℕ, inl, inr, T, List, [], refl, sym, ap, ◌∙◌, subst}
 use Rattle.std.specs.Prelude.{All, IsUtf8, None, Ok}
 use Rattle.std.specs.FinMap.{is_sorted}
 use Rattle.hm_tree.specs.Names.{name_cmp}
@@ -17,6 +17,7 @@ use Rattle.hm_schema.specs.Membership.{IsMemberTree}
 use Rattle.hm_format.proofs.Limits.{shallow}
 use Rattle.hm_lines_files.specs.Components.{Layout, all_lines, components, HasKey, items_of}
 use Rattle.hm_lines_files.specs.Rewriting.{rewritten_layout, IsRewritten}
+use Rattle.hm_lines_files.specs.Kept.{ArePieces}
 use Rattle.hm_lines_files.specs.Forms.{Form, shown_of}
 use Rattle.hm_lines_files.specs.Files.{lines_in, full, IsFile, IsBook, Reads}
 use Rattle.hm_lines_files.specs.Writing.{IsWrittenAnew, Writes, stays, anew, Keeps}
@@ -27,7 +28,7 @@ use Rattle.hm_lines_files.proofs.PieceLines.{IsSound, file_lines}
 use Rattle.hm_lines_files.proofs.ShownProperties.{shown_edges}
 use Rattle.hm_lines_files.proofs.ReadOnce.{laid_out_once, file_once}
 use Rattle.hm_lines_files.proofs.Books.{read_book}
-use Rattle.hm_lines_files.proofs.Rewritings.{layout_stays, new_has, new_keys, new_tree, new_lines}
+use Rattle.hm_lines_files.proofs.Rewritings.{layout_stays, new_has, new_kept, new_keys, new_tree, new_lines}
 
 module _ (f : Form) (law : IsForm f) (o : OptionsValue) where
   abbrev Rewritten : Tree → Layout → Layout → Type 0
@@ -158,27 +159,23 @@ module _ (f : Form) (law : IsForm f) (o : OptionsValue) where
     put_get after (stays h) = h
     put_get after (anew not_read w) = anew_read after w
 
-    pub keeps : (after : List ℕ) → Writes f o t before after → Keeps f o before after
-    keeps after (stays h) = record {
-      old = h.0.layout;
-      are = h.0.file.are;
-      new = h.0.layout;
-      now = h.0.file.are;
-      tree = t;
-      read = h;
-      rewritten = own before t h.0;
+    -- what is rewritten for the tree keeps what has to stay
+    kept_by : (l new : Layout) → IsFile f o before l → (after : List ℕ) → IsFile f o after new → Rewritten t l new → Keeps f o before after
+    kept_by l new file after file_now rewritten = record {
+      old = l;
+      was = file.are;
+      new = new;
+      now = file_now.are;
+      pieces = subst (λ (n : Layout). ArePieces f.template.key (shown_of f o) (components n) [] l.pieces n.pieces) (sym rewritten.is)
+          (new_kept f law o l file.are.has (keyed_there before old read l file) (file_lines f law o before l file) t rewritten.lists rewritten.below book);
+      end = ap (λ (n : Layout). n.end) rewritten.is;
     }
+
+    pub keeps : (after : List ℕ) → Writes f o t before after → Keeps f o before after
+    keeps after (stays h) = kept_by h.0.layout h.0.layout h.0.file after h.0.file (own before t h.0)
     keeps after (anew not_read w) =
         let file = anew_file after w in
-        record {
-          old = w.old;
-          are = w.are;
-          new = w.new;
-          now = (new_file before w.old file (keyed_there before old read w.old file) t book w.new w.rewritten after w.text).are;
-          tree = t;
-          read = anew_read after w;
-          rewritten = w.rewritten;
-        }
+        kept_by w.old w.new file after (new_file before w.old file (keyed_there before old read w.old file) t book w.new w.rewritten after w.text) w.rewritten
 
     -- ---- what is written behind a file whose layout is known
 

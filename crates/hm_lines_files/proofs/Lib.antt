@@ -6,6 +6,7 @@ pub mod KeyLines
 pub mod OneComponent
 pub mod Renewed
 pub mod TreeLaws
+mod KeptPieces
 pub mod RewritingLaws
 mod PieceLines
 mod BadLines

@@ -28,7 +28,7 @@ components-append (other line ∷ ps) qs = components-append ps qs
 components-append (item c ∷ ps) qs = ap (λ cs. c ∷ cs) (components-append ps qs)
 
 module _ (template : Template) (shown : Shown) where
-  items_are : (slots : Slots) → items_for template shown slots ≡ map item (map (component_for template shown) slots)
+  pub items_are : (slots : Slots) → items_for template shown slots ≡ map item (map (component_for template shown) slots)
   items_are [] = refl
   items_are (s ∷ slots) = ap (λ ps. item (component_for template shown s) ∷ ps) (items_are slots)
 

@@ -1,15 +1,16 @@
 -- What is known of the pieces of a file that are to show a tree.
 use Rattle.std.proofs.Common.{◌≡◌}
-use Rattle.std.specs.Prelude.{All, IsUtf8}
+use Rattle.std.specs.Prelude.{[], All, IsUtf8}
 use Rattle.hm_tree.specs.Nodes.{Tree, edges}
 use Rattle.hm_schema.specs.Values.{OptionsValue}
 use Rattle.hm_book_items.specs.ItemTrees.{AreLists, IsItemTree, Lists}
 use Rattle.hm_book_cards.specs.Books as books
 use Rattle.hm_lines_files.specs.Components.{Layout, all_lines, components, HasKey, items_of}
 use Rattle.hm_lines_files.specs.Rewriting.{rewritten_layout}
+use Rattle.hm_lines_files.specs.Kept.{ArePieces}
 use Rattle.hm_lines_files.specs.Forms.{Form, shown_of}
 use Rattle.hm_lines_files.specs.FormLaws.{IsForm}
-use Rattle.hm_lines_files.proofs.RewritingLaws.{IsKind, AreSound, tree_renewed, new_sound, tree_again, stays}
+use Rattle.hm_lines_files.proofs.RewritingLaws.{IsKind, AreSound, tree_renewed, new_sound, tree_again, stays, pieces_kept}
 use Rattle.hm_lines_files.proofs.ShownProperties.{shown_properties, shown_apart}
 use Rattle.hm_lines_files.proofs.PieceLines.{IsSound, in_components}
 use Rattle.hm_lines_files.proofs.SoundLines.{sound_again}
@@ -49,6 +50,10 @@ module _ (f : Form) (law : IsForm f) (o : OptionsValue) where
         -- it's one of a file again, whose components have keys and show the tree
         pub new_has : f.has o new
         new_has = law.renewed o l _ has (tree_renewed f.template (shown_of f o) (f.fits o) template l.pieces sound t lists below book)
+
+        -- what stays of its pieces
+        pub new_kept : ArePieces f.template.key (shown_of f o) (components new) [] l.pieces new.pieces
+        new_kept = pieces_kept f.template (shown_of f o) (f.fits o) template l.pieces sound t lists below book
 
         pub new_keys : All (HasKey f.template.key) (components new)
         new_keys = (new_sound f.template (shown_of f o) (f.fits o) template l.pieces sound t lists below book).has

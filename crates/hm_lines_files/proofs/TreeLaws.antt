@@ -147,10 +147,10 @@ module _ (template : Template) (shown : Shown) (Fits : Component → Type 0) (is
   same_lists : (t : Tree) (lists : Lists) → AreLists (edges t) lists → (book : IsBook shown t) → book.lists ≡ lists
   same_lists t lists below book = lists_once (edges t) book.lists lists book.below below
 
-  book_keys : (t : Tree) (lists : Lists) → AreLists (edges t) lists → IsBook shown t → All (λ (l : Name × List Tree). IsFilled l.0) lists
+  pub book_keys : (t : Tree) (lists : Lists) → AreLists (edges t) lists → IsBook shown t → All (λ (l : Name × List Tree). IsFilled l.0) lists
   book_keys t lists below book = subst (λ (ls : Lists). All (λ (l : Name × List Tree). IsFilled l.0) ls) (same_lists t lists below book) book.keys
 
-  book_cards : (t : Tree) (lists : Lists) → AreLists (edges t) lists → IsBook shown t → All (λ (l : Name × List Tree). All (IsCard shown) l.1) lists
+  pub book_cards : (t : Tree) (lists : Lists) → AreLists (edges t) lists → IsBook shown t → All (λ (l : Name × List Tree). All (IsCard shown) l.1) lists
   book_cards t lists below book = subst (λ (ls : Lists). All (λ (l : Name × List Tree). All (IsCard shown) l.1) ls) (same_lists t lists below book) book.cards
 
   pub fits_tree : (t : Tree) (lists : Lists) → AreLists (edges t) lists → IsBook shown t → Each name_cmp (λ l. Each name_cmp (In l.0) l.1) lists

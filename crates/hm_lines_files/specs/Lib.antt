@@ -1,6 +1,7 @@
 pub mod Components
 pub mod Rewriting
 pub mod Renewed
+pub mod Kept
 pub mod Reading
 pub mod Forms
 pub mod FormLaws

@@ -1,10 +1,11 @@
 -- What is written of a tree behind the bytes from before, and what stays.
-use Rattle.std.specs.Prelude.{ℕ, List, Ok}
+use Rattle.std.specs.Prelude.{◌≡◌, ℕ, List, [], Ok}
 use Rattle.hm_tree.specs.Nodes.{Tree}
 use Rattle.hm_schema.specs.Values.{OptionsValue}
 use Rattle.hm_lines.specs.Folding.{AreFolded}
-use Rattle.hm_lines_files.specs.Components.{Layout, all_lines}
+use Rattle.hm_lines_files.specs.Components.{Layout, all_lines, components}
 use Rattle.hm_lines_files.specs.Rewriting.{IsRewritten}
+use Rattle.hm_lines_files.specs.Kept.{ArePieces}
 use Rattle.hm_format.specs.Options.{accepted, bad_key}
 use Rattle.hm_format.specs.Formats.{FormatMeaning, depth_over}
 use Rattle.hm_book_cards.specs.Books.{book_schema}
@@ -24,16 +25,15 @@ pub data Writes (f : Form) (o : OptionsValue) (t : Tree) (before : List ℕ) : L
   stays : Reads f o before (Ok t) → Writes f o t before before
   anew : {after : List ℕ} → ¬ (Reads f o before (Ok t)) → IsWrittenAnew f o t before after → Writes f o t before after
 
--- the file is the one from before, rewritten for the tree that it is now read as: components survive, with all lines but those
--- that show what has changed, and every other line stays
+-- what stays of the file from before, whatever tree is written: its components survive by their keys and places, each with its
+-- lines but for those that show what has changed, and every other line of the file stays
 pub record Keeps (f : Form) (o : OptionsValue) (before after : List ℕ) : Type 0 where
   pub old : Layout
-  pub are : AreLaidOut f o (lines_in before) old
+  pub was : AreLaidOut f o (lines_in before) old
   pub new : Layout
   pub now : AreLaidOut f o (lines_in after) new
-  pub tree : Tree
-  pub read : Reads f o after (Ok tree)
-  pub rewritten : IsRewritten f.template (shown_of f o) tree old new
+  pub pieces : ArePieces f.template.key (shown_of f o) (components new) [] old.pieces new.pieces
+  pub end : new.end ≡ old.end
 
 -- ---- the format
 
