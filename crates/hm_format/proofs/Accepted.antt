@@ -9,7 +9,7 @@ use Rattle.std.specs.FinSet.{contains-from_list}
 use Rattle.hm_tree.specs.Names.{Name, name_cmp}
 use Rattle.hm_tree.proofs.Sorted.{name_total, name_one}
 use Rattle.hm_schema.specs.Values.{OptionsValue, SchemaValue}
-use Rattle.hm_format.specs.Options.{Rule, Rules, Pairs, is_among, has_double, exceeds, values_of, breaks, is_bad, first_bad, is_missing, bad_key, accepted, place_of}
+use Rattle.hm_format.specs.Options.{Rule, Rules, Pairs, is_among, is_declared, has_double, exceeds, values_of, breaks, is_bad, first_bad, is_missing, bad_key, accepted, place_of}
 use Rattle.hm_facts.proofs.Orderings.{equal}
 
 pub neither : (a b : Bool) → (a || b) ≡ false → (a ≡ false) × (b ≡ false)
@@ -22,7 +22,7 @@ not_false false e = let no : ⊥ = cc in absurd no
 
 pub record Obeys (declared : List Name) (rule : Rule) (values : List Name) : Type 0 where
   pub within : exceeds rule.most (length values) ≡ false
-  pub allowed : IsTrue rule.declared → list_all (is_among declared) values ≡ true
+  pub allowed : IsTrue rule.declared → list_all (is_declared declared) values ≡ true
   pub once : has_double values ≡ false
 
 module _ (rules : Rules) (declared : List Name) where
@@ -34,7 +34,7 @@ module _ (rules : Rules) (declared : List Name) where
       let four = neither _ _ three.1 in
       record {
         within = two.0;
-        allowed = λ yes. not_false _ (sym (ap (λ d. d && not (list_all (is_among declared) p.1)) yes) ∙ three.0);
+        allowed = λ yes. not_false _ (sym (ap (λ d. d && not (list_all (is_declared declared) p.1)) yes) ∙ three.0);
         once = four.0;
       }
 

@@ -12,7 +12,7 @@ use Rattle.std.proofs.lemmas.List.Folds.{list_any-append}
 use Rattle.hm_tree.specs.Names.{Name, name_cmp}
 use Rattle.hm_tree.proofs.Sorted.{name_total, name_one}
 use Rattle.hm_schema.specs.Values.{OptionsValue}
-use Rattle.hm_format.specs.Options.{Rule, Rules, Pairs, AreSound, is_among, has_double, exceeds, all_values, values_of, breaks, is_bad, first_bad, bad_key}
+use Rattle.hm_format.specs.Options.{Rule, Rules, Pairs, AreSound, is_among, is_declared, has_double, exceeds, all_values, values_of, breaks, is_bad, first_bad, bad_key}
 use Rattle.hm_format.proofs.Accepted.{neither, not_false, first_none}
 use Rattle.hm_facts.proofs.Orderings.{equal}
 
@@ -41,7 +41,7 @@ module _ (rules : Rules) (declared : List Name) where
       let new = list_all (λ v. not (is_among (all_values earlier) v)) p.1 in
       let one = neither (is_some (map.find name_cmp p.0 earlier)) _ good in
       let two = neither (exceeds rule.most (length p.1)) _ one.1 in
-      let three = neither (rule.declared && not (list_all (is_among declared) p.1)) _ two.1 in
+      let three = neither (rule.declared && not (list_all (is_declared declared) p.1)) _ two.1 in
       not_false new (neither (has_double p.1) (not new) three.1).1
 
   -- the values of a key that isn't bad stand at no earlier one

@@ -7,19 +7,19 @@ use Rattle.hm_tree.specs.Names.{Name, name_cmp}
 use Rattle.hm_schema.specs.declared.node.Node.{Node}
 use Rattle.hm_schema.specs.Values.{OptionsValue, NodeValue, node_value, schema_value}
 use Rattle.hm_schema.specs.WellFormed.{IsWellFormed}
-use Rattle.hm_format.specs.Options.{Rule, is_among, values_of}
+use Rattle.hm_format.specs.Options.{Rule, is_among, is_declared, values_of}
 use Rattle.hm_format.specs.Plain.{plain_rules, plain_schema, root_place, IsAccepted}
 use Rattle.hm_format.proofs.Accepted.{obey_all, none_missing, place_below}
 
-first_among : (names : List Name) (k : Name) (ks : List Name) → list_all (is_among names) (k ∷ ks) ≡ true → is_among names k ≡ true
-first_among names k ks e = go (is_among names k) (list_all (is_among names) ks) e
-  where
-    go : (a b : Bool) → (a && b) ≡ true → a ≡ true
-    go true b e = refl
-    go false b e = e
+front : (a b : Bool) → (a && b) ≡ true → a ≡ true
+front true b e = refl
+front false b e = e
+
+first_among : (names : List Name) (k : Name) (ks : List Name) → list_all (is_declared names) (k ∷ ks) ≡ true → is_among names k ≡ true
+first_among names k ks e = front _ _ (front (is_declared names k) (list_all (is_declared names) ks) e)
 
 named : (r : Name × Rule) (names values : List Name) → cond (not (nat_lt 0 (length values))) (Some r) None ≡ None
-    → list_all (is_among names) values ≡ true → root_place values names < length names
+    → list_all (is_declared names) values ≡ true → root_place values names < length names
 named r names [] e all = let no : ⊥ = cc in absurd no
 named r names (k ∷ ks) e all = place_below k names (first_among names k ks all)
 

@@ -1,5 +1,5 @@
 -- Which options a format takes, by a table of its keys.
-use Rattle.std.specs.Prelude.{◌≡◌, ℕ, suc, Bool, true, false, not, cond, ◌&&◌, ◌||◌, nat_lt, All, List, [], ◌∷◌, ◌++◌, length, take, get_or, is_some, unwrap_or, Option, Some, None, Result, Ok, Err, IsUtf8}
+use Rattle.std.specs.Prelude.{◌≡◌, ℕ, suc, Bool, true, false, not, cond, ◌&&◌, ◌||◌, nat_lt, codes, All, List, [], ◌∷◌, ◌++◌, length, take, get_or, is_some, unwrap_or, Option, Some, None, Result, Ok, Err, IsUtf8}
 use Rattle.std.specs.List.{find, list_all, flat_map}
 use Rattle.std.specs.Option.{option_or, option_map}
 use Rattle.std.specs.Ordering.{eq_by_cmp}
@@ -11,7 +11,7 @@ use Rattle.hm_schema.specs.Values.{OptionsValue, SchemaValue}
 use Rattle.hm_schema.specs.WellFormed.{IsWellFormedNode}
 use Rattle.hm_format.specs.declared.keys.Key.{Key}
 
--- of a key: how many values it has at the most, whether there has to be one, and whether each is the name of a node
+-- of a key: how many values it has at the most, whether there has to be one, and whether each is a node that is declared
 pub record Rule : Type 0 where
   pub most : Option ℕ
   pub required : Bool
@@ -29,6 +29,10 @@ rule_of k = (k.name.now, record { most = k.most; required = k.required; declared
 
 abbrev pub is_among : List Name → Name → Bool
 is_among names k = contains {R = name_cmp} (from_list names) k
+
+-- a node that a lens file declares, of those that it names: `Empty` is there without a line, and never declared
+abbrev pub is_declared : List Name → Name → Bool
+is_declared nodes k = is_among nodes k && not (eq_by_cmp name_cmp k (codes "Empty"))
 
 -- a name stands twice where the set of them has fewer
 abbrev pub has_double : List Name → Bool
@@ -51,21 +55,21 @@ all_values pairs = flat_map (λ p. p.1) pairs
 -- a key isn't the format's, or stood before; or of its values there are too many, one isn't allowed, or one stands twice,
 -- in this pair or in it and an earlier one
 abbrev pub breaks : Option Rule → List Name → Pairs → Name × List Name → Bool
-breaks None declared earlier p = true
-breaks (Some rule) declared earlier p =
+breaks None nodes earlier p = true
+breaks (Some rule) nodes earlier p =
     is_some (map.find name_cmp p.0 earlier)
     || (exceeds rule.most (length p.1)
-    || ((rule.declared && not (list_all (is_among declared) p.1))
+    || ((rule.declared && not (list_all (is_declared nodes) p.1))
     || (has_double p.1 || not (list_all (λ v. not (is_among (all_values earlier) v)) p.1))))
 
 abbrev pub is_bad : Rules → List Name → Pairs → Name × List Name → Bool
-is_bad rules declared earlier p = breaks (map.find name_cmp p.0 rules) declared earlier p
+is_bad rules nodes earlier p = breaks (map.find name_cmp p.0 rules) nodes earlier p
 
 -- the first key that is bad, behind those that stood before
 abbrev pub first_bad : Rules → List Name → Pairs → Pairs → Option Name
-first_bad rules declared earlier [] = None
-first_bad rules declared earlier (p ∷ later) =
-    cond (is_bad rules declared earlier p) (Some p.0) (first_bad rules declared (earlier ++ p ∷ []) later)
+first_bad rules nodes earlier [] = None
+first_bad rules nodes earlier (p ∷ later) =
+    cond (is_bad rules nodes earlier p) (Some p.0) (first_bad rules nodes (earlier ++ p ∷ []) later)
 
 -- whether the pair at a place is bad
 abbrev pub is_bad_at : Rules → OptionsValue → ℕ → Bool

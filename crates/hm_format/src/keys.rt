@@ -1,12 +1,13 @@
 //! The keys that a format has, and whether options are those of the format.
-ghost use Rattle.std.specs.Prelude.{◌≡◌, ◌<◌, ◌&&◌, ◌||◌, IfOk, Some, not, length, map, is_some};
+ghost use Rattle.std.specs.Prelude.{◌≡◌, ◌<◌, ◌&&◌, ◌||◌, IfOk, Some, codes, not, length, map, is_some};
 ghost use Rattle.std.specs.List.{list_all};
 ghost use Rattle.std.specs.Option.{option_map};
 ghost use Rattle.std.specs.Ordering.{eq_by_cmp};
 ghost use Rattle.std.specs.FinMap as entries;
+ghost use Rattle.std.specs.FinSet as set;
 ghost use Rattle.hm_tree.specs.Names.{name_cmp};
 ghost use Rattle.hm_schema.specs.Values.{pair_value, options_value};
-ghost use Rattle.hm_format.specs.Options.{rule_of, values_of as values_in, is_among, has_double, exceeds, all_values, breaks, is_bad_at, is_missing, first_missing, bad_key};
+ghost use Rattle.hm_format.specs.Options.{rule_of, values_of as values_in, is_among, is_declared, has_double, exceeds, all_values, breaks, is_bad_at, is_missing, first_missing, bad_key};
 
 use hm_schema::{Options, append_copies, copy_names};
 use hm_tree::{Memory, Name, NameSet};
@@ -20,7 +21,7 @@ pub struct Key<'a> {
     pub most: Option<usize>,
     /// Whether it has to have a value.
     pub required: bool,
-    /// Whether each value is the name of a node that the lens file declares.
+    /// Whether each value is the name of a node that the lens file declares, as `Empty` never is.
     pub declared: bool,
 }
 
@@ -105,32 +106,32 @@ fn is_bad(alloc: Global, keys: &[Key<'_>], options: &Options, place: usize) -> R
 fn breaks(
     alloc: Global,
     key: &Key<'_>,
-    declared: &[Name],
+    nodes: &[Name],
     earlier: &[(Name, Vec<Name>)],
     pair: &(Name, Vec<Name>),
 ) -> Result<bool, Memory>
-    ensures { IfOk result (λ bad. bad ≡ breaks (Some (rule_of key.now).1) declared.now (map pair_value earlier.now) (pair_value pair.now)) }
+    ensures { IfOk result (λ bad. bad ≡ breaks (Some (rule_of key.now).1) nodes.now (map pair_value earlier.now) (pair_value pair.now)) }
 {
     if has_key(earlier, &pair.0) || exceeds(key, pair.1.len()) {
         return Ok(true);
     }
-    if is_undeclared(alloc, key, declared, &pair.1)? {
+    if is_undeclared(alloc, key, nodes, &pair.1)? {
         return Ok(true);
     }
     stand_before(alloc, earlier, &pair.1)
 }
 
-// Whether values have to be names of nodes, and one isn't.
+// Whether values have to be nodes that are declared, and one isn't.
 fn is_undeclared(
     alloc: Global,
     key: &Key<'_>,
-    declared: &[Name],
+    nodes: &[Name],
     values: &[Name],
 ) -> Result<bool, Memory>
-    ensures { IfOk result (λ bad. bad ≡ (key.now.declared && not (list_all (is_among declared.now) values.now))) }
+    ensures { IfOk result (λ bad. bad ≡ (key.now.declared && not (list_all (is_declared nodes.now) values.now))) }
 {
     if key.declared {
-        Ok(!are_among(alloc, declared, values)?)
+        Ok(!are_declared(alloc, nodes, values)?)
     } else {
         Ok(false)
     }
@@ -181,17 +182,23 @@ fn exceeds(key: &Key<'_>, count: usize) -> bool
     }
 }
 
-// Whether all of some names are among others.
-fn are_among(alloc: Global, names: &[Name], some: &[Name]) -> Result<bool, Memory>
-    ensures { IfOk result (λ all. all ≡ list_all (is_among names.now) some.now) }
+// Whether all of some names are those of nodes that are declared, where a lens file names these nodes.
+fn are_declared(alloc: Global, nodes: &[Name], names: &[Name]) -> Result<bool, Memory>
+    ensures { IfOk result (λ all. all ≡ list_all (is_declared nodes.now) names.now) }
 {
-    let names = NameSet::from_list(copy_names(alloc, names)?)?;
-    for name in some {
-        if !names.has(name) {
+    let nodes = NameSet::from_list(copy_names(alloc, nodes)?)?;
+    for name in names {
+        if !is_declared(&nodes, name) {
             return Ok(false);
         }
     }
     Ok(true)
+}
+
+fn is_declared(nodes: &NameSet, name: &Name) -> bool
+    ensures { result ≡ (set.contains nodes.now name.now && not (eq_by_cmp name_cmp name.now (codes "Empty"))) }
+{
+    nodes.has(name) && !same_text(name.text(), "Empty")
 }
 
 // Whether a name stands twice among some.
