@@ -76,10 +76,10 @@ fn by_name(
     requires { AreSound (options_value options.now) }
 {
     match format {
-        "vcard" => Ok(Some(told(alloc, &VCard, options, question)?)),
-        "icalendar" => Ok(Some(told(alloc, &ICalendar, options, question)?)),
-        "csv" => Ok(Some(told(alloc, &Csv, options, question)?)),
-        "tree" => Ok(Some(told(alloc, &Plain, options, question)?)),
+        "vcard" => Ok(Some(told(alloc, &VCard::new(), options, question)?)),
+        "icalendar" => Ok(Some(told(alloc, &ICalendar::new(), options, question)?)),
+        "csv" => Ok(Some(told(alloc, &Csv::new(), options, question)?)),
+        "tree" => Ok(Some(told(alloc, &Plain::new(), options, question)?)),
         _ => Ok(None),
     }
 }

@@ -6,10 +6,13 @@
 //! the real files, the formats and the text lenses is shown by its stored run and by `tests/real-files`.
 #![tactic(auto)]
 
+ghost use Rattle.std.specs.Prelude.{◌≡◌, IfOk, Ok, map};
+ghost use Rattle.harmony.specs.Handed.{AreFormats, text_lenses};
+
 use hm_csv::Csv;
 use hm_format::{Format, Plain};
 use hm_ical::ICalendar;
-use hm_outside::{FileStore, StdSink};
+use hm_outside::{FileStore, Sink, StdSink, Store};
 use hm_text_kit::{date, email, trim, yes_no};
 use hm_text_lens::TextLens;
 use hm_tree::{Memory, Name};
@@ -41,18 +44,35 @@ fn words_of(alloc: Global, rt: &HostRuntime) -> Result<Vec<Name>, Memory> {
 }
 
 // A text lens in a box.
-fn boxed<T: Drop>(alloc: Global, lens: Result<T, Memory>) -> Result<Box<T>, Memory> {
+fn boxed<T: Drop>(alloc: Global, lens: Result<T, Memory>) -> Result<Box<T>, Memory>
+    ensures { IfOk result (λ b. lens ≡ Ok b.value) }
+{
     Ok(Box::new(alloc, lens?)?)
 }
 
-// The status of the words, with the formats and the text lenses of the program. They are made where they are lent, since
-// the gate takes no function that puts something behind a trait and gives it out.
+// The run of these words, with the formats and the text lenses of the program.
+fn run_with<S: Store, K: Sink>(
+    alloc: Global,
+    words: &[Name],
+    store: &mut S,
+    out: &mut K,
+    formats: &[Box<dyn Format>],
+    texts: &[Box<dyn TextLens>],
+) -> u8
+    requires formats { AreFormats (λ b. means b) formats.now }
+    requires texts { map (λ b. meaning b) texts.now ≡ text_lenses }
+{
+    hm_run::run(alloc, words, store, out, formats, texts)
+}
+
+// The status of the words. Formats and text lenses are made where they are lent, since the gate takes no function that puts
+// something behind a trait and gives it out.
 fn status_of(alloc: Global, rt: &HostRuntime, words: &[Name]) -> Result<u8, Memory> {
     let formats: [Box<dyn Format>; 4] = [
-        Box::new(alloc, VCard)?,
-        Box::new(alloc, ICalendar)?,
-        Box::new(alloc, Csv)?,
-        Box::new(alloc, Plain)?,
+        Box::new(alloc, VCard::new())?,
+        Box::new(alloc, ICalendar::new())?,
+        Box::new(alloc, Csv::new())?,
+        Box::new(alloc, Plain::new())?,
     ];
     let lenses: [Box<dyn TextLens>; 4] = [
         boxed(alloc, trim(alloc))?,
@@ -62,7 +82,7 @@ fn status_of(alloc: Global, rt: &HostRuntime, words: &[Name]) -> Result<u8, Memo
     ];
     let mut out = StdSink::new(alloc, rt.stdout());
     let mut store = FileStore::new(alloc, rt);
-    Ok(hm_run::run(alloc, words, &mut store, &mut out, &formats, &lenses))
+    Ok(run_with(alloc, words, &mut store, &mut out, &formats, &lenses))
 }
 
 // The status of what the program was called with.

@@ -11,6 +11,19 @@ use std::alloc::Global;
 #[derive(Drop)]
 pub struct Csv;
 
+impl Csv {
+    ghost use Rattle.hm_format.specs.Meanings.{MeanTheSame};
+    ghost use Rattle.hm_csv.specs.Writing.{csv};
+
+    /// The format.
+    #[tactic(auto, using(hm_format::specs::Meanings::means_itself))]
+    pub fn new() -> Csv
+        ensures { MeanTheSame (⟦<Csv as Format>⟧.means result) csv }
+    {
+        Csv
+    }
+}
+
 impl Format for Csv {
     ghost use Rattle.hm_csv.specs.Writing.{csv};
 

@@ -28,6 +28,19 @@ const ROOT: Key<'static> = Key {
 #[derive(Drop)]
 pub struct Plain;
 
+impl Plain {
+    ghost use Rattle.hm_format.specs.Meanings.{MeanTheSame};
+    ghost use Rattle.hm_format.specs.Plain.{plain};
+
+    /// The format.
+    #[tactic(auto, using(crate::specs::Meanings::means_itself))]
+    pub fn new() -> Plain
+        ensures { MeanTheSame (⟦<Plain as Format>⟧.means result) plain }
+    {
+        Plain
+    }
+}
+
 impl Format for Plain {
     ghost use Rattle.hm_format.specs.Plain.{plain};
 

@@ -10,6 +10,20 @@ use std::alloc::Global;
 #[derive(Drop)]
 pub struct ICalendar;
 
+impl ICalendar {
+    ghost use Rattle.hm_format.specs.Meanings.{MeanTheSame};
+    ghost use Rattle.hm_lines_files.specs.Writing.{meaning_of};
+    ghost use Rattle.hm_ical.specs.Calendars.{ical};
+
+    /// The format.
+    #[tactic(auto, using(hm_format::specs::Meanings::means_itself))]
+    pub fn new() -> ICalendar
+        ensures { MeanTheSame (⟦<ICalendar as Format>⟧.means result) (meaning_of ical) }
+    {
+        ICalendar
+    }
+}
+
 impl Format for ICalendar {
     ghost use Rattle.hm_lines_files.specs.Writing.{meaning_of};
     ghost use Rattle.hm_ical.specs.Calendars.{ical};

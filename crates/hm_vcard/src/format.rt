@@ -10,6 +10,20 @@ use std::alloc::Global;
 #[derive(Drop)]
 pub struct VCard;
 
+impl VCard {
+    ghost use Rattle.hm_format.specs.Meanings.{MeanTheSame};
+    ghost use Rattle.hm_lines_files.specs.Writing.{meaning_of};
+    ghost use Rattle.hm_vcard.specs.Cards.{vcards};
+
+    /// The format.
+    #[tactic(auto, using(hm_format::specs::Meanings::means_itself))]
+    pub fn new() -> VCard
+        ensures { MeanTheSame (⟦<VCard as Format>⟧.means result) (meaning_of vcards) }
+    {
+        VCard
+    }
+}
+
 impl Format for VCard {
     ghost use Rattle.hm_lines_files.specs.Writing.{meaning_of};
     ghost use Rattle.hm_vcard.specs.Cards.{vcards};

@@ -24,10 +24,10 @@ pub fn run_with_all<S: Store, K: Sink>(
     out: &mut K,
 ) -> Result<u8, Memory> {
     let formats: [Box<dyn Format>; 4] = [
-        Box::new(alloc, VCard)?,
-        Box::new(alloc, ICalendar)?,
-        Box::new(alloc, Csv)?,
-        Box::new(alloc, Plain)?,
+        Box::new(alloc, VCard::new())?,
+        Box::new(alloc, ICalendar::new())?,
+        Box::new(alloc, Csv::new())?,
+        Box::new(alloc, Plain::new())?,
     ];
     let lenses: [Box<dyn TextLens>; 4] = [
         boxed(alloc, trim(alloc))?,
