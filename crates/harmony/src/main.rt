@@ -2,8 +2,9 @@
 //!
 //! This is `main` alone, which knows which store and which sink are real, and which formats and text lenses there are.
 //!
-//! Proved: nothing of its own, but that what it calls is called as the contracts ask. That `main` hands in the words,
-//! the real files, the formats and the text lenses is shown by its stored run and by `tests/real-files`.
+//! Proved: that the formats and the text lenses with which it runs mean what they are to mean, in their order
+//! (`crates/harmony/specs/Handed.antt`), and that what it calls is called as the contracts ask. That `main` hands in the
+//! words and the real files is shown by its stored run and by `tests/real-files`.
 #![tactic(auto)]
 
 ghost use Rattle.std.specs.Prelude.{◌≡◌, IfOk, Ok, map};

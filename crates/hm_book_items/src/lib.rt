@@ -14,14 +14,16 @@
 //! written so reads back as the new tree, and a file whose tree stays has its items as they are; a format that writes
 //! single items lawfully therefore writes files lawfully. The laws are of one level of keys. It knows no format.
 //!
-//! Proved: `plan` is given the keys of a file's items, and for each key of the new tree how many items it is to have; it
-//! tells which old items survive, in which order, and which are new (`specs/Items`). `next_place` tells it of one old
-//! item after another, over counts that `no_counts` begins, and `NewTrees` gives each old item the tree that it is to
-//! show, and then the trees that are left (`specs/Taken`). What is written so reads back as the tree, and where the
-//! tree stays so do all items (`proofs/ReadBack`), so with a lawful writing of one item a whole file is written
-//! lawfully (`proofs/Fitting`). `item_tree` gives the tree of a file's items; where that would be deeper than
-//! allowed it is never built: the answer is its depth. `item_lists` takes a tree of lists apart; the tree is lent, and
-//! none of it is copied. Items have one such tree at the most, it can be taken apart, and its lists are known from it.
+//! Proved: `plan` is given the keys of a file's items, and for each key of the new tree how many items it is to
+//! have; it tells which old items survive, in which order, and which are new (`specs/Items`). `next_place` tells it
+//! of one old item after another, over counts that `no_counts` begins, and `NewTrees` gives each old item the tree
+//! that it is to show, and then the trees that are left (`specs/Taken`). What is written so reads back as the tree,
+//! and where the tree stays so do all items (`proofs/ReadBack`), so with a lawful writing of one item a whole file
+//! is written lawfully (`proofs/Fitting`). `item_tree` gives the tree of a file's items; where that would be deeper
+//! than allowed it is never built: the answer is its depth. `depth_of_runs` gives the depth of such a tree from the
+//! keys and from how deep each item is, also where the items aren't built yet. `item_lists` takes a tree of lists
+//! apart; the tree is lent, and none of it is copied. Items have one such tree at the most, it can be taken apart,
+//! and its lists are known from it.
 #![tactic(auto)]
 
 mod depths;
