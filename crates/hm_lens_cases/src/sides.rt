@@ -13,7 +13,10 @@ const LENS: &str =
 #[test]
 fn the_first_format_of_a_tag(rt: HostRuntime) -> Result<(), Fail> {
     let alloc = rt.alloc();
-    let formats: [Box<dyn Format>; 2] = [Box::new(alloc, Plain::new())?, Box::new(alloc, Plain::new())?];
+    let formats: [Box<dyn Format>; 2] = [
+        Box::new(alloc, Plain::new())?,
+        Box::new(alloc, Plain::new())?,
+    ];
     let texts: Vec<Box<dyn TextLens>> = Vec::new(alloc);
     match open_side(alloc, Slot::LensB, &formats, &texts, LENS.as_bytes()) {
         Ok(side) => {
