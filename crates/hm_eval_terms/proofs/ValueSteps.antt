@@ -1,7 +1,7 @@
 -- What a text lens shows and puts of a value.
-use Rattle.std.proofs.Common.{◌≡◌, List, [], ◌∷◌, map, length, Option, Some, None, IsSome, IfSome, is_some, option_copied, sym, ap, subst, ◌∙◌}
-use Rattle.std.specs.Borrow.{Bor}
+use Rattle.std.proofs.Common.{◌≡◌, List, [], ◌∷◌, map, length, Option, Some, None, IsSome, IfSome, is_some, sym, ap, subst, ◌∙◌}
 use Rattle.std.proofs.lemmas.Option.{same_Some}
+use Rattle.hm_tree.specs.Classes.{IsInClass}
 use Rattle.hm_tree.specs.Names.{Name}
 use Rattle.hm_tree.specs.Nodes.{Tree}
 use Rattle.hm_text_lens.specs.Meanings.{TextMeaning, IsFrom, IsInto, IsBefore}
@@ -11,13 +11,9 @@ use Rattle.hm_tree_parts.specs.Edges.{IsValue, names}
 use Rattle.hm_terms.specs.Shown.{Shows, by_text}
 use Rattle.hm_terms.specs.Put.{Puts, ValueBefore, no_value_before, value_before, put_text}
 use Rattle.hm_tree_parts.specs.Edges.{HasOneEdge}
+use Rattle.hm_terms.proofs.Laws.{value_text}
 use Rattle.hm_eval_terms.specs.Conditions.{IsShown, IsPut}
 use Rattle.hm_eval_terms.specs.Texts.{IsNameBefore, no_name, its_name}
-
--- what holds of a borrowed value
-pub lent : {A : Type 0} (P : A → Type 0) (o : Option (Bor A)) → IfSome (option_copied o) P → IfSome o (λ b. P b.now)
-lent P None h = h
-lent P (Some b) h = h
 
 value_one : (v : Name) (t : Tree) → IsValue v t → HasOneEdge t
 value_one v t is = ap length is
@@ -34,7 +30,7 @@ record Reads (texts : List TextMeaning) (x : Name) (c t : Tree) : Type 0 where
   name : Name
   meaning : TextMeaning
   at : first_named x texts ≡ Some meaning
-  inside : IsFrom meaning name
+  inside : IsInClass meaning.from_class name
   is : IsValue name c
   made : IsValue (meaning.get_of name) t
 
@@ -52,12 +48,20 @@ module _ (S : Setting) (x : Name) (c : Tree) (h : IsShown S (text x) c) where
   shown_one = value_one reads.name c reads.is
 
   module _ (m : TextMeaning) (v : Name) (at : first_named x S.texts ≡ Some m) (named : names c ≡ v ∷ []) where
+    same_text : reads.name ≡ v
+    same_text = value_name reads.name v c reads.is named
+
+    value_read : IsValue v c
+    value_read = subst (λ v. IsValue v c) same_text reads.is
+
+    class_read : IsInClass m.from_class v
+    class_read = subst (λ m. IsInClass m.from_class v) (same_Some reads.meaning m (sym reads.at ∙ at)) (subst (IsInClass reads.meaning.from_class) same_text reads.inside)
+
     pub readable : IsFrom m v
-    readable = subst (λ m. IsFrom m v) (same_Some reads.meaning m (sym reads.at ∙ at)) (subst (IsFrom reads.meaning) (value_name reads.name v c reads.is named) reads.inside)
+    readable = value_text m.from_class v c value_read class_read
 
     pub text_shows : (w : Name) (t : Tree) → w ≡ m.get_of v → IsValue w t → Shows S (text x) c t
-    text_shows w t made is =
-        by_text at readable (subst (λ v. IsValue v c) (value_name reads.name v c reads.is named) reads.is) (subst (λ w. IsValue w t) made is)
+    text_shows w t made is = by_text at class_read value_read (subst (λ w. IsValue w t) made is)
 
 -- ---- and what it puts
 
@@ -66,7 +70,7 @@ record Writes (texts : List TextMeaning) (x : Name) (a : Tree) (b : Option Tree)
   old : Option Name
   meaning : TextMeaning
   at : first_named x texts ≡ Some meaning
-  inside : IsInto meaning name
+  inside : IsInClass meaning.into_class name
   is : IsValue name a
   before : ValueBefore meaning b old
 
@@ -100,8 +104,14 @@ module _ (S : Setting) (x : Name) (a : Tree) (b : Option Tree) (h : IsPut S (tex
     same_name : writes.name ≡ w
     same_name = value_name writes.name w a writes.is named
 
+    value_shown : IsValue w a
+    value_shown = subst (λ w. IsValue w a) same_name writes.is
+
+    class_shown : IsInClass m.into_class w
+    class_shown = subst (λ m. IsInClass m.into_class w) same (subst (IsInClass writes.meaning.into_class) same_name writes.inside)
+
     pub writable : IsInto m w
-    writable = subst (λ m. IsInto m w) same (subst (IsInto writes.meaning) same_name writes.inside)
+    writable = value_text m.into_class w a value_shown class_shown
 
     before : ValueBefore m b u
     before = subst (λ m. ValueBefore m b u) same (go b writes.old u writes.before old)
@@ -110,7 +120,7 @@ module _ (S : Setting) (x : Name) (a : Tree) (b : Option Tree) (h : IsPut S (tex
         go None None None no_value_before no_name = no_value_before
         go (Some t) (Some o) (Some v) (value_before is inside) (its_name called) =
             let one : o ≡ v = value_name o v t is called in
-            value_before (subst (λ o. IsValue o t) one is) (subst (IsFrom writes.meaning) one inside)
+            value_before (subst (λ o. IsValue o t) one is) (subst (IsInClass writes.meaning.from_class) one inside)
         go None None (Some v) p q = elim q [ ]
         go None (Some o) u p q = elim p [ ]
         go (Some t) None u p q = elim p [ ]
@@ -121,9 +131,9 @@ module _ (S : Setting) (x : Name) (a : Tree) (b : Option Tree) (h : IsPut S (tex
       where
         go : (b : Option Tree) (u : Option Name) → ValueBefore m b u → IsBefore m u
         go None None no_value_before = tt
-        go (Some t) (Some v) (value_before is inside) = inside
+        go (Some t) (Some v) (value_before is inside) = value_text m.from_class v t is inside
         go None (Some v) p = elim p [ ]
         go (Some t) None p = elim p [ ]
 
     pub text_puts : (v : Name) (t : Tree) → v ≡ m.put_of w u → IsValue v t → Puts S (text x) a b t
-    text_puts v t made is = put_text at writable (subst (λ w. IsValue w a) same_name writes.is) before (subst (λ v. IsValue v t) made is)
+    text_puts v t made is = put_text at class_shown value_shown before (subst (λ v. IsValue v t) made is)

@@ -1,6 +1,6 @@
 //! Texts of values, through the text lens of a name.
 ghost use Rattle.std.specs.Prelude.{◌≡◌, IfOk, IfSome, IsSome, Some, map, option_copied};
-ghost use Rattle.hm_text_lens.specs.Meanings.{IsFrom, IsInto};
+ghost use Rattle.hm_text_lens.specs.Meanings.{IsFrom, IsInto, IsBefore};
 ghost use Rattle.hm_text_lens.specs.Naming.{first_named};
 ghost use Rattle.hm_terms.specs.Lenses.{text};
 ghost use Rattle.hm_terms.specs.Shown.{Shows};
@@ -64,7 +64,7 @@ fn made_by(
     before: Option<&Name>,
 ) -> Result<Name, Memory>
     requires text { IsInto (meaning lens.now) text.now }
-    requires before { IfSome before (λ b. IsFrom (meaning lens.now) b.now) }
+    requires before { IsBefore (meaning lens.now) (option_copied before) }
     ensures { IfOk result (λ made. made ≡ (meaning lens.now).put_of text.now (option_copied before.entry)) }
 {
     lens.put(alloc, text, before)

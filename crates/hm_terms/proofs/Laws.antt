@@ -1,12 +1,14 @@
 -- A lens fits where its parts do.
 use Rattle.std.proofs.Common.{◌≡◌, [], ◌∷◌, Option, Some, None, IfSome, refl, sym, ap, subst, ◌∙◌}
 use Rattle.std.proofs.lemmas.Option.{same_Some}
+use Rattle.hm_tree.specs.declared.class.Class.{Class}
 use Rattle.hm_tree.specs.Names.{Name}
+use Rattle.hm_tree.specs.Classes.{IsInClass}
 use Rattle.std.specs.Prelude.{T}
 use Rattle.std.specs.Str.{is_utf8}
 use Rattle.hm_tree.specs.Nodes.{Tree, node, empty, edges_from, are_edges, edges_head, both}
 use Rattle.hm_tree.specs.NodeLaws.{edges-node, edges_are}
-use Rattle.hm_text_lens.specs.Meanings.{TextMeaning, IsLawful, IsFrom, IsInto, IsBefore}
+use Rattle.hm_text_lens.specs.Meanings.{TextMeaning, IsTextIn, IsLawful, IsFrom, IsInto, IsBefore}
 use Rattle.hm_terms.specs.Lenses.{Lens, identity, sequence, constant, hoist, plunge, text, Setting}
 use Rattle.hm_text_lens.specs.Naming.{first_named}
 use Rattle.hm_tree_parts.specs.Edges.{IsEdge, IsValue, ValueIn}
@@ -16,6 +18,10 @@ use Rattle.hm_terms.specs.Kept.{Keeps, keeps_identity, keeps_sequence, keeps_con
 use Rattle.hm_terms.specs.Fitting.{IsOne, Fits}
 use Rattle.hm_terms.proofs.OneShown.{one_shown}
 use Rattle.hm_terms.proofs.OnePut.{one_put}
+
+-- the text of a value is UTF-8, as all names of trees
+pub value_text : (k : Class) (v : Name) (t : Tree) → IsValue v t → IsInClass k v → IsTextIn k v
+value_text k v t e h = record { text = edges_head {X = Tree} (v, empty) [] (subst (λ es. T (are_edges es)) e (edges_are t)); in_class = h }
 
 module _ (S : Setting) where
   pub shown_one : {A : Tree → Type 0} (l : Lens) (c v : Tree) → A v → Shows S l c v → IsOne A (Shows S l c)
@@ -152,9 +158,6 @@ module _ (S : Setting) where
 
   -- ---- texts
 
-  value_utf8 : (v : Name) (t : Tree) → IsValue v t → T (is_utf8 v)
-  value_utf8 v t e = edges_head {X = Tree} (v, empty) [] (subst (λ es. T (are_edges es)) e (edges_are t))
-
   module _ (x : Name) (m : TextMeaning) (is : first_named x S.texts ≡ Some m) (law : IsLawful m) where
     value_to : (v : Name) → T (is_utf8 v) → (t : Tree) × IsValue v t
     value_to v utf8 = edge_to v empty utf8
@@ -164,30 +167,26 @@ module _ (S : Setting) where
       text : Option Name
       stands : ValueBefore m b text
       inside : IsBefore m text
-      utf8 : IfSome text (λ u. T (is_utf8 u))
-
-    text_before : (b : Option Tree) → IfSome b (ValueIn (IsFrom m)) → Before b
-    text_before None h = record { text = None; stands = no_value_before; inside = tt; utf8 = tt }
-    text_before (Some c) h = record {
-      text = Some h.text;
-      stands = value_before h.is h.inside;
-      inside = h.inside;
-      utf8 = value_utf8 h.text c h.is;
-    }
 
     inside_before : {b : Option Tree} {u : Option Name} → ValueBefore m b u → IsBefore m u
     inside_before no_value_before = tt
-    inside_before (value_before e h) = h
+    inside_before (value_before {b = b} {u = u} e h) = value_text m.from_class u b e h
 
-    pub fits_text : Fits S (text x) (ValueIn (IsFrom m)) (ValueIn (IsInto m))
+    text_before : (b : Option Tree) → IfSome b (ValueIn (IsInClass m.from_class)) → Before b
+    text_before None h = record { text = None; stands = no_value_before; inside = tt }
+    text_before (Some c) h = record { text = Some h.text; stands = value_before h.is h.inside; inside = value_text m.from_class h.text c h.is h.inside }
+
+    pub fits_text : Fits S (text x) (ValueIn (IsInClass m.from_class)) (ValueIn (IsInClass m.into_class))
     fits_text = record {
       shows = λ c h.
-          let v = value_to (m.get_of h.text) (law.gets_utf8 h.text h.inside (value_utf8 h.text c h.is)) in
-          shown_one (text x) c v.0 (record { text = m.get_of h.text; is = v.1; inside = law.gets h.text h.inside }) (by_text is h.inside h.is v.1);
+          let shown = law.gets h.text (value_text m.from_class h.text c h.is h.inside) in
+          let v = value_to (m.get_of h.text) shown.text in
+          shown_one (text x) c v.0 (record { text = m.get_of h.text; is = v.1; inside = shown.in_class }) (by_text is h.inside h.is v.1);
       puts = λ v b h g.
           let old = text_before b g in
-          let c = value_to (m.put_of h.text old.text) (law.puts_utf8 h.text old.text h.inside old.inside (value_utf8 h.text v h.is) old.utf8) in
-          put_one (text x) v b c.0 (record { text = m.put_of h.text old.text; is = c.1; inside = law.puts h.text old.text h.inside old.inside })
+          let put = law.puts h.text old.text (value_text m.into_class h.text v h.is h.inside) old.inside in
+          let c = value_to (m.put_of h.text old.text) put.text in
+          put_one (text x) v b c.0 (record { text = m.put_of h.text old.text; is = c.1; inside = put.in_class })
           (put_text is h.inside h.is old.stands c.1);
       get_put = λ c v h s. back c v s;
       put_get = λ v b c h g p. forth v b c p;
@@ -197,23 +196,24 @@ module _ (S : Setting) where
         back : (c v : Tree) → Shows S (text x) c v → Puts S (text x) v (Some c) c
         back c v (by_text {v = t} {m = k} at h e f) =
             let one : k ≡ m = same_Some k m (sym at ∙ is) in
-            let inside : IsFrom m t = subst (λ k. IsFrom k t) one h in
+            let class : IsInClass m.from_class t = subst (λ k. IsInClass k.from_class t) one h in
+            let inside : IsFrom m t = value_text m.from_class t c e class in
             let shown : IsValue (m.get_of t) v = subst (λ k. IsValue (k.get_of t) v) one f in
-            put_text is (law.gets t inside) shown (value_before e inside) (subst (λ u. IsValue u c) (sym (law.get_put t inside)) e)
+            put_text is (law.gets t inside).in_class shown (value_before e class) (subst (λ u. IsValue u c) (sym (law.get_put t inside)) e)
 
         forth : (v : Tree) (b : Option Tree) (c : Tree) → Puts S (text x) v b c → Shows S (text x) c v
         forth v b c (put_text {w = w} {m = k} {u = u} at h e p f) =
             let one : k ≡ m = same_Some k m (sym at ∙ is) in
-            let inside : IsInto m w = subst (λ k. IsInto k w) one h in
+            let inside : IsInto m w = value_text m.into_class w v e (subst (λ k. IsInClass k.into_class w) one h) in
             let old : IsBefore m u = inside_before (subst (λ k. ValueBefore k b u) one p) in
             let put : IsValue (m.put_of w u) c = subst (λ k. IsValue (k.put_of w u) c) one f in
-            by_text is (law.puts w u inside old) put (subst (λ t. IsValue t v) (sym (law.put_get w u inside old)) e)
+            by_text is (law.puts w u inside old).in_class put (subst (λ t. IsValue t v) (sym (law.put_get w u inside old)) e)
 
         kept : (v b c : Tree) → Puts S (text x) v (Some b) c → Keeps S (text x) b c
         kept v b c (put_text {w = w} {m = k} at h e (value_before {u = u} g i) f) =
             let one : k ≡ m = same_Some k m (sym at ∙ is) in
-            let inside : IsInto m w = subst (λ k. IsInto k w) one h in
-            let old : IsFrom m u = subst (λ k. IsFrom k u) one i in
+            let inside : IsInto m w = value_text m.into_class w v e (subst (λ k. IsInClass k.into_class w) one h) in
+            let old : IsFrom m u = value_text m.from_class u b g (subst (λ k. IsInClass k.from_class u) one i) in
             let put : IsValue (m.put_of w (Some u)) c = subst (λ k. IsValue (k.put_of w (Some u)) c) one f in
             keeps_text is g put (λ same.
             let shown : m.get_of u ≡ w = same ∙ law.put_get w (Some u) inside old in

@@ -5,9 +5,10 @@ use Rattle.std.specs.FinSet.{contains}
 use Rattle.std.specs.Option.{option_map}
 use Rattle.std.proofs.lemmas.Option.{same_Some, none-some}
 use Rattle.hm_tree.specs.Names.{Name}
+use Rattle.hm_tree.specs.Classes.{IsInClass}
 use Rattle.hm_tree.specs.Nodes.{Tree, edges, below}
 use Rattle.hm_schema.specs.Values.{Names}
-use Rattle.hm_text_lens.specs.Meanings.{TextMeaning, IsFrom, IsInto}
+use Rattle.hm_text_lens.specs.Meanings.{TextMeaning}
 use Rattle.hm_text_lens.specs.Naming.{first_named}
 use Rattle.hm_terms.specs.Lenses.{Lens, hoist, plunge, fork, items, copy, merge, text, Setting}
 use Rattle.hm_tree.specs.Parts.{part, Joins}
@@ -47,10 +48,10 @@ module _ (S : Setting) where
       joins_apart x2 y2 v n p q (ap (below n) (one_shown S h one) ∙ at) (ap (below n) (one_shown S i two) ∙ there) j
 
   -- text, of a value whose text isn't of the class that the text lens reads
-  pub text_of_other : (x v : Name) (m : TextMeaning) (c a : Tree) → first_named x S.texts ≡ Some m → IsValue v c → ¬ (IsFrom m v)
+  pub text_of_other : (x v : Name) (m : TextMeaning) (c a : Tree) → first_named x S.texts ≡ Some m → IsValue v c → ¬ (IsInClass m.from_class v)
       → Shows S (text x) c a → ⊥
   text_of_other x v m c a is value other (by_text {v = w} {m = k} at h e f) =
-      other (subst (λ v. IsFrom m v) (one_value w v c e value) (subst (λ (k : TextMeaning). IsFrom k w) (same_Some k m (sym at ∙ is)) h))
+      other (subst (λ v. IsInClass m.from_class v) (one_value w v c e value) (subst (λ (k : TextMeaning). IsInClass k.from_class w) (same_Some k m (sym at ∙ is)) h))
 
   -- ---- nothing is put
 
@@ -82,11 +83,11 @@ module _ (S : Setting) where
 
   -- text, of a value whose text isn't of the class that it shows, and with one from before that isn't of the class that it reads
   pub text_put_other : (x w : Name) (m : TextMeaning) (a c : Tree) (b : Option Tree) → first_named x S.texts ≡ Some m → IsValue w a
-      → ¬ (IsInto m w) → Puts S (text x) a b c → ⊥
+      → ¬ (IsInClass m.into_class w) → Puts S (text x) a b c → ⊥
   text_put_other x w m a c b is value other (put_text {w = v} {m = k} at h e from f) =
-      other (subst (λ w. IsInto m w) (one_value v w a e value) (subst (λ (k : TextMeaning). IsInto k v) (same_Some k m (sym at ∙ is)) h))
+      other (subst (λ w. IsInClass m.into_class w) (one_value v w a e value) (subst (λ (k : TextMeaning). IsInClass k.into_class v) (same_Some k m (sym at ∙ is)) h))
 
   pub text_put_over_other : (x u : Name) (m : TextMeaning) (a b c : Tree) → first_named x S.texts ≡ Some m → IsValue u b
-      → ¬ (IsFrom m u) → Puts S (text x) a (Some b) c → ⊥
+      → ¬ (IsInClass m.from_class u) → Puts S (text x) a (Some b) c → ⊥
   text_put_over_other x u m a b c is value other (put_text {m = k} at h e (value_before {u = v} g i) f) =
-      other (subst (λ u. IsFrom m u) (one_value v u b g value) (subst (λ (k : TextMeaning). IsFrom k v) (same_Some k m (sym at ∙ is)) i))
+      other (subst (λ u. IsInClass m.from_class u) (one_value v u b g value) (subst (λ (k : TextMeaning). IsInClass k.from_class v) (same_Some k m (sym at ∙ is)) i))

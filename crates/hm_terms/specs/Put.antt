@@ -3,10 +3,11 @@ use Rattle.std.specs.Prelude.{◌≡◌, not, Option, Some, None, IfSome}
 use Rattle.std.specs.Option.{option_map}
 use Rattle.std.specs.FinSet.{contains}
 use Rattle.hm_tree.specs.Names.{Name}
+use Rattle.hm_tree.specs.Classes.{IsInClass}
 use Rattle.hm_tree.specs.Nodes.{Tree, below, with_edge, without_edge}
 use Rattle.hm_tree.specs.Archives.{under}
 use Rattle.hm_schema.specs.Values.{Names}
-use Rattle.hm_text_lens.specs.Meanings.{TextMeaning, IsFrom, IsInto}
+use Rattle.hm_text_lens.specs.Meanings.{TextMeaning}
 use Rattle.hm_terms.specs.Lenses.{Lens, Lenses, identity, sequence, constant, hoist, plunge, fork, each, among, copy, merge, items, on_concrete, on_view, text, call, lens_at, Setting, body_of}
 use Rattle.hm_text_lens.specs.Naming.{first_named}
 use Rattle.hm_tree.specs.Parts.{part, Joins}
@@ -28,7 +29,7 @@ before_or d (Some b) = b
 -- the text of the value from before, where there is one: it may be read by a text lens
 pub data ValueBefore (m : TextMeaning) : Option Tree → Option Name → Type 0 where
   no_value_before : ValueBefore m None None
-  value_before : {b : Tree} {u : Name} → IsValue u b → IsFrom m u → ValueBefore m (Some b) (Some u)
+  value_before : {b : Tree} {u : Name} → IsValue u b → IsInClass m.from_class u → ValueBefore m (Some b) (Some u)
 
 -- a lens puts a view a, with a tree b from before or with none, as a tree c
 pub data Puts (S : Setting) : Lens → Tree → Option Tree → Tree → Type 0 where
@@ -69,6 +70,6 @@ pub data Puts (S : Setting) : Lens → Tree → Option Tree → Tree → Type 0 
   put_view_none : {n m : Name} {l k : Lens} {a c : Tree} {b : Option Tree} → below m a ≡ None → Puts S k a (without_name n b) c
       → Puts S (on_view n m l k) a b c
   -- the value through the text lens, with the value from before
-  put_text : {x w : Name} {m : TextMeaning} {a c : Tree} {b : Option Tree} {u : Option Name} → first_named x S.texts ≡ Some m → IsInto m w → IsValue w a
+  put_text : {x w : Name} {m : TextMeaning} {a c : Tree} {b : Option Tree} {u : Option Name} → first_named x S.texts ≡ Some m → IsInClass m.into_class w → IsValue w a
       → ValueBefore m b u → IsValue (m.put_of w u) c → Puts S (text x) a b c
   put_call : {n : Name} {l : Lens} {a c : Tree} {b : Option Tree} → body_of S.definitions n ≡ Some l → Puts S l a b c → Puts S (call n) a b c

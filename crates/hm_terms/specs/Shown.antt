@@ -3,9 +3,10 @@
 use Rattle.std.specs.Prelude.{◌≡◌, not, Some, None}
 use Rattle.std.specs.FinSet.{contains}
 use Rattle.hm_tree.specs.Names.{Name}
+use Rattle.hm_tree.specs.Classes.{IsInClass}
 use Rattle.hm_tree.specs.Nodes.{Tree, below, with_edge, without_edge}
 use Rattle.hm_schema.specs.Values.{Names}
-use Rattle.hm_text_lens.specs.Meanings.{TextMeaning, IsFrom}
+use Rattle.hm_text_lens.specs.Meanings.{TextMeaning}
 use Rattle.hm_terms.specs.Lenses.{Lens, Lenses, identity, sequence, constant, hoist, plunge, fork, each, among, copy, merge, items, on_concrete, on_view, text, call, lens_at, Setting, body_of}
 use Rattle.hm_text_lens.specs.Naming.{first_named}
 use Rattle.hm_tree.specs.Parts.{part, Joins}
@@ -41,7 +42,7 @@ pub data Shows (S : Setting) : Lens → Tree → Tree → Type 0 where
   by_concrete_none : {n : Name} {l k : Lens} {c v : Tree} → below n c ≡ None → Shows S k c v → Shows S (on_concrete n l k) c v
   by_view_has : {n m : Name} {l k : Lens} {c v x : Tree} → below n c ≡ Some x → Shows S l c v → Shows S (on_view n m l k) c v
   by_view_none : {n m : Name} {l k : Lens} {c v : Tree} → below n c ≡ None → Shows S k c v → Shows S (on_view n m l k) c v
-  -- the value through the text lens
-  by_text : {x v : Name} {m : TextMeaning} {c a : Tree} → first_named x S.texts ≡ Some m → IsFrom m v → IsValue v c → IsValue (m.get_of v) a
+  -- the value through the text lens, whose class it is of
+  by_text : {x v : Name} {m : TextMeaning} {c a : Tree} → first_named x S.texts ≡ Some m → IsInClass m.from_class v → IsValue v c → IsValue (m.get_of v) a
       → Shows S (text x) c a
   by_call : {n : Name} {l : Lens} {c v : Tree} → body_of S.definitions n ≡ Some l → Shows S l c v → Shows S (call n) c v

@@ -103,4 +103,5 @@ exchanged_twice (a ∷ b ∷ c ∷ d ∷ p ∷ e ∷ f ∷ q ∷ g ∷ h ∷ [])
 exchanged_twice t = refl
 
 pub swapping_dates_lawful : (name : Name) → IsLawful (swapping_dates name)
-swapping_dates_lawful name = exchange_lawful name Filled exchanged exchanged_filled exchanged_text exchanged_twice
+swapping_dates_lawful name = exchange_lawful name Filled exchanged
+    (λ v h. record { text = exchanged_text v h.text; in_class = exchanged_filled v h.in_class }) (λ v h. exchanged_twice v)

@@ -50,4 +50,5 @@ folded_text v text =
     cond_both (is_folded (folding v)) (folding v) (63 ∷ []) IsText (λ _. folding_text v text) (λ _. low_text (63 ∷ []) (All-from_recursion Low (63 ∷ []) (omega arith, tt)))
 
 pub folding_case_lawful : (name : Name) → IsLawful (folding_case name)
-folding_case_lawful name = normal_form_lawful name Trimmed Folded folded_or_mark (λ v h. folded_shown v) folded_text (λ w h. h.trimmed) folded_same
+folding_case_lawful name = normal_form_lawful name Trimmed Folded folded_or_mark
+    (λ v h. record { text = folded_text v h.text; in_class = folded_shown v }) (λ w h. h.trimmed) (λ w h. folded_same w h.in_class)

@@ -167,4 +167,5 @@ unfolding trimmed
 trimmed_same w h = ap drop_spaces (skip_same w h.front) ∙ drop_same w h.back
 
 pub trimming_lawful : (name : Name) → IsLawful (trimming name)
-trimming_lawful name = normal_form_lawful name Filled Trimmed trimmed trims trimmed_text (λ w h. h.filled) trimmed_same
+trimming_lawful name = normal_form_lawful name Filled Trimmed trimmed
+    (λ v h. record { text = trimmed_text v h.text; in_class = trims v h.in_class }) (λ w h. h.filled) (λ w h. trimmed_same w h.in_class)

@@ -94,4 +94,5 @@ swapped_in-IsSwap ps m table has texts =
     }
 
 pub swap_lawful : (name : Name) (other : Name → Name) → IsSwap other → IsLawful (exchange name Filled other)
-swap_lawful name other swap = exchange_lawful name Filled other (λ v h. filled_from (other v) (swap.stays v (to_filled v h))) swap.texts swap.twice
+swap_lawful name other swap = exchange_lawful name Filled other
+    (λ v h. record { text = swap.texts v h.text; in_class = filled_from (other v) (swap.stays v (to_filled v h.in_class)) }) (λ v h. swap.twice v)

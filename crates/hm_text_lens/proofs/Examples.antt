@@ -1,5 +1,5 @@
--- The laws, tried on small meanings: two that meet them and three that don't; a chain, and a list of text lenses.
-use Rattle.std.proofs.Common.{◌≡◌, T, List, ℕ, zero, suc, [], ◌∷◌, Option, Some, None, refl, ap}
+-- The laws, tried on small meanings: three that meet them and three that don't; a chain, and a list of text lenses.
+use Rattle.std.proofs.Common.{◌≡◌, Bool, true, false, T, List, ℕ, zero, suc, [], ◌∷◌, Option, Some, None, refl, sym, ap, ◌∙◌, subst}
 use Rattle.std.specs.Prelude.{codes}
 use Rattle.std.specs.Char.{encode_utf8}
 use Rattle.std.specs.Str.{is_utf8, chars}
@@ -11,8 +11,11 @@ use Rattle.hm_tree.specs.Classes.{IsClean}
 use Rattle.hm_tree.proofs.Texts.{ascii_test, text_test, text_tested}
 use Rattle.hm_text_lens.specs.Chains.{chain_of}
 use Rattle.hm_text_lens.specs.ChainLaws.{chain_lawful}
-use Rattle.hm_text_lens.specs.Meanings.{TextMeaning, IsLawful}
+use Rattle.hm_text_lens.specs.Meanings.{TextMeaning, IsTextIn, IsFrom, IsInto, IsLawful}
 use Rattle.hm_text_lens.specs.Naming.{first_named}
+
+of_any : (v : Name) → T (is_utf8 v) → IsTextIn Any v
+of_any v text = record { text = text; in_class = tt }
 
 -- ---- a lens that shows a text as it is
 
@@ -31,17 +34,15 @@ unfolding same
 same_lawful = record {
   gets = λ v h. h;
   puts = λ w b h g. h;
-  gets_utf8 = λ v h text. text;
-  puts_utf8 = λ w b h g text before. text;
   get_put = λ v h. refl;
   put_get = λ w b h g. refl;
   hides = λ u v h g e f. e;
 }
 
 -- it doesn't meet the laws where it shows more texts than it may read
-same_wider : (w : Name) → ¬ (IsClean w) → ¬ (IsLawful (same Clean Any))
+same_wider : (w : Name) → T (is_utf8 w) → ¬ (IsClean w) → ¬ (IsLawful (same Clean Any))
 unfolding same
-same_wider w not_clean law = not_clean (law.puts w None tt tt)
+same_wider w text not_clean law = not_clean (law.puts w None (of_any w text) tt).in_class
 
 -- ---- a lens that hides a zero at the front of a text, and keeps it
 
@@ -80,10 +81,8 @@ hiding = record {
 hiding_lawful : IsLawful hiding
 unfolding hiding rest behind_none behind_first first_zero encode_utf8
 hiding_lawful = record {
-  gets = λ v h. tt;
-  puts = λ w b h g. tt;
-  gets_utf8 = λ v h text. shown_text v text;
-  puts_utf8 = λ w b h g text before. put_text w b text;
+  gets = λ v h. of_any (rest v) (shown_text v h.text);
+  puts = λ w b h g. of_any (behind_first w b) (put_text w b h.text);
   get_put = λ v h. back v;
   put_get = λ w b h g. forth w b;
   hides = λ u v h g e f. told u v e f;
@@ -153,14 +152,50 @@ cutting = record {
 }
 
 -- it shows the second byte of a character alone
-cutting_shows_part : ((v : Name) → T (is_utf8 v) → T (is_utf8 (cutting.get_of v))) → ⊥
+cutting_lawless : ¬ (IsLawful cutting)
 unfolding cutting after_byte is_utf8 chars encode_utf8
-cutting_shows_part holds = holds (195 ∷ 169 ∷ []) tt
+cutting_lawless law = (law.gets (195 ∷ 169 ∷ []) (of_any (195 ∷ 169 ∷ []) tt)).text
 
 -- and puts the first byte of one before other characters
-cutting_puts_part : ((w : Name) → T (is_utf8 w) → T (is_utf8 (cutting.put_of w None))) → ⊥
+cutting_puts_part : ((w : Name) → IsInto cutting w → IsFrom cutting (cutting.put_of w None)) → ⊥
 unfolding cutting is_utf8 chars encode_utf8
-cutting_puts_part holds = holds (97 ∷ []) tt
+cutting_puts_part holds = (holds (97 ∷ []) (of_any (97 ∷ []) tt)).text
+
+-- ---- a lens that shows nothing of bytes that are no text: nobody asks it of them
+
+text_or_none : Bool → Name → Name
+text_or_none true v = v
+text_or_none false v = []
+
+careless : TextMeaning
+careless = record {
+  name = codes "careless";
+  from_class = Any;
+  into_class = Any;
+  get_of = λ v. text_or_none (is_utf8 v) v;
+  put_of = λ w b. text_or_none (is_utf8 w) w;
+  hidden_of = λ v. [];
+}
+
+careless_lawful : IsLawful careless
+unfolding careless text_or_none
+careless_lawful = record {
+  gets = λ v h. subst (IsTextIn Any) (sym (kept v h.text)) h;
+  puts = λ w b h g. subst (IsTextIn Any) (sym (kept w h.text)) h;
+  get_put = λ v h. twice v h.text;
+  put_get = λ w b h g. twice w h.text;
+  hides = λ u v h g e f. sym (kept u h.text) ∙ e ∙ kept v g.text;
+}
+  where
+    as_it_is : (b : Bool) (v : Name) → T b → text_or_none b v ≡ v
+    as_it_is true v is = refl
+    as_it_is false v is = absurd is
+
+    kept : (v : Name) → T (is_utf8 v) → text_or_none (is_utf8 v) v ≡ v
+    kept v text = as_it_is (is_utf8 v) v text
+
+    twice : (v : Name) → T (is_utf8 v) → text_or_none (is_utf8 (text_or_none (is_utf8 v) v)) (text_or_none (is_utf8 v) v) ≡ v
+    twice v text = ap (λ w. text_or_none (is_utf8 w) w) (kept v text) ∙ kept v text
 
 -- ---- a lens that shows one text of all, and so loses what is put
 
@@ -175,10 +210,10 @@ forgetful = record {
 }
 
 forgetful_lawless : ¬ (IsLawful forgetful)
-unfolding forgetful
+unfolding forgetful is_utf8 chars encode_utf8
 forgetful_lawless law =
     let none : List ℕ = [] in
-    let lost : none ≡ 97 ∷ [] = law.get_put (97 ∷ []) tt in
+    let lost : none ≡ 97 ∷ [] = law.get_put (97 ∷ []) (of_any (97 ∷ []) tt) in
     let f : ⊥ = cc in f
 
 -- ---- a chain of two lenses that each hide a zero at the front hides two

@@ -1,12 +1,10 @@
 -- A chain meets the laws where its two parts do, and the texts that the first shows are those that the second reads.
-use Rattle.std.proofs.Common.{◌≡◌, ℕ, T, IfSome, List, ◌∷◌, ◌++◌, length, take, drop, Option, Some, None, sym, ap, ◌∙◌, subst}
+use Rattle.std.proofs.Common.{◌≡◌, ℕ, List, ◌∷◌, ◌++◌, length, take, drop, Option, Some, None, sym, ap, ◌∙◌, subst}
 use Rattle.std.specs.Option.{option_map}
-use Rattle.std.specs.Str.{is_utf8}
 use Rattle.std.proofs.Math.Seq.{take-append_seam, drop-append_seam}
 use Rattle.hm_tree.specs.declared.class.Class.{Class}
 use Rattle.hm_tree.specs.Names.{Name}
-use Rattle.hm_tree.specs.Classes.{IsInClass}
-use Rattle.hm_text_lens.specs.Meanings.{TextMeaning, IsLawful, IsFrom, IsInto, IsBefore}
+use Rattle.hm_text_lens.specs.Meanings.{TextMeaning, IsTextIn, IsLawful, IsFrom, IsInto, IsBefore}
 use Rattle.hm_text_lens.specs.Chains.{chain_of}
 
 -- two lists behind the length of the first are told apart
@@ -20,10 +18,10 @@ parts_of a b c d e =
 
 module _ (name : Name) (first second : TextMeaning) (one : IsLawful first) (two : IsLawful second) (classes : first.into_class ≡ second.from_class) where
   to_second : (v : Name) → IsInto first v → IsFrom second v
-  to_second v h = subst (λ (c : Class). IsInClass c v) classes h
+  to_second v h = subst (λ (c : Class). IsTextIn c v) classes h
 
   to_first : (v : Name) → IsFrom second v → IsInto first v
-  to_first v h = subst (λ (c : Class). IsInClass c v) (sym classes) h
+  to_first v h = subst (λ (c : Class). IsTextIn c v) (sym classes) h
 
   shown : (v : Name) → IsFrom first v → IsFrom second (first.get_of v)
   shown v h = to_second (first.get_of v) (one.gets v h)
@@ -32,22 +30,10 @@ module _ (name : Name) (first second : TextMeaning) (one : IsLawful first) (two 
   shown_before None h = tt
   shown_before (Some v) h = shown v h
 
-  -- a text from before is UTF-8, and so is what is shown of it
-  abbrev IsText : Option Name → Type 0
-  IsText b = IfSome b (λ u. T (is_utf8 u))
-
-  text_before : (b : Option Name) → IsBefore first b → IsText b → IsText (option_map first.get_of b)
-  text_before None h text = tt
-  text_before (Some v) h text = one.gets_utf8 v h text
-
   pub chain_lawful : IsLawful (chain_of name first second)
   chain_lawful = record {
     gets = λ v h. two.gets (first.get_of v) (shown v h);
     puts = λ w b hw hb. one.puts _ b (to_first _ (two.puts w (option_map first.get_of b) hw (shown_before b hb))) hb;
-    gets_utf8 = λ v h text. two.gets_utf8 (first.get_of v) (shown v h) (one.gets_utf8 v h text);
-    puts_utf8 = λ w b hw hb text before.
-        let middle = two.puts_utf8 w (option_map first.get_of b) hw (shown_before b hb) text (text_before b hb before) in
-        one.puts_utf8 _ b (to_first _ (two.puts w (option_map first.get_of b) hw (shown_before b hb))) hb middle before;
     get_put = λ v h. ap (λ t. first.put_of t (Some v)) (two.get_put (first.get_of v) (shown v h)) ∙ one.get_put v h;
     put_get = λ w b hw hb.
         ap second.get_of (one.put_get _ b (to_first _ (two.puts w (option_map first.get_of b) hw (shown_before b hb))) hb)

@@ -15,24 +15,27 @@ pub record TextMeaning : Type 0 where
   pub put_of : Name → Option Name → Name
   pub hidden_of : Name → List ℕ
 
+-- a text of a class: a name that is UTF-8, as those of trees are
+pub record IsTextIn (c : Class) (v : Name) : Type 0 where
+  pub text : T (is_utf8 v)
+  pub in_class : IsInClass c v
+
 -- a text that may be read, and one that may be put
 abbrev pub IsFrom : TextMeaning → Name → Type 0
-IsFrom m v = IsInClass m.from_class v
+IsFrom m v = IsTextIn m.from_class v
 
 abbrev pub IsInto : TextMeaning → Name → Type 0
-IsInto m w = IsInClass m.into_class w
+IsInto m w = IsTextIn m.into_class w
 
 -- a text from before, or none
 abbrev pub IsBefore : TextMeaning → Option Name → Type 0
 IsBefore m b = IfSome b (IsFrom m)
 
+-- the laws speak of texts alone: of other lists of bytes a text lens may make anything
 pub record IsLawful (m : TextMeaning) : Type 0 where
-  -- both functions stay within the classes
+  -- both functions stay within the texts of the classes
   pub gets : (v : Name) → IsFrom m v → IsInto m (m.get_of v)
   pub puts : (w : Name) (b : Option Name) → IsInto m w → IsBefore m b → IsFrom m (m.put_of w b)
-  -- and of what is UTF-8 they make such
-  pub gets_utf8 : (v : Name) → IsFrom m v → T (is_utf8 v) → T (is_utf8 (m.get_of v))
-  pub puts_utf8 : (w : Name) (b : Option Name) → IsInto m w → IsBefore m b → T (is_utf8 w) → IfSome b (λ u. T (is_utf8 u)) → T (is_utf8 (m.put_of w b))
   -- what is shown of a text and put back gives the text
   pub get_put : (v : Name) → IsFrom m v → m.put_of (m.get_of v) (Some v) ≡ v
   -- what is put is shown again

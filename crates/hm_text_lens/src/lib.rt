@@ -2,9 +2,9 @@
 //!
 //! A text lens goes between the texts of one class and those of another. Its meaning is two functions and what it hides
 //! (`specs/Meanings`), and the laws are those of lenses between trees (TOPLAS 2007, section 3): what is shown of a text
-//! and put back, with that text from before, gives that text, and a text that is put is shown again. Two text lenses in
-//! a chain are one (`chain`), and of text lenses in a list each is found by its name (`named`). It knows none of the
-//! lenses that stand in a chain or a list.
+//! and put back, with that text from before, gives that text, and a text that is put is shown again. Texts are names
+//! that are UTF-8, and nothing is asked of it at other bytes. Two text lenses in a chain are one (`chain`), and of text
+//! lenses in a list each is found by its name (`named`). It knows none of the lenses that stand in a chain or a list.
 //!
 //! Proved: each object of the trait meets the laws (`specs/Meanings`). A `Chain` of two text lenses, of which the
 //! second reads the texts that the first shows, meets them by the laws of its two parts alone. `first_named` gives the

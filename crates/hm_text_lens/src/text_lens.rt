@@ -1,7 +1,6 @@
 //! Lenses between texts.
-ghost use Rattle.std.specs.Prelude.{◌≡◌, IfOk, IfSome};
-ghost use Rattle.std.specs.Option.{option_map};
-ghost use Rattle.hm_text_lens.specs.Meanings.{TextMeaning, IsLawful, IsFrom, IsInto};
+ghost use Rattle.std.specs.Prelude.{◌≡◌, IfOk, option_copied};
+ghost use Rattle.hm_text_lens.specs.Meanings.{TextMeaning, IsLawful, IsFrom, IsInto, IsBefore};
 
 use hm_tree::{Class, Memory, Name};
 use std::alloc::Global;
@@ -32,8 +31,8 @@ pub trait TextLens: Drop {
     /// The text that comes of a shown one and of the text from before, if there was one.
     fn put(&self, alloc: Global, text: &Name, before: Option<&Name>) -> Result<Name, Memory>
         requires text { IsInto (meaning self.now) text.now }
-        requires before { IfSome before (λ b. IsFrom (meaning self.now) b.now) }
-        ensures { IfOk result (λ made. made ≡ (meaning self.now).put_of text.now (option_map (λ b. b.now) before.entry)) };
+        requires before { IsBefore (meaning self.now) (option_copied before) }
+        ensures { IfOk result (λ made. made ≡ (meaning self.now).put_of text.now (option_copied before.entry)) };
 
     /// The laws, where the type is known. Where it isn't, `name` has them.
     ghost lawful: { (x : Self) → IsLawful (meaning x) };

@@ -9,7 +9,7 @@ use Rattle.hm_tree.specs.Names.{Name}
 use Rattle.hm_tree.specs.Nodes.{Tree, empty}
 use Rattle.hm_schema.specs.declared.node.Shape.{Shape}
 use Rattle.hm_schema.specs.Values.{NodeOver}
-use Rattle.hm_text_lens.specs.Meanings.{TextMeaning, IsLawful, IsFrom, IsInto}
+use Rattle.hm_text_lens.specs.Meanings.{TextMeaning, IsLawful}
 use Rattle.hm_text_lens.specs.Naming.{is_named, first_named}
 use Rattle.hm_terms.specs.Lenses.{text, Setting, Definitions}
 use Rattle.hm_tree_parts.specs.Edges.{IsEdge, ValueIn}
@@ -109,8 +109,8 @@ module _ (S : Setting) (d : ℕ) (x : Name) (c e : Class) (between : IsTextBetwe
   text_fits u n a h =
       let m = between.meaning in
       let v = formed (with_class e n) in
-      fits_alike S d (text x) (ValueIn (IsFrom m)) (ValueIn (IsInto m)) (Member u) (Member v)
+      fits_alike S d (text x) (ValueIn (IsInClass m.from_class)) (ValueIn (IsInClass m.into_class)) (Member u) (Member v)
       (subst (λ c. Alike (Member u) (ValueIn (IsInClass c))) (sym between.from) (values_alike c u n a h))
       (subst (λ e. Alike (Member v) (ValueIn (IsInClass e))) (sym between.into)
       (values_alike e v (with_class e n) (other_values c u n a h e) (classed_sound c e u n a h)))
-      (fits_to S (text x) (ValueIn (IsFrom m)) (ValueIn (IsInto m)) (fits_text S x m between.is between.lawful) d)
+      (fits_to S (text x) (ValueIn (IsInClass m.from_class)) (ValueIn (IsInClass m.into_class)) (fits_text S x m between.is between.lawful) d)

@@ -1,4 +1,4 @@
-use Rattle.hm_eval_terms.proofs.ValueSteps.{lent, put_found, put_one, old_one, writable, old_readable, text_puts}
+use Rattle.hm_eval_terms.proofs.ValueSteps.{put_found, put_one, old_one, writable, old_readable, text_puts}
 use Rattle.hm_eval_terms.proofs.texts.put_text.Goals as goal
 
 pub named-lens-requires : goal.named-lens-requires
@@ -15,7 +15,7 @@ made_by-requires-clause-text g c = writable _ _ _ _ c.requires _ _ _ c.named-len
 
 pub made_by-requires-clause-before : goal.made_by-requires-clause-before
 made_by-requires-clause-before g c =
-    lent _ c.name_before-old.result (old_readable _ _ _ _ c.requires _ _ _ c.named-lens.ensures c.value_of.ensures c.name_before-old.ensures)
+    old_readable _ _ _ _ c.requires _ _ _ c.named-lens.ensures c.value_of.ensures c.name_before-old.ensures
 
 pub returns : goal.returns
 returns g c =
