@@ -88,6 +88,11 @@ module _ (m : FormatMeaning) (texts : List TextMeaning) (t : TypedValue) (laws :
     abbrev is_put : (tree : Tree) → Puts (setting_in texts t) (main_in t) shown (Some replica.tree) tree → IsPut m texts t r.bytes shown tree
     is_put tree put = record { before = replica.tree; read = replica.read; puts = put }
 
+    reads_back : (tree : Tree) (bytes : List ℕ) → Puts (setting_in texts t) (main_in t) shown (Some replica.tree) tree → m.over tree ≡ None
+        → m.writes (options_in t) tree r.bytes bytes → m.reads (options_in t) bytes (Ok tree)
+    reads_back tree bytes put within made =
+        laws.put_get (options_in t) t.source r.bytes bytes replica.tree tree typed.sound typed.schema replica.read (new tree put) within made
+
     closed : (tree : Tree) (bytes : List ℕ) → Puts (setting_in texts t) (main_in t) shown (Some replica.tree) tree → m.over tree ≡ None
         → m.writes (options_in t) tree r.bytes bytes → IsClosed m texts t r shown bytes
     closed tree bytes put within made = record {
@@ -95,9 +100,10 @@ module _ (m : FormatMeaning) (texts : List TextMeaning) (t : TypedValue) (laws :
       put = is_put tree put;
       within = within;
       written = made;
+      reads = reads_back tree bytes put within made;
       replica = record {
         tree = tree;
-        read = laws.put_get (options_in t) t.source r.bytes bytes replica.tree tree typed.sound typed.schema replica.read (new tree put) within made;
+        read = reads_back tree bytes put within made;
         shown = typed.fits.put_get shown (Some replica.tree) tree there old put;
         kept = refl;
       };

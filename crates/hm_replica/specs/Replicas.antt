@@ -82,13 +82,15 @@ pub record IsPut (m : FormatMeaning) (texts : List TextMeaning) (t : TypedValue)
   pub read : m.reads (options_in t) bytes (Ok before)
   pub puts : Puts (setting_in texts t) (main_in t) shown (Some before) tree
 
--- bytes that are written of a view: those of the tree that is put, which is within the limit; they are a replica of the
--- view; what the lens and what the format don't show is kept; and where the view is that of the replica, so are the bytes
+-- bytes that are written of a view: those of the tree that is put, which is within the limit; they are read as that
+-- tree, and are a replica of the view; what the lens and what the format don't show is kept; and where the view is that
+-- of the replica, so are the bytes
 pub record IsClosed (m : FormatMeaning) (texts : List TextMeaning) (t : TypedValue) (r : ReplicaValue) (shown : Tree) (bytes : List ℕ) : Type 0 where
   pub tree : Tree
   pub put : IsPut m texts t r.bytes shown tree
   pub within : m.over tree ≡ None
   pub written : m.writes (options_in t) tree r.bytes bytes
+  pub reads : m.reads (options_in t) bytes (Ok tree)
   pub replica : IsReplica m texts t (record { bytes = bytes; concrete = kept_by (main_in t) tree; view = shown })
   pub lens_keeps : Keeps (setting_in texts t) (main_in t) put.before tree
   pub format_keeps : m.keeps (options_in t) r.bytes bytes
