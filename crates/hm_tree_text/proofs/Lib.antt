@@ -6,6 +6,7 @@ mod Parts
 mod Behind
 mod Listed
 mod Deep
+mod DeepTrees
 mod Forms
 mod Making
 mod Gathering
@@ -17,3 +18,4 @@ mod Completing
 mod Sharing
 mod Walking
 mod FirstTrees
+pub mod SomeReading

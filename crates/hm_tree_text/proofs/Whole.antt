@@ -252,7 +252,7 @@ archive_file : (s : List ℕ) → IsFile true s → IsArchiveFile s
 archive_file s f = (Some f.node, f.is)
 
 -- in an archive marks may stand
-any_marks : (s : Shape) → HasAllowedMarks true s
+pub any_marks : (s : Shape) → HasAllowedMarks true s
 any_marks bare = tt
 any_marks mark = tt
 any_marks (edge k c r) = (any_marks c, any_marks r)

@@ -15,7 +15,8 @@
 //!
 //! Proved: `read_tree` and `read_archive` give the value that the bytes are the text of, to a depth of 1,000, or tell
 //! exactly what is wrong: too many open braces, or the first byte that no text can have there. `write_tree` and
-//! `write_archive` give the text of each value, which is UTF-8, and each value has one text.
+//! `write_archive` give the text of each value, which is UTF-8, and each value has one text. All bytes are read or
+//! refused (`proofs/SomeReading`).
 #![tactic(auto)]
 
 mod built;
