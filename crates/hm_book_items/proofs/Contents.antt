@@ -1,5 +1,5 @@
 -- Items whose contents are read through functions survive as they do; and a list of items has a tree.
-use Rattle.std.proofs.Common.{◌≡◌, ◌≢◌, ℕ, zero, suc, Bool, true, false, cond, List, [], ◌∷◌, ◌++◌, length, slice_get, drop, Option, Some, None, refl, sym, ap, ◌∙◌, arith}
+use Rattle.std.proofs.Common.{◌≡◌, ◌≢◌, ℕ, zero, suc, Bool, true, false, cond, List, [], ◌∷◌, ◌++◌, length, slice_get, drop, Option, Some, None, refl, sym, ap, ◌∙◌, arith, T}
 use Rattle.std.specs.declared.cmp.Ordering.{Ordering}
 use Rattle.std.specs.declared.cmp.Ordering.TheVariants.{Equal}
 use Rattle.std.specs.Ordering.{eq_by_cmp}
@@ -7,6 +7,13 @@ use Rattle.std.specs.Option.{unwrap_or, option_map}
 use Rattle.std.specs.Cmp.{IsTotalOrder}
 use Rattle.std.specs.FinMap.{find, put}
 use Rattle.std.specs.FinMap.Entries.{find-put, is_sorted-put}
+use Rattle.hm_tree.specs.Names.{Name, name_cmp}
+use Rattle.hm_tree.specs.Nodes.{Tree, are_texts, are_edges, first, second}
+use Rattle.hm_tree.proofs.Sorted.{name_total, name_one, edges_put}
+use Rattle.hm_tree.proofs.Texts.{text_tested}
+use Rattle.std.specs.Str.{is_utf8}
+use Rattle.hm_book_items.specs.ItemTrees.{IsItemTree, tree_of_lists}
+use Rattle.hm_book_items.proofs.Lists.{standing_tree}
 use Rattle.hm_book_items.specs.Items.{of_key, below_key, IsGrouped, survivor, kept, fresh, added, IsRewritten}
 use Rattle.hm_book_items.proofs.ReadBack.{same}
 
@@ -130,3 +137,23 @@ module _ {K : Type 0} (R : K → K → Ordering) (total : IsTotalOrder R) (one :
     pub rewritten_through : (old : List (K × C)) (tree : List (K × List A)) (new : List (K × Option C × A)) → IsRewritten R old tree new → IsRewritten R (olds old) (trees tree) (news new)
     rewritten_through old tree new made =
         ap news made ∙ news-append (kept R tree [] old) (added R old tree) ∙ ap (λ l. l ++ news (added R old tree)) (sym (all_kept tree [] old)) ∙ ap (λ l. kept R (trees tree) [] (olds old) ++ l) (sym (all_added old tree))
+
+-- ---- the tree of items whose keys are UTF-8
+
+lists_of : List (Name × Tree) → List (Name × List Tree)
+lists_of = tree_of name_cmp name_total name_one
+
+lists_fit : (items : List (Name × Tree)) → T (are_texts items) → T (are_edges (lists_of items))
+unfolding lists_of tree_of
+lists_fit [] texts = tt
+lists_fit (x ∷ xs) texts =
+    edges_put x.0 (x.1 ∷ below_key name_cmp x.0 (lists_of xs)) (lists_of xs) (text_tested x.0 (first _ _ texts))
+    (lists_fit xs (second (is_utf8 x.0) _ texts))
+
+pub some_tree : (items : List (Name × Tree)) → T (are_texts items) → (t : Tree) × IsItemTree items t
+unfolding lists_of
+some_tree items texts =
+    let ls = lists_of items in (
+      tree_of_lists ls,
+      record { lists = ls; grouped = tree_grouped name_cmp name_total name_one items; below = standing_tree ls (lists_fit items texts) },
+    )
