@@ -1,4 +1,5 @@
 -- One reading of all bytes, and what is written is read back.
+pub use Rattle.hm_csv_records.proofs.SomeRecords.{records_there}
 use Rattle.std.proofs.Common.{◌≡◌, ◌≢◌, ℕ, suc, Bool, true, false, arith, map, List, [], ◌∷◌, refl, sym, ap, subst, ◌∙◌}
 use Rattle.std.specs.Prelude.{◌↔◌, IsTrue, IsUtf8, Result, Ok, Err, All, length}
 use Rattle.std.proofs.lemmas.List.Elements.{All-nil, All-cons, All-head}

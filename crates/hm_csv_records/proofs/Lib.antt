@@ -1,6 +1,7 @@
 mod Rows
 mod Writing
 mod Once
+mod SomeRecords
 mod Texts
 mod Filled
 mod ReadBack
