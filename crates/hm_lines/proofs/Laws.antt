@@ -2,6 +2,7 @@
 -- one way to part a line.
 pub use Rattle.hm_lines.proofs.UnfoldedLines.{ended, folded_unfolded, ended_lines, folded_lines, ended_utf8, lines_no_feed}
 pub use Rattle.hm_lines.proofs.Once.{pieces_once, folded_once, all_folded_once, parted_once}
+pub use Rattle.hm_lines.proofs.SomeFold.{all_folded_there}
 pub use Rattle.hm_lines.proofs.LineTexts.{lines_utf8}
 pub use Rattle.hm_lines.proofs.EscapedText.{escaped_utf8, unescaped_utf8}
 pub use Rattle.hm_lines.proofs.Escapes.{plain_byte}

@@ -13,5 +13,6 @@ mod ContentLines
 mod FoldedPieces
 mod UnfoldedLines
 mod Once
+mod SomeFold
 pub mod Laws
 pub mod LowerCase
