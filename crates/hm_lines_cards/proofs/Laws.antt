@@ -2,7 +2,7 @@
 -- own card stay; of lines that are rewritten stays what has to; lines of no property stay, in their order, and so does the key
 -- that they show; and what is rewritten are content lines of UTF-8 again, which can be folded and read.
 pub use Rattle.hm_lines_cards.proofs.PropertyNames.{property_found}
-pub use Rattle.hm_lines_cards.proofs.OwnCards.{shown_card, own_texts}
+pub use Rattle.hm_lines_cards.proofs.OwnCards.{shown_card, own_texts, texts_utf8}
 pub use Rattle.hm_lines_cards.proofs.ShownCards.{rewritten_shows, rewritten_few}
 pub use Rattle.hm_lines_cards.proofs.StayingLines.{rewritten_stays}
 pub use Rattle.hm_lines_cards.proofs.KeptLines.{lines_kept}

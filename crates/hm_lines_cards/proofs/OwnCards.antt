@@ -61,6 +61,9 @@ texts_are q (l ∷ ls) is utf8 = go (text_shown q l) refl (texts_are q ls (All-t
     go None e rest = rest
     go (Some t) e rest = All-cons IsText t (texts_of q ls) (text_is q l (All-head IsLine l ls is) (All-head (λ (l : Line). IsUtf8 l.0) l ls utf8) t e) rest
 
+pub texts_utf8 : (q : Name) (ls : List Line) → All IsLine ls → All (λ (l : Line). IsUtf8 l.0) ls → All IsUtf8 (texts_of q ls)
+texts_utf8 q ls is utf8 = λ k d lt. (texts_are q ls is utf8 k d lt).text
+
 -- the set of one name at the most
 few_len : (names : List Name) → length names ≤ 1 → len (from_list {R = name_cmp} names) ≤ 1
 few_len [] few = let none = len-empty name_cmp in omega (arith, none)
