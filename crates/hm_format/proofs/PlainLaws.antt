@@ -1,10 +1,11 @@
 -- The format of texts of trees meets the laws.
-use Rattle.std.proofs.Common.{◌≡◌, ◌≢◌, ℕ, List, [], length, Some, None, Result, Ok, Err, sym, ap, subst, ◌∙◌}
+use Rattle.std.proofs.Common.{◌≡◌, ◌≢◌, ℕ, List, [], length, Some, None, Result, Ok, Err, refl, sym, ap, subst, ◌∙◌}
 use Rattle.std.specs.Prelude.{IsUtf8}
 use Rattle.hm_tree.specs.Nodes.{Tree}
 use Rattle.hm_tree.specs.States.{Path, state}
 use Rattle.hm_tree.proofs.PathLaws.{first_once}
 use Rattle.hm_tree_text.specs.Files.{IsTreeText}
+use Rattle.hm_tree_text.specs.Text.{tree_text}
 use Rattle.hm_tree_text.specs.Faults.{TreeFaults}
 use Rattle.hm_tree_text.specs.declared.fault.TextFault.{TextFault}
 use Rattle.hm_tree_text.specs.declared.fault.TextFault.TheVariants.{BadTree, TooDeep as DeepText, Memory as NoMemory}
@@ -21,6 +22,8 @@ use Rattle.hm_format.specs.Formats.{IsLawful, IsReadFault, HasSchema}
 use Rattle.hm_schema.specs.Membership.{IsMemberTree}
 use Rattle.hm_format.proofs.Limits.{shallow, not_over}
 use Rattle.hm_format.proofs.Accepted.{schema_given, no_bad_key}
+use Rattle.hm_existence.proofs.Existence.{from_one}
+use Rattle.hm_format.proofs.SomePlain.{some_read}
 use Rattle.hm_format.specs.Plain.{IsOutsideText, PlainReads, plain, plain_rules, plain_schema}
 
 -- a text is UTF-8
@@ -108,10 +111,12 @@ pub plain_lawful : IsLawful plain
 plain_lawful = record {
   read_once = λ o. read_once (plain_schema o);
   read_faults = λ o. read_faults (plain_schema o);
+  some_read = λ o s bytes sound has. some_read (plain_schema o) (twinless o sound) bytes;
   no_twins = λ o s sound has. subst HasNoTwins (schema_is o s has) (twinless o sound);
   members = λ o s bytes t sound has h. subst (λ s. IsMemberTree s t) (schema_is o s has) h.1;
   within = λ o s bytes t has h. not_over t h.0.shallow;
   writes_once = λ o t before one other h k. h ∙ sym k;
+  some_written = λ o s before old t sound has read member over. from_one (λ after. after ≡ tree_text t) (tree_text t) refl;
   put_get = λ o s before after old t sound has read member over made.
       (record { spelled = made; shallow = shallow t over }, subst (λ s. IsMemberTree s t) (sym (schema_is o s has)) member);
   get_put = λ o before t sound h. h.0.spelled;

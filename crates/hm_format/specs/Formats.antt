@@ -1,5 +1,6 @@
 -- What formats mean, and the laws that they meet (TOPLAS 2007, section 3: PutGet and GetPut).
 use Rattle.std.specs.Prelude.{◌≡◌, ℕ, nat_lt, cond, List, Option, Some, None, Result, Ok, Err}
+use Rattle.hm_existence.specs.Existence.{IsThere}
 use Rattle.hm_tree.specs.Names.{Name}
 use Rattle.hm_tree.specs.Nodes.{Tree, depth}
 use Rattle.hm_schema.specs.Values.{SchemaValue, OptionsValue}
@@ -59,13 +60,19 @@ pub record IsLawful (m : FormatMeaning) : Type 0 where
   -- bytes are read as one tree, or refused for one fault
   pub read_once : (o : OptionsValue) (bytes : List ℕ) (r s : Result Tree FormatFault) → m.reads o bytes r → m.reads o bytes s → r ≡ s
   pub read_faults : (o : OptionsValue) (bytes : List ℕ) (f : FormatFault) → m.reads o bytes (Err f) → IsReadFault f
+  -- whatever the bytes are, they are read or refused, where the options are the format's
+  pub some_read : (o : OptionsValue) (s : SchemaValue) (bytes : List ℕ) → AreSound o → HasSchema m o s → IsThere (m.reads o bytes)
   -- schemas have no twins
   pub no_twins : (o : OptionsValue) (s : SchemaValue) → AreSound o → HasSchema m o s → HasNoTwins s
   -- what is read is a member of the schema, within the limit of depth
   pub members : (o : OptionsValue) (s : SchemaValue) (bytes : List ℕ) (t : Tree) → AreSound o → HasSchema m o s → m.reads o bytes (Ok t) → IsMemberTree s t
   pub within : (o : OptionsValue) (s : SchemaValue) (bytes : List ℕ) (t : Tree) → HasSchema m o s → m.reads o bytes (Ok t) → m.over t ≡ None
-  -- of a tree one text is written, and it is read as the tree
+  -- of a tree one text is written at the most
   pub writes_once : (o : OptionsValue) (t : Tree) (before one other : List ℕ) → m.writes o t before one → m.writes o t before other → one ≡ other
+  -- and there is one, of each member of the schema within the limit, where the bytes from before are read
+  pub some_written : (o : OptionsValue) (s : SchemaValue) (before : List ℕ) (old t : Tree) → AreSound o → HasSchema m o s → m.reads o before (Ok old)
+      → IsMemberTree s t → m.over t ≡ None → IsThere (m.writes o t before)
+  -- what is written is read as the tree
   pub put_get : (o : OptionsValue) (s : SchemaValue) (before after : List ℕ) (old t : Tree) → AreSound o → HasSchema m o s → m.reads o before (Ok old)
       → IsMemberTree s t → m.over t ≡ None → m.writes o t before after → m.reads o after (Ok t)
   -- and the bytes stay where they are read as the tree

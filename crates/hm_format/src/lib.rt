@@ -9,12 +9,12 @@
 //!
 //! `Plain` is the format of files that are the text of a tree (`hm_tree_text`), which hide nothing.
 //!
-//! Proved: each object of the trait meets its laws (`specs/Formats`): bytes are read as one tree or refused for one
-//! fault, what is read is a member of the schema of the options, what is written is read as the tree, keeps what trees
-//! don't show, and is the bytes from before where these are read as the tree. `first_bad_key` gives the first key for
-//! which options aren't those of a format with a table of keys, or none where they are (`specs/Options`). Of `Plain`
-//! the first byte that isn't UTF-8, the fault of `read_tree`, or the first path whose names aren't permitted is told
-//! exactly (`specs/Plain`).
+//! Proved: each object of the trait meets its laws (`specs/Formats`): all bytes are read as one tree or refused for one
+//! fault, what is read is a member of the schema of the options, and of each tree that may be written there is one
+//! text, which is read as the tree, keeps what trees don't show, and is the bytes from before where these are read as
+//! the tree. `first_bad_key` gives the first key for which options aren't those of a format with a table of keys, or
+//! none where they are (`specs/Options`). Of `Plain` the first byte that isn't UTF-8, the fault of `read_tree`, or the
+//! first path whose names aren't permitted is told exactly (`specs/Plain`).
 #![tactic(auto)]
 
 mod fault;
