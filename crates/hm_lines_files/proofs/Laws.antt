@@ -15,6 +15,9 @@ use Rattle.hm_lines_files.specs.Writing.{meaning_of, stays}
 use Rattle.hm_lines_files.specs.FormLaws.{IsForm}
 use Rattle.hm_lines_files.proofs.ReadOnce.{read_once, read_faults}
 use Rattle.hm_lines_files.proofs.FileLaws.{writes_once, members, put_get, keeps}
+use Rattle.hm_lines_files.proofs.ShownProperties.{shown_edges}
+use Rattle.hm_lines_files.proofs.SomeFile.{some_read, some_written}
+use Rattle.hm_book_cards.proofs.Laws.{book_member}
 
 module _ (f : Form) where
   pub schema_is : (o : OptionsValue) (s : SchemaValue) → HasSchema (meaning_of f) o s → book_schema (shown_of f o) ≡ s
@@ -27,10 +30,14 @@ pub form_lawful : (f : Form) → IsForm f → IsLawful (meaning_of f)
 form_lawful f law = record {
   read_once = λ o bytes r q. read_once f law o bytes r q;
   read_faults = λ o bytes fault h. read_faults f law o bytes fault h;
+  some_read = λ o s bytes sound has. some_read f law o bytes;
   no_twins = λ o s sound has. subst HasNoTwins (schema_is f o s has) (cards.no_twins (shown_of f o));
   members = λ o s bytes t sound has h. subst (λ s. IsMemberTree s t) (schema_is f o s has) (members f law o bytes t h);
   within = λ o s bytes t has h. not_over t h.1;
   writes_once = λ o t before one other h k. writes_once f law o t before one other h k;
+  some_written = λ o s before old t sound has read member over.
+      some_written f law o before read.0.layout read.0.file read.0.keyed t
+      (book_member (shown_of f o) (shown_edges f.properties o law.properties.names) t (member_of f o s t has member));
   put_get = λ o s before after old t sound has read member over made.
       put_get f law o before old t read (member_of f o s t has member) over after made;
   get_put = λ o before t sound h. stays h;

@@ -15,6 +15,7 @@ mod ReadOnce
 mod SoundLines
 mod Rewritings
 mod FileLaws
+mod SomeFile
 pub mod Laws
 mod Numbers
 mod Opened

@@ -32,6 +32,8 @@ pub record IsForm (f : Form) : Type 0 where
   pub few : (o : OptionsValue) (c : Component) → f.fits o c → AreFew (shown_of f o) c.lines
   -- and it fits still where it's to show another card
   pub showing : (o : OptionsValue) (c : Component) (card : Tree) → f.fits o c → IsCard (shown_of f o) card → f.fits o (showing (shown_of f o) card c)
+  -- there is a file
+  pub some : (o : OptionsValue) → (l : Layout) × f.has o l
   -- lines are those of one layout at the most, none of them is empty, and the components of a layout fit
   pub once : (o : OptionsValue) (l m : Layout) → f.has o l → f.has o m → all_lines l ≡ all_lines m → l ≡ m
   pub full : (o : OptionsValue) (l : Layout) → f.has o l → All (λ line. is_full line ≡ true) (all_lines l)

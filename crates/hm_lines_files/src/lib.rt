@@ -22,8 +22,8 @@
 //! `rewrite` gives the lines of a file's components that are to show another tree, folded, or tells that they are the
 //! lines from before: what is rewritten shows the tree, every other line stays, and components which show the tree
 //! already stay. `read_book` and `write_book` read and write a file of any form as its format means it, and `schema_of`
-//! judges its options. That format is lawful (`proofs/Laws`): a file is read as one tree or refused for one fault, the
-//! number of the first line that doesn't fit among them; what is written is read as the tree, every line that isn't
+//! judges its options. That format is lawful (`proofs/Laws`): all bytes are read as one tree or refused for one fault,
+//! the number of the first line that doesn't fit among them; what is written is read as the tree, every line that isn't
 //! shown stays, and bytes stay where nothing changes. What stays is said of the two files alone (`specs/Kept`).
 #![tactic(auto)]
 
