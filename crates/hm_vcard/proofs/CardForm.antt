@@ -39,6 +39,7 @@ vcards_form = record {
   few = λ o c fit. subst (λ (d : Component). AreFew (shown_of vcards o) d.lines) (sym fit.same) (shown_few o fit.card fit.is);
   showing = λ o c tree fit is_card.
       subst (λ (d : Component). IsCardComponent (showing (shown_of vcards o) tree d)) (sym fit.same) (shows_again o tree is_card fit.card fit.is);
+  some = λ o. (record { pieces = []; end = [] }, record { cards = []; each = All-nil IsCard; same = refl });
   once = λ o l m one two same.
       one.same ∙ (λ i. layout_with (cards_once one.cards two.cards one.each two.each (sym (lines_are l one) ∙ same ∙ lines_are m two) i)) ∙ sym two.same;
   full = λ o l is. subst (All IsFull) (sym (lines_are l is)) (all_full is.cards is.each);
