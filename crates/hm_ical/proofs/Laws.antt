@@ -18,14 +18,14 @@ use Rattle.hm_lines_cards.specs.Lines.{Line, IsCapital, AreProperties, IsLine, A
 use Rattle.hm_lines_cards.specs.Rewriting.{new_line as new_property, rewritten, rewritten_from, lines_for}
 use Rattle.hm_lines_cards.proofs.Laws.{rewritten_few, key_stays}
 use Rattle.hm_format.specs.Options.{values_of, is_among}
-use Rattle.hm_lines_files.specs.Components.{Bytes, Component, Piece, Layout, all_lines, piece_lines, components_of}
+use Rattle.hm_lines_files.specs.Components.{Bytes, Component, Piece, other, Layout, all_lines, piece_lines, components_of}
 use Rattle.hm_lines_files.specs.Rewriting.{blank, showing}
 use Rattle.hm_lines_files.specs.Forms.{shown_by}
 use Rattle.hm_lines_files.specs.FormLaws.{IsForm}
 use Rattle.hm_lines_files.proofs.KnownNames.{word, capital, all_apart, sound_line}
-use Rattle.hm_ical.specs.Lines.{is_same}
+use Rattle.hm_ical.specs.Lines.{is_same, IsProperty}
 use Rattle.hm_ical.specs.Events.{key_name, other_line, singles, IsEvent}
-use Rattle.hm_ical.specs.Calendars.{properties, stamp_line, event_template, ical, IsCalendar}
+use Rattle.hm_ical.specs.Calendars.{properties, stamp_line, event_template, ical, property, ends, IsCalendar}
 use Rattle.hm_ical.specs.Scanning.{Runs, before, behind}
 use Rattle.hm_ical.proofs.Runs.{runs_once}
 use Rattle.hm_ical.proofs.Completeness.{calendar_runs}
@@ -174,6 +174,31 @@ layout_once s l m one two same =
     ∙ drop_at front m.end (length front) refl in
     λ i. record { pieces = pieces i; end = end i }
 
+-- ---- a calendar of nothing but its version
+
+version_line : Bytes
+version_line = codes "VERSION:2.0"
+
+least_calendar : Layout
+least_calendar = record { pieces = other (codes "BEGIN:VCALENDAR") ∷ other version_line ∷ []; end = codes "END:VCALENDAR" ∷ [] }
+
+version_is : IsProperty version_line (record { name_from = 0; name_to = 7; value_from = 8 })
+unfolding version_line
+version_is = record { content = new_line (codes "VERSION") (codes "2.0") (word _ _ refl); free = refl }
+
+is_least : (s : Shown) → IsCalendar s least_calendar
+unfolding version_line least_calendar
+is_least s = record {
+  begin = codes "BEGIN:VCALENDAR";
+  body = other version_line ∷ [];
+  end = codes "END:VCALENDAR";
+  begins = refl;
+  inside = property version_is ends;
+  ends = refl;
+  pieces_are = refl;
+  end_is = refl;
+}
+
 -- ---- the form
 
 abbrev shown : OptionsValue → Shown
@@ -202,6 +227,7 @@ ical_form = record {
   showing = λ o c card is is_card.
       event_again (shown o) (shown_properties properties o properties_are) (kept (λ (p : Name × Bool). IsFree p.0) o free_are)
       (kept (λ (p : Name × Bool). p.0 ≢ key_name) o apart_are) c is card is_card;
+  some = λ o. (least_calendar, is_least (shown o));
   once = λ o l m one two same. layout_once (shown o) l m one two same;
   full = λ o l is. lines_full (shown o) l is;
   no_blank = λ o l is. lines_no_blank (shown o) l is;
