@@ -6,6 +6,10 @@ use Rattle.hm_existence.specs.Existence.{IsThere}
 pub from_one : {X : Type 0} (P : X → Type 0) (x : X) → P x → IsThere P
 from_one P x h none = none x h
 
+-- nothing is there of a property that nothing has
+pub none_there : {X : Type 0} (P : X → Type 0) → ((x : X) → ¬ (P x)) → ¬ (IsThere P)
+none_there P none some = some none
+
 -- from what is there to what is there then
 pub from_there : {X Y : Type 0} (P : X → Type 0) (Q : Y → Type 0) → IsThere P → ((x : X) → P x → IsThere Q) → IsThere Q
 from_there P Q some next none = some (λ x h. next x h none)
