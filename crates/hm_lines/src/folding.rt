@@ -1,7 +1,8 @@
 //! Folding lines (RFC 5545, section 3.1; RFC 6350, section 3.2).
 ghost use Rattle.std.specs.Prelude.{◌≡◌, ◌++◌, ℕ, List, All, IsUtf8, IfOk, OnOk, OnErr, map};
-ghost use Rattle.hm_lines.specs.Folding.{IsFolded, AreFolded, Appends};
+ghost use Rattle.hm_lines.specs.Folding.{IsPlain, IsFolded, AreFolded, Appends};
 ghost use Rattle.hm_lines.specs.Shown.{bytes_of};
+ghost use Rattle.hm_lines.specs.Unfolding as spec;
 
 use hm_tree::Memory;
 use std::alloc::Global;
@@ -12,10 +13,12 @@ const FIRST_LIMIT: usize = 75;
 
 const FURTHER_LIMIT: usize = 74;
 
-/// Lines, each with CRLF behind it, and folded where it is of more than 75 octets.
+/// Lines, each with CRLF behind it, and folded where it is of more than 75 octets. Unfolded they are the same lines,
+/// where none has a line feed or begins with a space or a tab.
 pub fn fold(alloc: Global, lines: &[Vec<u8>]) -> Result<Vec<u8>, Memory>
     requires { All (λ line. IsUtf8 line.items) lines.now }
-    ensures { IfOk result (λ folded. AreFolded (map bytes_of lines.now) folded.items) }
+    ensures folded { IfOk result (λ folded. AreFolded (map bytes_of lines.now) folded.items) }
+    ensures unfolded { IfOk result (λ folded. All IsPlain (map bytes_of lines.now) → spec.lines (spec.unfolded folded.items) ≡ map bytes_of lines.now) }
 {
     let mut folded = Vec::new(alloc);
     for line in lines {

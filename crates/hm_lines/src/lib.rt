@@ -20,10 +20,10 @@
 //! Proved: `unfold` gives the lines of a file in the form of content lines (RFC 6350 section 3.2, RFC 5545 section
 //! 3.1), unfolded and cut; `without_folds` unfolds bytes as a whole, and lends those that have no fold, and
 //! `first_line` finds where the first line of bytes ends (`specs/Unfolding`); `fold` writes lines, each piece as long
-//! as it may be and ending at a character (`specs/Folding`); `escape` and `unescape` write and read the text of a value
-//! (`specs/Values`), and `parts` finds the name and the value of a content line, or none exactly where it isn't one
-//! (`specs/Content`). What was folded is unfolded to the same lines, and the text of an escaped clean name is that name
-//! (`proofs/Laws`).
+//! as it may be and ending at a character (`specs/Folding`), and what it writes is unfolded to the same lines, where
+//! none has a line feed or begins with a space or a tab; `escape` and `unescape` write and read the text of a value
+//! (`specs/Values`), and what is escaped of a clean name is read as that name; `parts` finds the name and the value of
+//! a content line, or none exactly where it isn't one (`specs/Content`).
 #![tactic(auto)]
 
 mod content;

@@ -1,16 +1,19 @@
 //! Values of the type text: escapes (RFC 5545, section 3.3.11; RFC 6350, section 3.4).
 ghost use Rattle.std.specs.Prelude.{◌≡◌, ◌<◌, ◌++◌, IsUtf8, IfOk, OnOk, Some, length};
 ghost use Rattle.memchr.specs.Find.{IsFirstByte, is_byte};
+ghost use Rattle.hm_tree.specs.Classes.{IsClean};
 ghost use Rattle.hm_lines.specs.Values.{backslash, is_special, is_escape, meaning, text_of, unescaped, escaped, escaped_byte};
 
 use hm_tree::{Memory, Name};
 use memchr::memchr;
 use std::alloc::Global;
 
-/// The bytes of a value that has a text: `\`, `,` and `;` stand behind a `\`, and a line feed is `\n`.
+/// The bytes of a value that has a text: `\`, `,` and `;` stand behind a `\`, and a line feed is `\n`. Its text is what
+/// was escaped, where that is clean.
 pub fn escape(alloc: Global, text: &Name) -> Result<Vec<u8>, Memory>
     ensures value { IfOk result (λ value. value.items ≡ escaped text.now) }
     ensures utf8 { IfOk result (λ value. IsUtf8 value.items) }
+    ensures again { IfOk result (λ value. IsClean text.now → text_of value.items ≡ text.now) }
 {
     let bytes = text.bytes();
     let mut value = Vec::with_capacity(alloc, bytes.len())?;

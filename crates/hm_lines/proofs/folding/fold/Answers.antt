@@ -6,6 +6,7 @@ use Rattle.std.proofs.lemmas.List.{take_all, take_more, map-append}
 use Rattle.hm_lines.specs.Folding.{AreFolded, IsFolded}
 use Rattle.hm_lines.specs.Shown.{bytes_of}
 use Rattle.hm_lines.proofs.FoldedPieces.{one_more_line}
+use Rattle.hm_lines.proofs.UnfoldedLines.{folded_lines}
 use Rattle.hm_lines.proofs.folding.fold.Goals as goal
 
 pub unreachable-requires : goal.unreachable-requires
@@ -28,7 +29,10 @@ loop-line-preserved c =
     (one_more_line (map bytes_of (take c.loop-line.line-index c.args.lines.now)) c.line-item.result.items c.loop-line.folded.items more.0
     c.loop-line.invariant (subst (λ l. IsFolded l more.0) line more.1.1))))
 
-pub returns : goal.returns
-returns c =
+pub returns-clause-folded : goal.returns-clause-folded
+returns-clause-folded c =
     subst (λ (vs : List (Vec ℕ Global)). AreFolded (map bytes_of vs) c.loop-line.folded.items) (take_all c.loop-line.line-index c.args.lines.now c.loop-line-test.false)
     c.loop-line.invariant
+
+pub returns-clause-unfolded : goal.returns-clause-unfolded
+returns-clause-unfolded c plain = folded_lines _ c.loop-line.folded.items plain (returns-clause-folded c)
