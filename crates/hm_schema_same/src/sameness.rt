@@ -4,6 +4,8 @@ ghost use Rattle.hm_schema.specs.Values.{node_value};
 ghost use Rattle.hm_schema.specs.Tidied.{tidied};
 ghost use Rattle.hm_schema.specs.WellFormed.{IsWellFormed};
 ghost use Rattle.hm_schema.specs.Sameness.{AreSame};
+ghost use Rattle.hm_types_forms.specs.Forms.{form};
+ghost use Rattle.hm_types_forms.specs.SameForms.{IsSame};
 ghost use Rattle.hm_schema_same.specs.JointGraphs.{LeadBelow, AllLeadBelow, HasVertices, begins, edges_from};
 
 use hm_graph::Vertex;
@@ -12,9 +14,11 @@ use hm_tree::Memory;
 use std::alloc::Global;
 
 /// Whether two schemas are the same: some pairing of their nodes holds the two roots, and paired nodes, tidied, have equal
-/// sets of shapes and of twins, the same listed names, one class of all other names, and lead to paired nodes.
+/// sets of shapes and of twins, the same listed names, one class of all other names, and lead to paired nodes. They are
+/// the same exactly where the forms of their roots are.
 pub fn same(alloc: Global, one: &Schema, two: &Schema) -> Result<bool, Memory>
-    ensures { IfOk result (λ yes. IsTrue yes ↔ AreSame one.now two.now) }
+    ensures same { IfOk result (λ yes. IsTrue yes ↔ AreSame one.now two.now) }
+    ensures forms { IfOk result (λ _. AreSame one.now two.now ↔ IsSame (form one.now.nodes one.now.root) (form two.now.nodes two.now.root)) }
 {
     let count = one.nodes().len();
     let nodes = all_nodes(alloc, one, two)?;

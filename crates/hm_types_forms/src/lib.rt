@@ -9,5 +9,7 @@
 //!
 //! Proved: being the same is an equivalence of forms (`proofs/SameForms`), and sound forms that are the same have the
 //! same members (`proofs/SameMembers`). The members of a form are the trees that stand at the node at which it begins
-//! (`proofs/MemberNodes`), and the forms of sound nodes over sound forms are sound (`proofs/SoundForms`).
+//! (`proofs/MemberNodes`), and the forms of sound nodes over sound forms are sound (`proofs/SoundForms`). Where it is
+//! told whether two well formed schemas are the same, they are so exactly where the forms of their roots are
+//! (`proofs/SameSchemas`).
 #![tactic(auto)]

@@ -1,7 +1,6 @@
 -- A node of a table stands for the same form after the table has grown.
-use Rattle.std.proofs.Common.{◌≡◌, ℕ, ◌<◌, ◌≤◌, List, [], ◌∷◌, ◌++◌, length, map, slice_get, Option, Some, None, IfSome, All, refl, sym, ap, subst, ◌∙◌, arith, option_and_then, length-append, append_assoc}
+use Rattle.std.proofs.Common.{◌≡◌, ℕ, ◌<◌, ◌≤◌, List, [], ◌∷◌, ◌++◌, length, map, slice_get, Option, Some, None, IfSome, All, refl, sym, ap, ◌∙◌, arith, option_and_then, length-append, append_assoc}
 use Rattle.std.specs.Option.{option_map}
-use Rattle.std.proofs.lemmas.Option.{same_Some, none-some}
 use Rattle.std.proofs.lemmas.List.{append-nil}
 use Rattle.std.proofs.lemmas.List.Elements.{All-weaker, All-head, All-tail}
 use Rattle.hm_tree.specs.declared.class.Class.{Class}
@@ -9,9 +8,9 @@ use Rattle.hm_tree.specs.Names.{Name}
 use Rattle.hm_schema.specs.declared.node.NodeId.{NodeId}
 use Rattle.hm_schema.specs.Values.{NodeValue}
 use Rattle.hm_schema.specs.WellFormed.{IsWellFormedNode}
-use Rattle.hm_schema.proofs.NamesOf.{found_value}
 use Rattle.hm_schema.proofs.Lists.{all_read}
-use Rattle.hm_types_forms.specs.Forms.{Form, Step, named, others, Way, label_of, next_of, form}
+use Rattle.hm_types_forms.specs.Forms.{Form, Way, label_of, next_of, form}
+use Rattle.hm_types_forms.proofs.TidiedSteps.{next_in_range}
 use Rattle.hm_types_table.specs.Tables.{Nodes, AreFormed, Extends, opened}
 use Rattle.hm_types_table.proofs.Places.{at_front}
 
@@ -49,14 +48,6 @@ pub formed_at : (nodes : Nodes) (i : NodeId) (n : NodeValue) → AreFormed nodes
 formed_at nodes i n h e = all_read (IsWellFormedNode (length nodes)) nodes i.place n e h
 
 -- ---- forms
-
-pub next_in_range : (count : ℕ) (n : NodeValue) (s : Step) (j : NodeId) → IsWellFormedNode count n → next_of n s ≡ Some j → j.place < count
-next_in_range count n (named k) j h e = found_value (λ (k : Name) (j : NodeId). j.place < count) n.children h.children k j e
-next_in_range count n others j h e = go n.other h.other e
-  where
-    go : (o : Option (Class × NodeId)) → IfSome o (λ o. o.1.place < count) → option_map (λ (o : Class × NodeId). o.1) o ≡ Some j → j.place < count
-    go None h e = absurd (none-some j e)
-    go (Some o) h e = subst (λ (j : NodeId). j.place < count) (same_Some o.1 j e) h
 
 module _ (old new : Nodes) (h : AreFormed old) (extends : Extends old new) where
   form_at : (w : Way) (i : NodeId) → i.place < length old → form new i w ≡ form old i w

@@ -1,7 +1,6 @@
 pub mod Places
 mod Left
 mod Outlines
-mod TidiedSteps
 mod Matching
 mod Classed
 mod ClassEdges

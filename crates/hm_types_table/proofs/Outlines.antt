@@ -10,6 +10,7 @@ use Rattle.hm_schema.specs.Values.{NodeOver}
 use Rattle.hm_schema.specs.Labels.{IsLabel, rank}
 use Rattle.hm_schema.specs.Tidied.{tidied, has_name, lets_in}
 use Rattle.hm_types_forms.specs.Forms.{label_of}
+use Rattle.hm_types_forms.proofs.Matching.{keys_bare}
 use Rattle.hm_types_table.specs.declared.kind.NodeKind.{NodeKind}
 use Rattle.hm_types_table.specs.Tables.{keys}
 use Rattle.hm_types_table.specs.Classes.{kind_label, left}
@@ -22,10 +23,6 @@ bare m = (m, tt)
 pub bare_keys : {X : Type 0} (cs : List (Name × X)) → map {B = Name × Unit {0}} (λ c. (c.0, tt)) cs ≡ map bare (keys cs)
 bare_keys [] = refl
 bare_keys (c ∷ cs) = ap (λ l. bare c.0 ∷ l) (bare_keys cs)
-
-pub keys_bare : {X : Type 0} (cs : List (Name × X)) → keys (map {B = Name × Unit {0}} (λ c. (c.0, tt)) cs) ≡ keys cs
-keys_bare [] = refl
-keys_bare (c ∷ cs) = ap (λ l. c.0 ∷ l) (keys_bare cs)
 
 module _ (p : Name → Bool) where
   bare_all : (ms : List Name) → map bare (left true (map p ms) ms) ≡ map bare ms

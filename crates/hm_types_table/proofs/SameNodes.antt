@@ -1,5 +1,5 @@
 -- Nodes have equal classes exactly where what they stand for is the same.
-use Rattle.std.proofs.Common.{◌≡◌, ℕ, zero, suc, ◌<◌, is_some, List, [], ◌∷◌, length, map, slice_get, Option, Some, None, refl, sym, ap, subst, ◌∙◌, arith, option_and_then}
+use Rattle.std.proofs.Common.{◌≡◌, ℕ, zero, suc, ◌<◌, List, [], ◌∷◌, length, map, slice_get, Option, Some, None, refl, sym, ap, subst, ◌∙◌, arith, option_and_then}
 use Rattle.std.specs.Option.{option_map}
 use Rattle.std.specs.List.{AllZip}
 use Rattle.std.proofs.lemmas.List.{length-map}
@@ -14,24 +14,17 @@ use Rattle.hm_schema.specs.Tidied.{tidied}
 use Rattle.hm_schema.specs.Sameness.{Match}
 use Rattle.hm_schema.specs.Labels.{HaveOneLabel}
 use Rattle.hm_schema.proofs.LabelNumbers.{label_from_number, number_from_label}
-use Rattle.hm_types_forms.specs.Forms.{Step, Way, label_of, next_of, under, form}
-use Rattle.hm_types_forms.specs.SameForms.{IsSame, MatchThere, nothing, labels, tidy}
-use Rattle.hm_types_forms.proofs.MemberNodes.{all_found}
-use Rattle.hm_types_forms.proofs.SameMembers.{here_match, step_same}
+use Rattle.hm_types_forms.specs.Forms.{Step, Way, label_of, next_of, form}
+use Rattle.hm_types_forms.specs.SameForms.{IsSame, MatchThere, nothing, tidy}
 use Rattle.hm_types_table.specs.declared.annotations.Annotations.{Annotations}
 use Rattle.hm_types_table.specs.Tables.{Nodes}
 use Rattle.hm_types_table.specs.Classes.{HaveClasses, AreClassed, IsClassed, ends}
 use Rattle.hm_types_table.proofs.Places.{there}
-use Rattle.hm_types_table.proofs.Grown.{formed_at, next_in_range}
-use Rattle.hm_types_table.proofs.Forms.{label_is}
-use Rattle.hm_types_table.proofs.Matching.{Both, neither, both, label_from_bare, match_label, match_one, match_step, match_ends, match_found, match_equal}
-use Rattle.hm_types_table.proofs.TidiedSteps.{tidied_next, tidied_sorted, label_tidied, label_step, form_under, tidy_here, tidy_gone, tidy_taken}
-
--- two nodes of a table that stand for the same
-record ArePaired (nodes : Nodes) (i j : NodeId) : Type 0 where
-  pub first : i.place < length nodes
-  pub second : j.place < length nodes
-  pub same : IsSame (form nodes i) (form nodes j)
+use Rattle.hm_types_table.proofs.Grown.{formed_at}
+use Rattle.hm_types_forms.proofs.TidiedSteps.{next_in_range, tidied_next, label_tidied, tidy_gone, tidy_taken}
+use Rattle.hm_types_forms.proofs.SameSchemas.{ArePaired, label_there, same_labels, same_match}
+use Rattle.hm_types_forms.proofs.Matching.{Both, neither, both, label_from_bare, match_step}
+use Rattle.hm_types_table.proofs.Matching.{match_ends, match_equal}
 
 module _ (nodes : Nodes) (s : Annotations) (h : AreClassed nodes s) where
   abbrev class : NodeId → ℕ
@@ -82,47 +75,24 @@ module _ (nodes : Nodes) (s : Annotations) (h : AreClassed nodes s) where
           (subst (HaveOneLabel (tidied (label_of n))) (label_tidied m) class_label))) edges
 
       class_there : MatchThere (tidy (form nodes i) []) (tidy (form nodes j) [])
-      class_there =
-          let match = match_one (tidied (label_of n)) (tidied (label_of m)) class_label in
-          subst (λ x. MatchThere x (tidy (form nodes j) [])) (sym (tidy_here nodes i n at))
-          (subst (MatchThere (Some (tidied (label_of n)))) (sym (tidy_here nodes j m to)) (labels match))
+      class_there = label_there nodes nodes i j n m at to class_label
 
     -- that stand for the same
     module _ (same : IsSame (form nodes i) (form nodes j)) where
-      same_labels : HaveOneLabel (tidied (label_of n)) (tidied (label_of m))
-      same_labels = match_label (λ i j. Unit {0}) (tidied (label_of n)) (tidied (label_of m))
-          (here_match (form nodes i) (form nodes j) (label_of n) (label_of m) (label_is nodes i n at) (label_is nodes j m to) same)
-
       same_numbers : one.outline.label ≡ two.outline.label
       same_numbers = number_from_label s.numbers (tidied (label_of n)) (tidied (label_of m)) one.outline.label two.outline.label one.outlined.number
-          two.outlined.number same_labels
+          two.outlined.number (same_labels nodes nodes i j n m at to same)
 
-      same_under : (st : Step) (a b : NodeId) → next_of (tidied n) st ≡ Some a → next_of (tidied m) st ≡ Some b → ArePaired nodes a b
-      same_under st a b e f = record {
-        first = step_inside i n at st a e;
-        second = step_inside j m to st b f;
-        same = subst (λ u. IsSame u (form nodes b)) (form_under nodes i n at st a (tidied_next n st a e))
-            (subst (IsSame (under st (form nodes i))) (form_under nodes j m to st b (tidied_next m st b f))
-            (step_same (form nodes i) (form nodes j) (label_of n) (label_of m) (label_is nodes i n at) (label_is nodes j m to) same st
-            (label_step n st ∙ ap is_some e) (label_step m st ∙ ap is_some f)));
-      }
-
-      same_match : Match (ArePaired nodes) (tidied n) (tidied m)
-      same_match = match_found (ArePaired nodes) (tidied n) (tidied m)
-          (label_from_bare (tidied n) (tidied m) (subst (λ l. HaveOneLabel l (label_of (tidied m))) (label_tidied n)
-          (subst (HaveOneLabel (tidied (label_of n))) (label_tidied m) same_labels)))
-          (all_found (tidied n).children (tidied_sorted n (formed_at nodes i n h.formed at).ascending))
-          (all_found (tidied m).children (tidied_sorted m (formed_at nodes j m h.formed to).ascending)) same_under
-
-      same_ends : AllZip (ArePaired nodes) (ends (tidied n)) (ends (tidied m))
-      same_ends = match_ends (ArePaired nodes) (tidied n) (tidied m) same_match
+      same_ends : AllZip (ArePaired nodes nodes) (ends (tidied n)) (ends (tidied m))
+      same_ends = match_ends (ArePaired nodes nodes) (tidied n) (tidied m)
+          (same_match nodes nodes i j n m at to same (formed_at nodes i n h.formed at) (formed_at nodes j m h.formed to) (ArePaired nodes nodes) (λ a b p. p))
 
       same_face : option_map face (slice_get s.reduced (class i)) ≡ option_map face (slice_get s.reduced (class j))
       same_face =
           let label : one.vertex.vertex.label ≡ two.vertex.vertex.label = one.vertex.label_is ∙ same_numbers ∙ sym two.vertex.label_is in
           let count : length one.vertex.vertex.next.items ≡ length two.vertex.vertex.next.items =
           ap length one.vertex.next_is ∙ length-map (ends (tidied n)) class
-          ∙ length_all_zip (ArePaired nodes) (ends (tidied n)) (ends (tidied m)) same_ends
+          ∙ length_all_zip (ArePaired nodes nodes) (ends (tidied n)) (ends (tidied m)) same_ends
           ∙ sym (ap length two.vertex.next_is ∙ length-map (ends (tidied m)) class) in
           ap (option_map face) one.vertex.is ∙ (λ t. Some (label t, count t)) ∙ sym (ap (option_map face) two.vertex.is)
 
@@ -159,15 +129,15 @@ module _ (nodes : Nodes) (s : Annotations) (h : AreClassed nodes s) where
   abbrev seen_from : List ℕ → ℕ → List ℕ → Option (ℕ × ℕ)
   seen_from xs k way = option_and_then (λ j. option_map face (slice_get s.reduced j)) (option_and_then (λ j. reached s.reduced j way) (slice_get xs k))
 
-  ends_see : (way : List ℕ) → ((a b : NodeId) → ArePaired nodes a b → seen_along s.reduced (class a) way ≡ seen_along s.reduced (class b) way)
-      → (xs ys : List NodeId) → AllZip (ArePaired nodes) xs ys → (k : ℕ) → seen_from (map class xs) k way ≡ seen_from (map class ys) k way
+  ends_see : (way : List ℕ) → ((a b : NodeId) → ArePaired nodes nodes a b → seen_along s.reduced (class a) way ≡ seen_along s.reduced (class b) way)
+      → (xs ys : List NodeId) → AllZip (ArePaired nodes nodes) xs ys → (k : ℕ) → seen_from (map class xs) k way ≡ seen_from (map class ys) k way
   ends_see way f [] [] z k = refl
   ends_see way f [] (y ∷ ys) z k = absurd z
   ends_see way f (x ∷ xs) [] z k = absurd z
   ends_see way f (x ∷ xs) (y ∷ ys) z zero = f x y z.0
   ends_see way f (x ∷ xs) (y ∷ ys) z (suc k) = ends_see way f xs ys z.1 k
 
-  along : (way : List ℕ) (i j : NodeId) → ArePaired nodes i j → seen_along s.reduced (class i) way ≡ seen_along s.reduced (class j) way
+  along : (way : List ℕ) (i j : NodeId) → ArePaired nodes nodes i j → seen_along s.reduced (class i) way ≡ seen_along s.reduced (class j) way
   along [] i j p =
       let n = there nodes i.place p.first in
       let m = there nodes j.place p.second in
@@ -179,7 +149,7 @@ module _ (nodes : Nodes) (s : Annotations) (h : AreClassed nodes s) where
       ∙ ends_see way (λ a b. along way a b) (ends (tidied n.0)) (ends (tidied m.0)) (same_ends i j n.0 m.0 n.1 m.1 p.same) k
       ∙ sym (ap (λ l. seen_from l k way) (next_is j m.0 m.1))
 
-  one_class : (i j : NodeId) → ArePaired nodes i j → class i ≡ class j
+  one_class : (i j : NodeId) → ArePaired nodes nodes i j → class i ≡ class j
   one_class i j p =
       let n = there nodes i.place p.first in
       let m = there nodes j.place p.second in

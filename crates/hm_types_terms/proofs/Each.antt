@@ -15,7 +15,8 @@ use Rattle.hm_types_rules.specs.Typing.{Goes, goes_each}
 use Rattle.hm_types_rules.specs.Faults.{At, at, Faults, Before, GoesOn, fault_each, fault_child}
 use Rattle.hm_types_forms.proofs.SoundForms.{under_sound}
 use Rattle.hm_types_table.specs.Tables.{Nodes, AreFormed, Extends, replaced, Replaces, CanReplace}
-use Rattle.hm_types_table.proofs.Grown.{extends_self, formed_at, next_in_range}
+use Rattle.hm_types_table.proofs.Grown.{extends_self, formed_at}
+use Rattle.hm_types_forms.proofs.TidiedSteps.{next_in_range}
 use Rattle.hm_types_terms.specs.declared.course.Course.{Course}
 use Rattle.hm_types_terms.specs.declared.memo.Memo.{Memo}
 use Rattle.hm_types_terms.specs.Numbers.{parts_of}

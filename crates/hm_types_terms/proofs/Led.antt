@@ -19,7 +19,8 @@ use Rattle.hm_terms.specs.Lenses.{Lens}
 use Rattle.hm_types_forms.specs.Forms.{Step, named, others, label_of, next_of, under, form}
 use Rattle.hm_types_rules.specs.Typing.{Types, Goes}
 use Rattle.hm_types_table.specs.Tables.{Nodes, AreFormed, Extends, keys, replaced}
-use Rattle.hm_types_table.proofs.Grown.{extends_length, formed_at, next_in_range}
+use Rattle.hm_types_table.proofs.Grown.{extends_length, formed_at}
+use Rattle.hm_types_forms.proofs.TidiedSteps.{next_in_range}
 use Rattle.hm_types_table.proofs.Keys.{keys_size, zip_sorted, rising}
 use Rattle.hm_types_terms.specs.Courses.{Scope, AreTypes}
 use Rattle.hm_types_terms.specs.Below.{IsLed, AreLed, AreOthersLed}

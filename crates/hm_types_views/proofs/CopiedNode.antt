@@ -28,7 +28,8 @@ use Rattle.hm_types_rules.specs.Faults.{Faults, fault_copy, at}
 use Rattle.hm_types_views.specs.Conditions.{MayCopy}
 use Rattle.hm_types_views.specs.Overlays.{HasEdge}
 use Rattle.hm_types_table.specs.Tables.{Nodes, AreFormed, opened}
-use Rattle.hm_types_table.proofs.Grown.{formed_at, next_in_range}
+use Rattle.hm_types_table.proofs.Grown.{formed_at}
+use Rattle.hm_types_forms.proofs.TidiedSteps.{next_in_range}
 use Rattle.hm_types_table.proofs.Keys.{zip_sorted, all_found}
 use Rattle.hm_types_table.proofs.Forms.{find_over, sorted_over, is_listed_over, node_is, not_node, form_added}
 

@@ -28,7 +28,8 @@ use Rattle.hm_types_table.specs.declared.vertex.Vertex.{Vertex}
 use Rattle.hm_types_views.specs.Conditions.{CanJoinKinds, AddsNothing}
 use Rattle.hm_types_views.specs.Overlays.{overlay}
 use Rattle.hm_types_table.specs.Tables.{Nodes, AreFormed, opened, seat}
-use Rattle.hm_types_table.proofs.Grown.{formed_at, next_in_range}
+use Rattle.hm_types_table.proofs.Grown.{formed_at}
+use Rattle.hm_types_forms.proofs.TidiedSteps.{next_in_range}
 use Rattle.hm_types_table.proofs.Keys.{zip_sorted, all_found}
 use Rattle.hm_types_table.proofs.Forms.{find_over, sorted_over, node_is, form_added}
 use Rattle.hm_types_views.proofs.PartedNodes.{separates_parts, parts_separate, parts_raw}

@@ -38,7 +38,8 @@ use Rattle.hm_types_views.specs.Merging.{CanMergeKinds, OthersAgree, NodesAgree}
 use Rattle.hm_types_views.specs.Overlays.{overlay}
 use Rattle.hm_types_table.specs.Tables.{Nodes, AreFormed, opened, seat}
 use Rattle.hm_types_table.proofs.BesideNames.{listed_beside}
-use Rattle.hm_types_table.proofs.Grown.{formed_at, next_in_range}
+use Rattle.hm_types_table.proofs.Grown.{formed_at}
+use Rattle.hm_types_forms.proofs.TidiedSteps.{next_in_range}
 use Rattle.hm_types_table.proofs.Keys.{zip_sorted, all_found}
 use Rattle.hm_types_table.proofs.Forms.{find_over, sorted_over, is_listed_over, node_is, form_added}
 use Rattle.hm_types_views.proofs.HiddenNode.{opened_led, mapped_same}

@@ -24,7 +24,8 @@ use Rattle.hm_schema_lists.specs.Plain.{exact_shape}
 use Rattle.hm_types_rules.specs.Faults.{Faults, fault_hoist, at}
 use Rattle.hm_types_table.specs.declared.kind.NodeKind.{NodeKind}
 use Rattle.hm_types_table.specs.Tables.{Nodes, AreFormed, opened, seated}
-use Rattle.hm_types_table.proofs.Grown.{formed_at, next_in_range}
+use Rattle.hm_types_table.proofs.Grown.{formed_at}
+use Rattle.hm_types_forms.proofs.TidiedSteps.{next_in_range}
 use Rattle.hm_types_table.proofs.Forms.{find_over, node_is, not_node, form_added}
 
 module _ (nodes : Nodes) (h : AreFormed nodes) (i : NodeId) (n : NodeValue) (e : slice_get nodes i.place ≡ Some n) (m : Name) where

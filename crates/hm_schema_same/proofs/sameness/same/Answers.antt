@@ -10,6 +10,9 @@ use Rattle.hm_schema.specs.Values.{NodeValue, SchemaValue, node_value}
 use Rattle.hm_schema.specs.WellFormed.{IsWellFormed}
 use Rattle.hm_schema.specs.Sameness.{AreSame}
 use Rattle.hm_schema.specs.Labels.{AreLabels}
+use Rattle.hm_types_forms.specs.Forms.{form}
+use Rattle.hm_types_forms.specs.SameForms.{IsSame}
+use Rattle.hm_types_forms.proofs.SameSchemas.{same_forms}
 use Rattle.hm_schema_same.specs.JointGraphs.{IsVertexOf, LeadBelow, begins}
 use Rattle.hm_schema_same.proofs.JointEdges.{lead_below}
 use Rattle.hm_schema_same.proofs.JointSameness.{IsJointGraph, joint_closed, same_from_graph, graph_from_same}
@@ -63,8 +66,8 @@ same-requires-clause-closed c =
     (counted c.nodes-count.result.now c.args.one.now.nodes c.nodes-count.ensures.nodes) c.in_ok-graph.ensures.size
     c.in_ok-graph.ensures.vertices c.deref-4.ensures.value)
 
-pub returns : goal.returns
-returns c =
+pub returns-clause-same : goal.returns-clause-same
+returns-clause-same c =
     let one = c.args.one.now in
     let two = c.args.two.now in
     let labels = c.in_ok-labels.labels.items in
@@ -89,3 +92,12 @@ returns c =
       λ s. h.1 (moved.1 (graph_from_same one two labels graph joint s)),
     ))
     c.same.ensures.same
+
+pub returns-clause-forms : goal.returns-clause-forms
+returns-clause-forms c =
+    let one = c.args.one.now in
+    let two = c.args.two.now in
+    let formed = c.in_ok-nodes.ensures.well_formed in
+    IfOk-weaker c.same.result (λ yes. IsTrue yes ↔ AreSame one two)
+    (λ yes. AreSame one two ↔ IsSame (form one.nodes one.root) (form two.nodes two.root))
+    (λ yes h. same_forms one two formed.0 formed.1 yes h) (returns-clause-same c)

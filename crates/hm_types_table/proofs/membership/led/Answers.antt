@@ -4,7 +4,8 @@ use Rattle.hm_tree.specs.declared.class.Class.{Class}
 use Rattle.hm_schema.specs.declared.node.NodeId.{NodeId}
 use Rattle.hm_types_forms.specs.Forms.{named, others}
 use Rattle.hm_types_table.specs.Tables.{seat}
-use Rattle.hm_types_table.proofs.Grown.{formed_at, next_in_range}
+use Rattle.hm_types_table.proofs.Grown.{formed_at}
+use Rattle.hm_types_forms.proofs.TidiedSteps.{next_in_range}
 use Rattle.hm_types_table.proofs.membership.led.Goals as goal
 
 pub returns-in-Some-clause-in_range : goal.returns-in-Some-clause-in_range

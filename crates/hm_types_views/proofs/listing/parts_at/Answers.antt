@@ -8,7 +8,8 @@ use Rattle.hm_tree_parts.specs.Lists.{head, tail}
 use Rattle.hm_schema_lists.specs.ListNodes.{item_shape}
 use Rattle.hm_types_forms.specs.Forms.{named}
 use Rattle.hm_types_table.specs.Tables.{seat}
-use Rattle.hm_types_table.proofs.Grown.{formed_at, next_in_range}
+use Rattle.hm_types_table.proofs.Grown.{formed_at}
+use Rattle.hm_types_forms.proofs.TidiedSteps.{next_in_range}
 use Rattle.hm_types_views.proofs.ListRead.{at_none, part_listed, has_head, has_tail}
 use Rattle.hm_types_views.proofs.listing.parts_at.Goals as goal
 

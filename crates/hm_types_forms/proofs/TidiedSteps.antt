@@ -1,12 +1,14 @@
--- Where the steps of tidied nodes lead, and what is found there.
-use Rattle.std.proofs.Common.{◌≡◌, Bool, true, false, cond, T, is_some, [], ◌∷◌, filter, slice_get, Option, Some, None, refl, sym, ap, ◌∙◌, option_and_then}
+-- Where the steps of nodes and of tidied nodes lead, and what is found there.
+use Rattle.std.proofs.Common.{◌≡◌, ℕ, ◌<◌, Bool, true, false, cond, T, is_some, List, [], ◌∷◌, filter, slice_get, Option, Some, None, IfSome, refl, sym, ap, subst, ◌∙◌, option_and_then}
 use Rattle.std.specs.Option.{option_map}
 use Rattle.std.specs.FinMap.{find, is_sorted}
 use Rattle.std.specs.FinMap.Entries.{find-where_key, is_sorted-where_key}
-use Rattle.std.proofs.lemmas.Option.{none-some}
+use Rattle.std.proofs.lemmas.Option.{same_Some, none-some}
 use Rattle.hm_tree.specs.declared.class.Class.{Class}
 use Rattle.hm_tree.specs.Names.{Name, name_cmp}
 use Rattle.hm_tree.proofs.Sorted.{name_one}
+use Rattle.hm_schema.proofs.NamesOf.{found_value}
+use Rattle.hm_schema.specs.WellFormed.{IsWellFormedNode}
 use Rattle.hm_schema.specs.declared.node.NodeId.{NodeId}
 use Rattle.hm_schema.specs.Values.{NodeOver, NodeValue}
 use Rattle.hm_schema.specs.Tidied.{tidied, lets_some_in, stands}
@@ -14,7 +16,15 @@ use Rattle.hm_types_forms.specs.Forms.{Step, named, others, Way, label_of, next_
 use Rattle.hm_types_forms.specs.SameForms.{tidy, has_step}
 use Rattle.hm_types_forms.proofs.Nodes.{next_over}
 use Rattle.hm_types_forms.proofs.SameMembers.{tidied_over}
-use Rattle.hm_types_table.specs.Tables.{Nodes}
+
+-- a step of a well formed node leads to a node that is there
+pub next_in_range : (count : ℕ) (n : NodeValue) (s : Step) (j : NodeId) → IsWellFormedNode count n → next_of n s ≡ Some j → j.place < count
+next_in_range count n (named k) j h e = found_value (λ (k : Name) (j : NodeId). j.place < count) n.children h.children k j e
+next_in_range count n others j h e = go n.other h.other e
+  where
+    go : (o : Option (Class × NodeId)) → IfSome o (λ o. o.1.place < count) → option_map (λ (o : Class × NodeId). o.1) o ≡ Some j → j.place < count
+    go None h e = absurd (none-some j e)
+    go (Some o) h e = subst (λ (j : NodeId). j.place < count) (same_Some o.1 j e) h
 
 module _ {I : Type 0} (n : NodeOver I) where
   left_found : (k : Name) → find name_cmp k (filter (λ (c : Name × I). stands n c.0) n.children) ≡ cond (stands n k) (find name_cmp k n.children) None
@@ -57,9 +67,9 @@ module _ {I : Type 0} (n : NodeOver I) where
       go None = refl
       go (Some i) = refl
 
--- ---- what is found on the way from a node of a table
+-- ---- what is found on the way from a node of a list
 
-module _ (nodes : Nodes) (i : NodeId) (n : NodeValue) (at : slice_get nodes i.place ≡ Some n) where
+module _ (nodes : List NodeValue) (i : NodeId) (n : NodeValue) (at : slice_get nodes i.place ≡ Some n) where
   pub form_under : (s : Step) (j : NodeId) → next_of n s ≡ Some j → under s (form nodes i) ≡ form nodes j
   form_under s j e = λ t w.
       (ap (option_and_then (λ n. option_and_then (λ j. form nodes j w) (next_of n s))) at ∙ ap (option_and_then (λ j. form nodes j w)) e) t
