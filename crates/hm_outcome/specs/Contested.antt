@@ -22,9 +22,9 @@ pub record AreRefused (s : SchemaValue) (i : NodeId) (v : Views) (p : Path) (lef
   pub refused : ¬ (Permits node left) ⊎ ¬ (Permits node right)
 
 pub data IsContested (s : SchemaValue) (i : NodeId) (v : Views) (p : Path) : Type 0 where
-  -- an earlier mark, where the sides still differ
+  -- an earlier mark, where the sides still differ, there or below
   earlier : v.archive p ≡ Marked → Differ v p → IsContested s i v p
-  -- one side deleted it, and the other has changed it
+  -- one side deleted it, and the other has news there or below
   lost : v.archive p ≡ Present → Clash v p → IsContested s i v p
   -- names that can't stand together
   refused : {left right : Names} → AreRefused s i v p left right → IsContested s i v p

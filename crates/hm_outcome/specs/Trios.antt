@@ -9,7 +9,7 @@ use Rattle.hm_schema.specs.Values.{SchemaValue}
 use Rattle.hm_schema.specs.declared.node.NodeId.{NodeId}
 use Rattle.hm_schema.specs.Membership.{IsMember}
 
--- each of the three may be missing
+-- each of the three may be missing, since what stands below a name is such a trio too
 pub record Trio : Type 0 where
   pub archive : Archive
   pub left : Option Tree
