@@ -1,0 +1,5 @@
+use Rattle.hm_generator.proofs.Digits.{five_digits, seven_digits}
+use Rattle.hm_generator.proofs.contacts.put_entry.Goals as goal
+
+pub returns : goal.returns
+returns c = simp (c.laid_out.ensures, c.laid_out-2.ensures, five_digits, seven_digits) at c.in_ok-write.ensures.bytes
