@@ -1,4 +1,5 @@
--- The laws of lens files: reading one comes to one thing alone, and what is written of a program reads as it.
+-- The laws of lens files: reading one comes to one thing alone. The crates above also cite that the program of a file is well formed; which lines of its
+-- file its lenses are, that there are as many as names, and that no line of a node is bad; and that lines in the order of a file are read as what they say.
 use Rattle.std.proofs.Common.{◌≡◌, inl, inr, ℕ, List, length, filter_map, Result, Ok, Err, refl, sym, ap, ◌∙◌, subst, arith}
 use Rattle.std.specs.List.{AllZip, Contains}
 use Rattle.hm_tree.specs.Names.{Name}
@@ -14,8 +15,9 @@ use Rattle.hm_focal.specs.LensFiles.{IsDefinitionOf, IsLensFile, ReadsLens}
 use Rattle.hm_focal.specs.declared.fault.LensFault.{LensFault}
 use Rattle.hm_focal.specs.declared.fault.LensFault.TheVariants.{BadLens, Memory}
 use Rattle.hm_focal.proofs.Once.{lines_once, one_format, one_main}
-pub use Rattle.hm_focal.proofs.Formed.{file_formed}
-pub use Rattle.hm_focal.proofs.WrittenFiles.{written_lens_reads}
+pub use Rattle.hm_focal.proofs.Formed.{lens_at, zip_at, line_of, body_of_line, node_sound, file_formed}
+pub use Rattle.hm_focal.proofs.LensNames.{count_lenses}
+pub use Rattle.hm_focal.proofs.Ordered.{ordered_lines}
 
 -- what is told of some lines is told of the same lines of the file
 told_of : (bytes : List ℕ) (line : ℕ) (k : IsFirstBadLine bytes line) (es : List EntryValue) (os : List OwnValue) → k.entries ≡ es → k.own ≡ os

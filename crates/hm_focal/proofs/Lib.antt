@@ -13,13 +13,5 @@ mod JudgingOwn
 mod Files
 mod Rows
 mod Formed
-mod OneLine
-mod Writing
-mod TermLines
-mod Broken
-mod WrittenOwn
 mod LineKinds
-mod WrittenLines
-mod OwnOneLine
-mod WrittenParts
-mod WrittenFiles
+mod Ordered

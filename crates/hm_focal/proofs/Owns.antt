@@ -1,11 +1,9 @@
 -- The first letter of a line tells which kind it is of.
-use Rattle.std.proofs.Common.{◌≡◌, ℕ, List, [], ◌∷◌, ◌++◌, slice_get, Some, refl, sym, ap, ◌∙◌, arith}
+use Rattle.std.proofs.Common.{◌≡◌, ℕ, List, ◌∷◌, ◌++◌, slice_get, Some, sym, ap, ◌∙◌, arith}
 use Rattle.std.specs.Prelude.{codes}
-use mathlib.Core.List.{append-nil}
 use Rattle.hm_tree.specs.Names.{Name}
-use Rattle.hm_schema_lines.specs.declared.token.Token.{Token}
 use Rattle.hm_schema_lines.specs.declared.token.Token.TheVariants.{Word}
-use Rattle.hm_schema_lines.specs.Tokens.{Spaced, alone, before, token_text}
+use Rattle.hm_schema_writer.proofs.Laws.{spaced_front}
 use Rattle.hm_focal.specs.OwnLines.{BodyValue, LensValue, OwnValue, nothing, header, format, lens, main, IsHeader, IsFormat, IsHeaded, word, IsLensLine, IsMainLine, IsOwn}
 
 abbrev pub letter : OwnValue → ℕ
@@ -14,10 +12,6 @@ letter header = 104
 letter (format w ps) = 102
 letter (lens d) = 108
 letter (main b) = 109
-
-pub spaced_front : (t : Token) (ts : List Token) (line : List ℕ) → Spaced (t ∷ ts) line → (rest : List ℕ) × (line ≡ token_text t ++ rest)
-spaced_front t _ _ (alone h) = ([], sym (append-nil (token_text t)))
-spaced_front t _ _ (before {gap} {rest} h g s) = (gap ++ rest, refl)
 
 headed_front : (line : List ℕ) (w : Name) (ws : List Name) (text : List ℕ) → IsHeaded line (w ∷ ws) text → (rest : List ℕ) × (line ≡ w ++ rest)
 headed_front line w ws text (word {next} f h) = (f.0, f.1.is)

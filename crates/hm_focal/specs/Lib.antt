@@ -7,4 +7,3 @@ pub mod Stages
 pub mod Judging
 pub mod Building
 pub mod Reading
-pub mod Writing

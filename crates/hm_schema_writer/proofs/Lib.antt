@@ -1,5 +1,8 @@
 pub mod Laws
 mod Lists
+mod OneLine
+mod Broken
+mod NodeEntries
 mod Written
 mod WrittenText
 mod WrittenCuts

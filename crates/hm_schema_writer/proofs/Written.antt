@@ -124,14 +124,16 @@ digits_word (x ∷ xs) h =
     let parts = and_parts (is_digit x) (list_all is_digit xs) h in
     ap (λ b. b && list_all is_word_byte xs) (digit_word x parts.0) ∙ digits_word xs parts.1
 
+pub decimal_word : (n : ℕ) → n < 2 ^ 64 → list_all is_word_byte (decimal n) ≡ true
+decimal_word n fits = digits_word (decimal n) (digits_decimal own n fits)
+
 most_word : (m : Option ℕ) → ((n : ℕ) → m ≡ Some n → n < 2 ^ 64) → list_all is_word_byte (most_text m) ≡ true
 most_word None f = refl
-most_word (Some n) f = digits_word (decimal n) (digits_decimal own n (f n refl))
+most_word (Some n) f = decimal_word n (f n refl)
 
 count_sound : (c : Count) → Fits64 c → IsToken (Word (count_word c))
 count_sound c f =
-    let all = word_both (decimal c.least) (codes ".." ++ most_text c.most) (digits_word (decimal c.least) (digits_decimal own c.least f.least))
-    (most_word c.most f.most) in
+    let all = word_both (decimal c.least) (codes ".." ++ most_text c.most) (decimal_word c.least f.least) (most_word c.most f.most) in
     (some (decimal c.least) (most_text c.most), subst T (sym all) tt)
   where
     some : (xs ys : List ℕ) → 0 < length (xs ++ (codes ".." ++ ys))

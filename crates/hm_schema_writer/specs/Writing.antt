@@ -53,6 +53,10 @@ spaced_text (t ∷ ts) = token_text t ++ behind_spaces ts
 abbrev pub line_text : NodeLineValue → List ℕ
 line_text i = indent i ++ spaced_text (tokens_of i)
 
+-- a line and its end
+abbrev pub ended : List ℕ → List ℕ
+ended line = line ++ codes "\n"
+
 -- a name between quotes behind a space
 abbrev pub spaced_name : Name → List ℕ
 spaced_name k = 32 ∷ spelled k

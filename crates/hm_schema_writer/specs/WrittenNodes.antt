@@ -15,7 +15,7 @@ use Rattle.hm_schema_lines.specs.Tokens.{IsToken}
 use Rattle.hm_schema_lines.specs.NodeLines.{NodeLineValue, node, edge, other, shape}
 use Rattle.hm_schema_lines.specs.Entries.{EntryValue, says}
 use Rattle.hm_schema_lines.specs.Nodes.{empty_node}
-use Rattle.hm_schema_writer.specs.Writing.{line_text}
+use Rattle.hm_schema_writer.specs.Writing.{line_text, ended}
 
 -- ---- the lines of a node
 
@@ -60,9 +60,8 @@ lines_under names (w ∷ ws) (n ∷ ns) = node_lines names w n ++ lines_under na
 abbrev pub nodes_lines : List Name → List NodeValue → List NodeLineValue
 nodes_lines names nodes = lines_under names (declared_names names) nodes
 
--- a line and its end
 abbrev pub ended_text : NodeLineValue → List ℕ
-ended_text x = line_text x ++ codes "\n"
+ended_text x = ended (line_text x)
 
 abbrev pub nodes_text : List Name → List NodeValue → List ℕ
 nodes_text names nodes = flat_map ended_text (nodes_lines names nodes)

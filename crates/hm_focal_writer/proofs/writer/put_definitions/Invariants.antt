@@ -2,8 +2,9 @@ use Rattle.std.proofs.Common.{◌≡◌, ◌++◌, take}
 use Rattle.std.specs.Prelude.{flat_map}
 use Rattle.hm_terms.specs.declared.term.Definition.{Definition}
 use Rattle.hm_terms.specs.Programs.{definition_value}
-use Rattle.hm_focal.specs.Writing.{definition_text, ended}
-use Rattle.hm_focal.proofs.writer.put_definitions.Given as goal
+use Rattle.hm_schema_writer.specs.Writing.{ended}
+use Rattle.hm_focal_writer.specs.Writing.{definition_text}
+use Rattle.hm_focal_writer.proofs.writer.put_definitions.Given as goal
 
 abbrev pub invariant-loop-definition : goal.invariant-loop-definition
 invariant-loop-definition l =

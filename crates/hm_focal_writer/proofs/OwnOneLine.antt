@@ -5,10 +5,10 @@ use Rattle.hm_terms.specs.Lenses.{Lens}
 use Rattle.hm_schema_lines.specs.declared.token.Token.{Token}
 use Rattle.hm_schema_lines.specs.declared.token.Token.TheVariants.{Word}
 use Rattle.hm_schema_lines.specs.Tokens.{token_text}
+use Rattle.hm_schema_writer.proofs.Laws.{IsOneLine, line_both, token_line, spaces_line}
 use Rattle.hm_focal.specs.Front.{IsFront, IsGap, IsWordBefore}
 use Rattle.hm_focal.specs.OwnLines.{term, AreEdges, last, more, AreOptions, no_option, an_option, IsFormat, IsHeaded, equals, word, IsLensLine, IsMainLine}
-use Rattle.hm_focal.proofs.OneLine.{IsOneLine, line_both, token_line, spaces_line}
-use Rattle.hm_focal.proofs.TermLines.{term_text_line}
+use Rattle.hm_focal_writer.proofs.TermLines.{term_text_line}
 
 module _ (bytes rest : List ℕ) (h : IsOneLine rest) where
   front_line : (t : Token) → IsFront bytes t rest → IsOneLine bytes

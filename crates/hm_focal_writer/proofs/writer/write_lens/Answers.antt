@@ -5,14 +5,15 @@ use Rattle.hm_schema.specs.Values.{pair_value, node_value}
 use Rattle.hm_terms.specs.declared.term.Definition.{Definition}
 use Rattle.hm_terms.specs.Programs.{definition_value, program_value, lens_of}
 use Rattle.hm_focal_terms.specs.Written.{term_text}
+use Rattle.hm_schema_writer.specs.Writing.{ended}
 use Rattle.hm_schema_writer.specs.WrittenNodes.{nodes_text}
 use Rattle.std.proofs.lemmas.List.{length-map}
 use Rattle.hm_focal.specs.LensFiles.{IsLensFile}
-use Rattle.hm_focal.proofs.WrittenFiles.{written_lens_reads}
-use Rattle.hm_focal.specs.Writing.{format_text, definition_text, ended}
-use Rattle.hm_focal.proofs.Writing.{lens_put, within}
-use Rattle.hm_focal.proofs.Formed.{file_formed}
-use Rattle.hm_focal.proofs.writer.write_lens.Goals as goal
+use Rattle.hm_focal_writer.proofs.WrittenFiles.{written_lens_reads}
+use Rattle.hm_focal_writer.specs.Writing.{format_text, definition_text}
+use Rattle.hm_focal_writer.proofs.Writing.{lens_put, within}
+use Rattle.hm_focal.proofs.Laws.{file_formed}
+use Rattle.hm_focal_writer.proofs.writer.write_lens.Goals as goal
 
 pub put_definitions-requires : goal.put_definitions-requires
 put_definitions-requires c =

@@ -4,16 +4,33 @@ use Rattle.std.specs.Prelude.{◌==◌}
 use Rattle.std.specs.List.{prefix_len}
 use Rattle.std.proofs.lemmas.Bool.{eqb-true}
 use Rattle.hm_tree.specs.Names.{Name}
-use Rattle.hm_tree.specs.Nodes.{Tree}
+use Rattle.hm_tree.specs.Nodes.{Tree, Shape, bare, mark, edge}
 use Rattle.hm_schema.specs.Values.{Names}
 use Rattle.hm_terms.specs.Lenses.{Lens, Lenses}
-use Rattle.hm_tree_text.specs.Text.{whole, text}
+use Rattle.hm_tree_spelling.specs.Spelling.{spelled}
+use Rattle.hm_tree_text.specs.Text.{Position, whole, below, further, text}
 use Rattle.hm_schema_lines.specs.declared.token.Token.{Token}
 use Rattle.hm_schema_lines.specs.Tokens.{token_text}
 use Rattle.hm_focal_terms.specs.declared.keyword.Keyword.{Keyword}
 use Rattle.hm_focal_terms.specs.Fronts.{unspaced, IsSign, IsFront, IsWord, IsEdge, IsTree, AreNames, no_names, a_name, IsSet, Behind, One, Two}
 use Rattle.hm_focal_terms.specs.TermText.{IsTerm, one_part, more_parts, IsPart, in_parentheses, by_keyword, IsForm, id_form, const_form, hoist_form, plunge_form, fork_form, map_form, each_form, list_form, copy_form, merge_form, concrete_form, view_form, text_form, call_form, filter_form, prune_form, focus_form, add_form, rename_form, BehindSign, behind_sign, InParentheses, parentheses, TwoTerms, two_terms, ArePairs, last_pair, more_pairs, IsTermText}
-use Rattle.hm_focal.proofs.OneLine.{IsOneLine, line_both, token_line, text_line}
+use Rattle.hm_schema_writer.proofs.Laws.{IsOneLine, line_both, spelled_line, token_line}
+
+-- ---- trees
+
+text_line : (p : Position) (s : Shape) → IsOneLine (text p s)
+text_line whole bare = (omega arith, (omega arith, tt))
+text_line below bare = tt
+text_line further bare = (omega arith, tt)
+text_line whole mark = (omega arith, tt)
+text_line below mark = (omega arith, (omega arith, tt))
+text_line further mark = (omega arith, tt)
+text_line whole (edge n child rest) =
+    (omega arith, line_both (spelled n) _ (spelled_line n) (line_both (text below child) _ (text_line below child) (text_line further rest)))
+text_line below (edge n child rest) =
+    (omega arith, (omega arith, line_both (spelled n) _ (spelled_line n) (line_both (text below child) _ (text_line below child) (text_line further rest))))
+text_line further (edge n child rest) =
+    (omega arith, line_both (spelled n) _ (spelled_line n) (line_both (text below child) _ (text_line below child) (text_line further rest)))
 
 -- ---- what stands at the front of bytes
 

@@ -22,20 +22,17 @@ use Rattle.hm_schema_lines.specs.Nodes.{IsPlaceOf, declared, empty, NamesEmpty}
 use Rattle.hm_schema_writer.specs.Writing.{line_text}
 use Rattle.hm_schema_writer.specs.WrittenNodes.{name_at, nodes_lines, IsWritable, AreOfNodes}
 use Rattle.hm_schema_lines.proofs.Laws.{at_place, from_place, names_empty_or, type_place}
-use Rattle.hm_schema_writer.proofs.Laws.{readable_nodes, rewritten_nodes, written_reads as written_nodes_read, written_sound, written_places, written_nodes, written_type_names}
+use Rattle.hm_schema_writer.proofs.Laws.{AreOneLine, front_quiet, lines_both, lines_each, node_line_line, spaced_line, texts_are, readable_nodes, rewritten_nodes, written_reads as written_nodes_read, written_sound, written_places, written_nodes, written_type_names}
 use Rattle.hm_focal.specs.OwnLines.{BodyValue, term, oversized, LensValue, OwnValue, nothing, header, format, lens, main, body_in, lens_in, lens_names, named_nodes, IsHeaded, equals, word, IsBody, IsLensLine}
 use Rattle.hm_focal.specs.Lines.{IsOwnBehind, AreLines}
 use Rattle.hm_focal.specs.BadLines.{HasBody, IsBadLine, unreadable, of_node, declared_twice, names_no_source, names_no_view, calls_no_lens, too_many_lenses, too_large, too_long}
 use Rattle.hm_focal.specs.LensFiles.{IsDefinitionOf, IsLensFile}
-use Rattle.hm_focal.specs.Writing.{header_text, format_text, definition_text, main_text, lens_lines, lens_text, HasSmallTexts}
-use Rattle.hm_focal.proofs.Broken.{AreOneLine, texts_are}
-use Rattle.hm_focal.proofs.Formed.{lens_at, zip_at, line_of, body_of_line, node_sound, file_formed}
-use Rattle.hm_focal.proofs.LensNames.{count_lenses}
-use Rattle.hm_focal.proofs.OneLine.{IsOneLine, node_line_line, spaced_line}
-use Rattle.hm_focal.proofs.OwnOneLine.{format_line, lens_line_line, main_line_line}
-use Rattle.hm_focal.proofs.WrittenLines.{lens_line, written_entries, written_own, AreReadable, lines_read}
-use Rattle.hm_focal.proofs.WrittenOwn.{header_reads, format_reads, lens_reads, main_reads}
-use Rattle.hm_focal.proofs.WrittenParts.{name_of, ends_of, owns, back_quiet, front_quiet, readable, lens_place, main_place, has_main, lens_values, all_lens_names, all_nodes, named_before, name_is}
+use Rattle.hm_focal_writer.specs.Writing.{header_text, format_text, definition_text, main_text, lens_lines, lens_text, HasSmallTexts}
+use Rattle.hm_focal.proofs.Laws.{lens_at, zip_at, line_of, body_of_line, node_sound, file_formed, count_lenses}
+use Rattle.hm_focal_writer.proofs.OwnOneLine.{format_line, lens_line_line, main_line_line}
+use Rattle.hm_focal_writer.proofs.WrittenLines.{lens_line, written_entries, written_own, AreReadable, lines_read}
+use Rattle.hm_focal_writer.proofs.WrittenOwn.{header_reads, format_reads, lens_reads, main_reads}
+use Rattle.hm_focal_writer.proofs.WrittenParts.{name_of, ends_of, owns, back_quiet, readable, lens_place, main_place, has_main, lens_values, all_lens_names, all_nodes, named_before, name_is}
 
 -- the words in front of `=` are words
 abbrev AreWords : List Name → Type 0
@@ -55,14 +52,6 @@ empty_place : (es : List EntryValue) → HasNoBad (IsBadNodeLine es) → (w : Na
     → i ≡ count_by begins_node es
 empty_place es sound w _ (declared j is) same = absurd (sound j (declares_empty (subst (λ (v : Name). Says es j (node v)) same is)))
 empty_place es sound _ _ empty same = refl
-
-lines_both : (xs ys : List (List ℕ)) → AreOneLine xs → AreOneLine ys → AreOneLine (xs ++ ys)
-lines_both [] ys h k = k
-lines_both (x ∷ xs) ys h k = (h.0, lines_both xs ys h.1 k)
-
-lines_each : {X : Type 0} (f : X → List ℕ) (xs : List X) → ((x : X) → Contains xs x → IsOneLine (f x)) → AreOneLine (map f xs)
-lines_each f [] h = tt
-lines_each f (x ∷ xs) h = (h x (0, omega arith, refl), lines_each f xs (λ y c. h y (suc c.0, omega (arith, c.1), c.2)))
 
 zip_each : {X Y : Type 0} (P : X → Y → Type 0) (f : Y → X) (ys : List Y) → ((y : Y) → Contains ys y → P (f y) y) → AllZip P (map f ys) ys
 zip_each P f [] h = tt

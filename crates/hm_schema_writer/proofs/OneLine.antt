@@ -8,12 +8,10 @@ use Rattle.std.proofs.lemmas.Bool.Decides.{nat_tests}
 use Rattle.hm_tree.specs.Names.{Name}
 use Rattle.hm_tree_spelling.specs.Spelling.{is_quote_or_backslash, is_control, is_plain, spelled_byte, escaped, spelled}
 use Rattle.hm_tree_spelling.specs.SpellingLaws.{Kind, plain, backslashed, control, kind}
-use Rattle.hm_tree.specs.Nodes.{Shape, bare, mark, edge}
-use Rattle.hm_tree_text.specs.Text.{Position, whole, below, further, text}
 use Rattle.hm_schema_lines.specs.declared.token.Token.{Token}
 use Rattle.hm_schema_lines.specs.declared.token.Token.TheVariants.{Word, Quoted, Question, Plus}
 use Rattle.hm_schema_lines.specs.Tokens.{is_word_byte, is_word, token_text, IsToken, AreSpaces, one, more, Spaced, alone, before}
-use Rattle.hm_schema_lines.specs.NodeLines.{NodeLineValue, node, edge as edge_line, other, shape, indent, IsNodeLine}
+use Rattle.hm_schema_lines.specs.NodeLines.{NodeLineValue, node, edge, other, shape, indent, IsNodeLine}
 use Rattle.hm_facts.proofs.Booleans.{is_true}
 
 abbrev pub IsOneLine : List ℕ → Type 0
@@ -62,22 +60,6 @@ pub spelled_line : (n : Name) → IsOneLine (spelled n)
 unfolding spelled
 spelled_line n = (omega arith, line_both (escaped n) (34 ∷ []) (escaped_line n) (omega arith, tt))
 
--- ---- trees
-
-pub text_line : (p : Position) (s : Shape) → IsOneLine (text p s)
-text_line whole bare = (omega arith, (omega arith, tt))
-text_line below bare = tt
-text_line further bare = (omega arith, tt)
-text_line whole mark = (omega arith, tt)
-text_line below mark = (omega arith, (omega arith, tt))
-text_line further mark = (omega arith, tt)
-text_line whole (edge n child rest) =
-    (omega arith, line_both (spelled n) _ (spelled_line n) (line_both (text below child) _ (text_line below child) (text_line further rest)))
-text_line below (edge n child rest) =
-    (omega arith, (omega arith, line_both (spelled n) _ (spelled_line n) (line_both (text below child) _ (text_line below child) (text_line further rest))))
-text_line further (edge n child rest) =
-    (omega arith, line_both (spelled n) _ (spelled_line n) (line_both (text below child) _ (text_line below child) (text_line further rest)))
-
 -- ---- tokens, and lines of nodes
 
 pub token_line : (t : Token) → IsToken t → IsOneLine (token_text t)
@@ -100,6 +82,6 @@ node_line_line line x h = subst IsOneLine (sym h.is) (indented x (spaced_line h.
   where
     indented : (x : NodeLineValue) → IsOneLine h.text → IsOneLine (indent x ++ h.text)
     indented (node w) k = k
-    indented (edge_line n w) k = (omega arith, (omega arith, k))
+    indented (edge n w) k = (omega arith, (omega arith, k))
     indented (other c w) k = (omega arith, (omega arith, k))
     indented (shape s) k = (omega arith, (omega arith, k))

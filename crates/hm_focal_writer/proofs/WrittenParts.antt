@@ -11,7 +11,7 @@ use Rattle.hm_schema_lines.specs.Entries.{unknown, says}
 use Rattle.hm_schema_writer.specs.WrittenNodes.{name_at, SaysNothing}
 use Rattle.hm_schema_lines.proofs.Laws.{at_place}
 use Rattle.hm_focal.specs.OwnLines.{BodyValue, LensValue, OwnValue, nothing, lens, main, lens_in, lens_names, named_nodes}
-use Rattle.hm_focal.proofs.WrittenLines.{lens_line, own_line}
+use Rattle.hm_focal_writer.proofs.WrittenLines.{lens_line, own_line}
 
 abbrev Definitions : Type 0
 Definitions = List (Name × DefinitionValue)
@@ -33,14 +33,6 @@ unknown_last (d ∷ ds) (suc m) x e = unknown_last ds m x e
 
 pub back_quiet : (ds : Definitions) → SaysNothing (map (λ v. unknown) ds ++ unknown ∷ [])
 back_quiet ds x c = let a = at_place (map (λ v. unknown) ds ++ unknown ∷ []) (says x) c in unknown_last ds a.0 x a.1
-
-pub front_quiet : SaysNothing (unknown ∷ unknown ∷ [])
-front_quiet x c = let a = at_place (unknown ∷ unknown ∷ []) (says x) c in go a.0 a.1
-  where
-    go : (m : ℕ) → slice_get (unknown ∷ unknown ∷ []) m ≡ Some (says x) → ⊥
-    go zero e = let f : unknown ≡ says x = same_Some unknown (says x) e in let no : ⊥ = cc in no
-    go (suc zero) e = let f : unknown ≡ says x = same_Some unknown (says x) e in let no : ⊥ = cc in no
-    go (suc (suc m)) e = let no : ⊥ = cc in no
 
 -- ---- the file's own lines, behind the header and the format line
 

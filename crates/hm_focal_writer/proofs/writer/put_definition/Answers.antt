@@ -1,6 +1,6 @@
 use Rattle.std.proofs.Common.{◌++◌, ap, ◌∙◌}
-use Rattle.hm_focal.proofs.Writing.{definition_put}
-use Rattle.hm_focal.proofs.writer.put_definition.Goals as goal
+use Rattle.hm_focal_writer.proofs.Writing.{definition_put}
+use Rattle.hm_focal_writer.proofs.writer.put_definition.Goals as goal
 
 pub returns : goal.returns
 returns c =

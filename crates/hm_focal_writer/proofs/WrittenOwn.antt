@@ -16,7 +16,7 @@ use Rattle.hm_schema_writer.specs.WrittenNodes.{name_at}
 use Rattle.hm_schema_lines.proofs.Laws.{not_word, word_utf8}
 use Rattle.hm_focal.specs.Front.{IsFrontEdge, IsGap, IsWordBefore}
 use Rattle.hm_focal.specs.OwnLines.{term, AreEdges, last, more, AreOptions, no_option, an_option, IsFormat, IsHeader, IsHeaded, equals, word, IsTrimmed, IsLensLine, IsMainLine}
-use Rattle.hm_focal.specs.Writing.{header_text, edges_text, option_text, format_text, definition_text, main_text}
+use Rattle.hm_focal_writer.specs.Writing.{header_text, edges_text, option_text, format_text, definition_text, main_text}
 use Rattle.hm_facts.proofs.Booleans.{is_true}
 
 pub header_reads : IsHeader header_text

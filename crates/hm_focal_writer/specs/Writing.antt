@@ -7,7 +7,7 @@ use Rattle.hm_terms.specs.Programs.{ProgramValue}
 use Rattle.hm_terms.specs.WellFormedPrograms.{IsLensOf}
 use Rattle.hm_focal_terms.specs.Limits.{IsOversized}
 use Rattle.hm_focal_terms.specs.Written.{term_text}
-use Rattle.hm_schema_writer.specs.Writing.{line_text}
+use Rattle.hm_schema_writer.specs.Writing.{line_text, ended}
 use Rattle.hm_schema_writer.specs.WrittenNodes.{name_at, nodes_lines}
 
 -- ---- lines
@@ -43,9 +43,6 @@ lens_lines p =
     ∷ format_text p.format p.options.pairs
     ∷ (map line_text (nodes_lines p.options.type_names p.options.types)
     ++ (map (definition_text p.options.type_names) p.definitions ++ main_text p.main ∷ []))
-
-abbrev pub ended : List ℕ → List ℕ
-ended line = line ++ codes "\n"
 
 abbrev pub lens_text : ProgramValue → List ℕ
 lens_text p = flat_map ended (lens_lines p)

@@ -9,9 +9,9 @@ use Rattle.hm_tree.specs.Names.{Name}
 use Rattle.hm_terms.specs.Lenses.{DefinitionValue}
 use Rattle.hm_terms.specs.declared.term.Definition.{Definition}
 use Rattle.hm_terms.specs.Programs.{ProgramValue, definition_value}
-use Rattle.hm_schema_writer.specs.Writing.{line_text}
+use Rattle.hm_schema_writer.specs.Writing.{line_text, ended}
 use Rattle.hm_schema_writer.specs.WrittenNodes.{nodes_lines, nodes_text}
-use Rattle.hm_focal.specs.Writing.{header_text, format_text, definition_text, main_text, ended, lens_text}
+use Rattle.hm_focal_writer.specs.Writing.{header_text, format_text, definition_text, main_text, lens_text}
 
 -- a definition, by its parts
 pub definition_put : (old name source view body a b c d e f g h : List ℕ) → a ≡ old ++ codes "lens " → b ≡ a ++ name → c ≡ b ++ 32 ∷ []

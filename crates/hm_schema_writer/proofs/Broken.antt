@@ -1,14 +1,15 @@
 -- How a text of lines breaks into these.
 use Rattle.std.proofs.Common.{◌≡◌, ℕ, zero, suc, ◌+◌, ◌-◌, ◌<◌, ◌≤◌, Bool, true, false, cond, List, [], ◌∷◌, ◌++◌, length, take, map, slice_index, inr, refl, sym, ap, ◌∙◌, arith}
 use Rattle.std.specs.Prelude.{flat_map, nat_lt, ◌==◌, ◌&&◌}
+use Rattle.std.specs.List.{Contains}
 use Rattle.std.proofs.lemmas.Bool.{eq-eqb, ne_eqb, lt-ltb, ltb-true}
 use Rattle.std.proofs.lemmas.List.{length-append}
 use Rattle.std.proofs.Math.Seq.{take-append_seam}
 use Rattle.bstr.specs.Text.{lines_of, no_cr, without_terminator}
 use Rattle.bstr.proofs.lemmas.LineLemmas.{lines-append, lines-one, lines-nil}
 use Rattle.hm_schema_lines.specs.Entries.{texts_of}
-use Rattle.hm_focal.specs.Writing.{ended}
-use Rattle.hm_focal.proofs.OneLine.{IsOneLine}
+use Rattle.hm_schema_writer.specs.Writing.{ended}
+use Rattle.hm_schema_writer.proofs.OneLine.{IsOneLine}
 
 -- a byte of a line
 byte_at : (line : List ℕ) (k : ℕ) → k < length line → IsOneLine line → 32 ≤ slice_index line k
@@ -74,6 +75,14 @@ module _ (line : List ℕ) (h : IsOneLine line) where
 abbrev pub AreOneLine : List (List ℕ) → Type 0
 AreOneLine [] = Unit {0}
 AreOneLine (line ∷ lines) = IsOneLine line × AreOneLine lines
+
+pub lines_both : (xs ys : List (List ℕ)) → AreOneLine xs → AreOneLine ys → AreOneLine (xs ++ ys)
+lines_both [] ys h k = k
+lines_both (x ∷ xs) ys h k = (h.0, lines_both xs ys h.1 k)
+
+pub lines_each : {X : Type 0} (f : X → List ℕ) (xs : List X) → ((x : X) → Contains xs x → IsOneLine (f x)) → AreOneLine (map f xs)
+lines_each f [] h = tt
+lines_each f (x ∷ xs) h = (h x (0, omega arith, refl), lines_each f xs (λ y c. h y (suc c.0, omega (arith, c.1), c.2)))
 
 pub texts_are : (lines : List (List ℕ)) → AreOneLine lines → texts_of (flat_map ended lines) ≡ lines
 texts_are [] h = ap (map without_terminator) lines-nil

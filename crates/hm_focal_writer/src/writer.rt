@@ -4,9 +4,10 @@ ghost use Rattle.hm_tree_spelling.specs.Spelling.{spelled};
 ghost use Rattle.hm_schema.specs.Values.{pair_value};
 ghost use Rattle.hm_terms.specs.Programs.{definition_value, program_value};
 ghost use Rattle.hm_focal_terms.specs.Written.{term_text};
+ghost use Rattle.hm_schema_writer.specs.Writing.{ended};
 ghost use Rattle.hm_schema_writer.specs.WrittenNodes.{name_at};
 ghost use Rattle.hm_focal.specs.LensFiles.{IsLensFile};
-ghost use Rattle.hm_focal.specs.Writing.{edges_text, option_text, format_text, definition_text, ended, lens_text, HasSmallTexts};
+ghost use Rattle.hm_focal_writer.specs.Writing.{edges_text, option_text, format_text, definition_text, lens_text, HasSmallTexts};
 
 use hm_focal_terms::append_term;
 use hm_schema::NodeId;
