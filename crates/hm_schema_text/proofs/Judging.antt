@@ -15,9 +15,16 @@ use Rattle.hm_schema_lines.specs.NodeLines.{NodeLineValue}
 use Rattle.hm_schema_lines.specs.Entries.{EntryValue, unknown, says, IsEntry, texts_of, AreEntries}
 use Rattle.hm_schema_lines.specs.BadLines.{is_counted, lines_before, Says, IsNode, IsBadNodeLine}
 use Rattle.hm_schema_lines.specs.FirstBad.{HasNoBad}
-use Rattle.hm_schema_lines.proofs.Laws.{begins, first_letter, spaced_one, bad_says, is_node}
+use Rattle.hm_schema_lines.proofs.Laws.{begins, first_letter, more_before, spaced_one, bad_says, is_node}
 use Rattle.hm_schema_text.specs.Head.{IsRoot, IsHeaderAt, IsRootAt, IsNth, IsReadRoot, NamesRoot}
 use Rattle.hm_schema_text.specs.BadLines.{IsBadLine, no_header, no_root, names_no_node, unreadable, of_node}
+
+-- fewer lines are counted before an earlier one
+not_before : (es : List EntryValue) (n i j : ℕ) → IsNth es n i → IsNth es n j → ¬ (i < j)
+not_before es n i j h k below = let more = more_before is_counted es i j h.entry h.is h.counted below in omega (arith, h.before, k.before)
+
+pub nth_once : (es : List EntryValue) (n i j : ℕ) → IsNth es n i → IsNth es n j → i ≡ j
+nth_once es n i j h k = omega (arith, not_before es n i j h k, not_before es n j i k h)
 
 some_line : (x y : List ℕ) → Some x ≡ Some y → x ≡ y
 some_line x y e = cc

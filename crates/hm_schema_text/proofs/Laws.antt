@@ -7,24 +7,19 @@ use Rattle.hm_schema_lines.specs.Entries.{EntryValue}
 use Rattle.hm_schema_lines.specs.BadLines.{is_counted}
 use Rattle.hm_schema_lines.specs.FirstBad.{IsTold, at, behind_all}
 use Rattle.hm_schema_lines.specs.Nodes.{IsPlaceOf, AreNodesOf}
-use Rattle.hm_schema_lines.proofs.Laws.{entries_once, more_before, counted_below, nodes_once, place_once, no_twins, told_once}
-use Rattle.hm_schema_text.specs.Head.{IsNth, NamesRoot, IsRootAt}
+use Rattle.hm_schema_lines.proofs.Laws.{entries_once, counted_below, nodes_once, place_once, no_twins, told_once}
+use Rattle.hm_schema_text.specs.Head.{NamesRoot, IsRootAt}
 use Rattle.hm_schema_text.specs.BadLines.{IsBadLine, of_node, IsFirstBadLine}
 use Rattle.hm_schema_text.specs.SchemaFiles.{IsSchemaFile, ReadsSchema}
 use Rattle.hm_schema_text.specs.declared.fault.SchemaFault.{SchemaFault}
 use Rattle.hm_schema_text.specs.declared.fault.SchemaFault.TheVariants.{BadSchema, Memory}
-use Rattle.hm_schema_text.proofs.Judging.{root_once}
+use Rattle.hm_schema_text.proofs.Judging.{nth_once, root_once}
 
 -- ---- the second line
 
--- fewer lines are counted before an earlier one
-not_before : (es : List EntryValue) (n i j : ℕ) → IsNth es n i → IsNth es n j → ¬ (i < j)
-not_before es n i j h k below = let more = more_before is_counted es i j h.entry h.is h.counted below in omega (arith, h.before, k.before)
-
 root_name_once : (bytes : List ℕ) (es : List EntryValue) (w v : Name) → NamesRoot bytes es w → NamesRoot bytes es v → w ≡ v
 root_name_once bytes es w v h k =
-    let place : k.place ≡ h.place =
-    omega (arith, not_before es 1 h.place k.place h.second k.second, not_before es 1 k.place h.place k.second h.second) in
+    let place = nth_once es 1 k.place h.place k.second h.second in
     root_once bytes h.place w v h.root (subst (λ i. IsRootAt bytes i v) place k.root)
 
 -- ---- what is told, and the schema

@@ -1,3 +1,5 @@
 pub mod Laws
 mod Judging
 mod Files
+mod WrittenFiles
+mod Written

@@ -1,3 +1,4 @@
 pub mod Head
 pub mod BadLines
 pub mod SchemaFiles
+pub mod Writing

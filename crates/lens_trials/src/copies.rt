@@ -1,6 +1,7 @@
 //! Lens files that are read and written.
 use crate::lines::line_of;
-use hm_focal::{LensFault, read_lens, write_lens};
+use hm_focal::{LensFault, read_lens};
+use hm_focal_writer::write_lens;
 use hm_tree::Memory;
 use std::alloc::Global;
 

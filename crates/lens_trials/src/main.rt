@@ -28,7 +28,6 @@ mod members;
 mod programs;
 mod runs;
 mod trials;
-mod views;
 
 use crate::copies::copy_lines;
 use crate::members::load;

@@ -9,11 +9,10 @@ use crate::lines::{fault_line, line_of, trees_line};
 use crate::members::{load, members, tree_of};
 use crate::runs::{say_edit, say_made, say_put, say_shown};
 use crate::trials::are_lawful;
-use crate::views::schema_lines;
 use hm_focal::{LensFault, read_lens};
 use hm_outside::Store;
 use hm_schema::Schema;
-use hm_schema_text::{SchemaFault, read_schema};
+use hm_schema_text::{SchemaFault, read_schema, write_schema};
 use hm_terms::{Program, Typed};
 use hm_text_kit::{FoldCase, TrimEnds, date, email, trim, yes_no};
 use hm_text_lens::TextLens;
@@ -111,7 +110,7 @@ fn try_typed<S: Store>(
 {
     match (step, trees) {
         ("check", _) => Ok(Vec::from_slice(alloc, b"typed\n")?),
-        ("view", _) => schema_lines(alloc, &typed.view),
+        ("view", _) => write_schema(alloc, &typed.view),
         ("shows", trees) => shows(alloc, store, texts, typed, trees),
         ("puts", [view]) => makes(alloc, store, texts, typed, view),
         ("puts", [view, tree]) => puts(alloc, store, texts, typed, view, tree),
