@@ -21,6 +21,15 @@ pub fn write_report(alloc: Global, conflicts: &[Conflict]) -> Result<Vec<u8>, Me
     Ok(report)
 }
 
+/// The last line of a report alone, by the number of its conflicts.
+pub fn write_last_line(alloc: Global, number: usize) -> Result<Vec<u8>, Memory>
+    ensures { IfOk result (λ line. line.items ≡ number_line number) }
+{
+    let mut line = Vec::new(alloc);
+    put_last(alloc, &mut line, number)?;
+    Ok(line)
+}
+
 // Puts the line of a conflict behind a report.
 fn put_conflict(report: &mut Vec<u8>, conflict: &Conflict) -> Result<(), Memory>
     ensures { OnOk result (report.new.items ≡ report.old.items ++ conflict_line conflict.now) }
