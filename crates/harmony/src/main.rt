@@ -1,4 +1,5 @@
-//! Synchronises two files, each read through a lens file, with the archive of what they last agreed on.
+//! Synchronises two files, each read through a lens file, with the archive of what they last agreed on, or tells what would
+//! come of it.
 //!
 //! This is `main` alone, which knows which store and which sink are real, and which formats and text lenses there are.
 //!

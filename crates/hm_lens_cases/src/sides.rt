@@ -2,6 +2,7 @@
 
 use hm_format::{Format, Plain};
 use hm_run_files::Slot;
+use hm_run_handed::HandedIn;
 use hm_run_sides::open_side;
 use hm_text_lens::TextLens;
 use std::test::Fail;
@@ -18,7 +19,11 @@ fn the_first_format_of_a_tag(rt: HostRuntime) -> Result<(), Fail> {
         Box::new(alloc, Plain::new())?,
     ];
     let texts: Vec<Box<dyn TextLens>> = Vec::new(alloc);
-    match open_side(alloc, Slot::LensB, &formats, &texts, LENS.as_bytes()) {
+    let given = HandedIn {
+        formats: &formats,
+        texts: &texts,
+    };
+    match open_side(alloc, Slot::LensB, given, LENS.as_bytes()) {
         Ok(side) => {
             assert_eq!(rt; side.place, 0);
             Ok(())

@@ -1,2 +1,5 @@
-mod Working
+mod Once
+mod Written
+mod Doing
+mod Worked
 mod Relied

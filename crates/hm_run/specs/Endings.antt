@@ -1,5 +1,5 @@
 -- How a run ends: what its work came to and left, how that was put out, and what a user relies on.
-use Rattle.std.specs.Prelude.{◌≡◌, ◌⊎◌, ℕ, ◌<◌, List, ◌++◌, Option, Some, Result, Ok, Err, IsUtf8}
+use Rattle.std.specs.Prelude.{◌≡◌, ◌⊎◌, ℕ, ◌<◌, List, ◌++◌, take, Option, Some, Result, Ok, Err, IsUtf8}
 use Rattle.hm_tree.specs.Names.{Name}
 use Rattle.hm_tree.specs.Nodes.{Tree}
 use Rattle.hm_tree.specs.States.{Path, state}
@@ -9,68 +9,46 @@ use Rattle.hm_safety.specs.Safety.{IsTopmostMark, IsSafe}
 use Rattle.hm_outcome.specs.Trios.{views, Differ}
 use Rattle.hm_outcome.specs.Outcomes.{IsOutcome, IsMaximal, IsOnlyOne}
 use Rattle.hm_report.specs.Conflicts.{AreExplained}
-use Rattle.hm_report.specs.Text.{report_text}
 use Rattle.hm_replica.specs.Replicas.{ReplicaValue, IsClosed}
 use Rattle.hm_outside.specs.Contents.{Contents}
 use Rattle.hm_outside.specs.Answers.{PutsAfter}
 use Rattle.hm_outside.specs.declared.outside.Failure.{Failure}
-use Rattle.hm_outside.specs.declared.outside.Kind.{Kind}
 use Rattle.hm_outside.specs.declared.outside.Put.{Put}
 use Rattle.hm_outside.specs.declared.outside.Put.TheVariants as put
-use Rattle.hm_run_files.specs.declared.slot.Slot.{Slot}
+use Rattle.hm_command_line.specs.declared.request.Command.{Command}
+use Rattle.hm_command_line.specs.Requests.{RequestValue}
 use Rattle.hm_run_files.specs.declared.stop.Refusal.{Refusal}
 use Rattle.hm_run_files.specs.declared.stop.Stop.{Stop}
 use Rattle.hm_run_files.specs.declared.stop.Stop.TheVariants.{Refused, Memory}
-use Rattle.hm_run_files.specs.Steps.{WhereTold, Did}
-use Rattle.hm_run_files.specs.Files.{AreUnread, AreUnwritten}
+use Rattle.hm_run_files.specs.Steps.{Then, WhereTold}
+use Rattle.hm_run_files.specs.Files.{loads, written}
 use Rattle.hm_run_words.specs.declared.ending.Output.{Output}
 use Rattle.hm_run_words.specs.declared.ending.Ending.{Ending}
-use Rattle.hm_run_words.specs.Words.{FileNames, slots, meaning}
 use Rattle.hm_run_words.specs.Lines.{output_of, refusal_status}
+use Rattle.hm_run_words.specs.Slots.{files_of}
+use Rattle.hm_run_words.specs.Words.{meaning}
+use Rattle.hm_run_effects.specs.Effects.{Effect, EffectOf, Acts}
 use Rattle.hm_run_sides.specs.Formats.{HasFormat}
+use Rattle.hm_run_handed.specs.Handed.{Handed}
 use Rattle.hm_run_sides.specs.Sides.{SideValue}
-use Rattle.hm_run_sync.specs.Handed.{Handed}
-use Rattle.hm_run_sync.specs.Verdict.{Plan, Verdict, VerdictOf, IsReport, news_of, stop_state, TellsConflicts, old_trio, new_trio}
+use Rattle.hm_run_sync.specs.Verdict.{Plan, PlansFrom, TellsConflicts, news_of, said, old_trio, new_trio}
+use Rattle.hm_run.specs.Commands.{new_names, finding_of}
 
--- ---- what the work came to before its output is put, by what the words mean
+-- ---- what the words ask for
 
--- the store has the plan of these contents carried out as far as its first n files
-pub record IsStopState (h : Handed) (meant : Result FileNames Refusal) (c : Contents) (left : Option Contents) (n : ℕ) : Type 0 where
-  pub plan : Plan
-  pub planned : VerdictOf h c meant (Ok plan)
-  pub is : left ≡ Some (stop_state c plan n)
+abbrev pub AsksFor : List Name → Command → Type 0
+AsksFor words command = (asked : RequestValue) × (meaning words ≡ Ok asked) × (asked.command ≡ command)
 
--- the whole plan is carried out, and the output tells the conflicts that remain
-pub record IsDone (h : Handed) (meant : Result FileNames Refusal) (c : Contents) (output : Output) (left : Option Contents) : Type 0 where
-  pub state : IsStopState h meant c left 3
-  pub tells : IsReport state.plan.before state.plan.after output
+-- what is to be done over some contents: the first refusal in the order of the checks, or an effect
+unfoldable pub Verdict : Handed → Contents → List Name → Result Effect Refusal → Type 0
+Verdict h c words = Then (λ r. r ≡ meaning words) (λ asked. EffectOf (finding_of h asked) (files_of asked) c)
 
--- the whole plan is carried out; or the refusal is the first one that holds, and nothing has changed
-abbrev pub Synchronises : Handed → Result FileNames Refusal → Option Contents → Option Contents → Result Output Refusal → Type 0
-Synchronises h meant told left (Ok output) = WhereTold told (λ c. IsDone h meant c output left)
-Synchronises h meant told left (Err refusal) = WhereTold told (λ c. VerdictOf h c meant (Err refusal) × (left ≡ Some c))
+-- ---- what the work came to before its output is put
 
--- one of the new files of a plan could not be written
-pub record IsUnfinished (h : Handed) (files : FileNames) (told left : Option Contents) (before after : List Failure) (kind : Kind) (at : Slot) : Type 0 where
-  pub plan : Plan
-  pub planned : WhereTold told (λ c. VerdictOf h c (Ok files) (Ok plan))
-  pub unwritten : AreUnwritten told left (news_of plan.files plan.texts) before after kind at
-
--- a file could not be read, and nothing has changed; or one could not be written
-abbrev pub IsFault : Handed → FileNames → Option Contents → Option Contents → List Failure → List Failure → Kind → Slot → Type 0
-IsFault h files told left before after kind at =
-    (AreUnread told (slots files) before after kind at × (left ≡ told)) ⊎ IsUnfinished h files told left before after kind at
-
--- for want of memory the contents are as before, or a plan was carried out as far as some file
-abbrev pub IsCutOff : Handed → FileNames → Option Contents → Option Contents → Type 0
-IsCutOff h files told left = WhereTold told (λ c. (left ≡ Some c) ⊎ ((n : ℕ) × IsStopState h (Ok files) c left n))
-
--- the work of words that mean files, and that of words that mean none
-abbrev pub Works : Handed → Result FileNames Refusal → Option Contents → Option Contents → List Failure → List Failure → Result Output Stop → Type 0
-Works h (Ok files) told left before after work =
-    Did (Synchronises h (Ok files) told left) (IsFault h files told left before after) before after work
-    × (work ≡ Err Memory → IsCutOff h files told left)
-Works h (Err refusal) told left before after work = (work ≡ Err (Refused refusal)) × (left ≡ told) × (after ≡ before)
+-- that of the request that the words mean, or the refusal of words that mean none
+abbrev pub Works : Handed → Result RequestValue Refusal → Option Contents → Option Contents → List Failure → List Failure → Result Output Stop → Type 0
+Works h (Ok asked) told left before after work = Acts (finding_of h asked) (files_of asked) told left before after work
+Works h (Err refusal) told left before after work = ((work ≡ Err (Refused refusal)) ⊎ (work ≡ Err Memory)) × (left ≡ told) × (after ≡ before)
 
 -- ---- how the run ends
 
@@ -100,10 +78,18 @@ pub record EndsAs (h : Handed) (ending : Ending) (words : List Name) (before aft
 
 -- ---- what a user relies on
 
--- the plan of these words over these contents: there is no other verdict
+-- the plan of the synchronisation that these words ask for, over these contents: there is no other
 pub record IsPlan (h : Handed) (words : List Name) (c : Contents) (plan : Plan) : Type 0 where
-  pub planned : Verdict h c words (Ok plan)
-  pub only : (r : Result Plan Refusal) → Verdict h c words r → r ≡ Ok plan
+  pub asked : RequestValue
+  pub means : meaning words ≡ Ok asked
+  pub all : List (List ℕ)
+  pub loaded : loads c (files_of asked) ≡ Ok all
+  pub planned : PlansFrom h (new_names asked.files) all (Ok plan)
+  pub only : (r : Result Plan Refusal) → PlansFrom h (new_names asked.files) all r → r ≡ Ok plan
+
+-- the contents with the plan carried out as far as its first n files
+abbrev pub stop_state : Contents → Plan → ℕ → Contents
+stop_state c plan n = written c (take n (news_of plan.files plan.texts))
 
 -- bytes are written of a new view behind those of a replica: through the side's format and program they are read as it, what
 -- these don't show is kept, and where the view hasn't changed, neither have the bytes
@@ -131,21 +117,41 @@ pub record IsSynchronised (h : Handed) (words : List Name) (c : Contents) (statu
   pub only : IsOnlyOne plan.before.schema plan.before.schema.root (old_trio plan.before) (new_trio plan.after)
   pub tells : TellsConflicts plan.before plan.after status
 
--- the conflicts that remain are put behind the bytes that were written before; wherever the new views don't agree, one
--- of them alone stands there or above, and it shows why; and at each of them the new views differ
+-- the conflicts that remain are put behind the bytes that were written before, or of a quiet run their number alone; wherever
+-- the new views don't agree, one of them alone stands there or above, and it shows why; and at each of them the new views
+-- differ
 pub record IsReported (h : Handed) (words : List Name) (c : Contents) (w : List ℕ) (status : ℕ) (out : Option (List ℕ)) : Type 0 where
   pub plan : Plan
   pub planned : IsPlan h words c plan
   pub tells : TellsConflicts plan.before plan.after status
-  pub put : out ≡ Some (w ++ report_text tells.conflicts)
+  pub put : out ≡ Some (w ++ said planned.asked.quiet tells.conflicts)
   pub explained : AreExplained plan.before.schema plan.before.schema.root (views (old_trio plan.before)) (views (new_trio plan.after)) tells.conflicts
   pub apart : (p : Path) → IsTopmostMark (state plan.after.archive) p → Differ (views (new_trio plan.after)) p
 
--- what was to be done is done: a plan is carried out, or nothing has changed after the refusal
-abbrev pub IsCarriedOut : Contents → ℕ → Option Contents → Result Plan Refusal → Type 0
-IsCarriedOut c status left (Ok plan) = TellsConflicts plan.before plan.after status × (left ≡ Some (stop_state c plan 3))
+-- the effect of these words over these contents: there is no other verdict
+pub record IsEffect (h : Handed) (words : List Name) (c : Contents) (effect : Effect) : Type 0 where
+  pub is : Verdict h c words (Ok effect)
+  pub only : (r : Result Effect Refusal) → Verdict h c words r → r ≡ Ok effect
+
+-- the status is that of the effect, and its text is put behind the bytes that were written before
+pub record IsShown (h : Handed) (words : List Name) (c : Contents) (w : List ℕ) (status : ℕ) (out : Option (List ℕ)) : Type 0 where
+  pub effect : Effect
+  pub one : IsEffect h words c effect
+  pub told : status ≡ effect.status
+  pub put : out ≡ Some (w ++ effect.text)
+
+-- what was to be done is done: the files of the effect are written, or nothing has changed after the refusal
+abbrev pub IsCarriedOut : Contents → ℕ → Option Contents → Result Effect Refusal → Type 0
+IsCarriedOut c status left (Ok effect) = (status ≡ effect.status) × (left ≡ Some (written c effect.news))
 IsCarriedOut c status left (Err refusal) = (status ≡ refusal_status refusal) × (left ≡ Some c)
+
+-- there is one verdict on these words and contents, and it is carried out
+pub record HasOneVerdict (h : Handed) (words : List Name) (c : Contents) (status : ℕ) (left : Option Contents) : Type 0 where
+  pub verdict : Result Effect Refusal
+  pub is : Verdict h c words verdict
+  pub only : (r : Result Effect Refusal) → Verdict h c words r → r ≡ verdict
+  pub done : IsCarriedOut c status left verdict
 
 -- where nothing outside fails, what was to be done is done, unless memory runs out
 abbrev pub IsComplete : Handed → List Name → Contents → ℕ → Option Contents → Type 0
-IsComplete h words c status left = (r : Result Plan Refusal) → Verdict h c words r → (status ≡ 5) ⊎ IsCarriedOut c status left r
+IsComplete h words c status left = (status ≡ 5) ⊎ HasOneVerdict h words c status left

@@ -1,3 +1,4 @@
+mod Seeing
 mod OpenedSides
 mod Once
 mod OpenedReplicas

@@ -2,32 +2,31 @@
 use Rattle.std.proofs.Common.{ℕ, List, refl, sym, ap, ◌∙◌}
 use Rattle.std.proofs.lemmas.Option.{same_Some}
 use Rattle.hm_schema.specs.Values.{SchemaValue, OptionsValue}
-use Rattle.hm_text_lens.specs.Meanings.{TextMeaning}
 use Rattle.hm_terms.specs.Programs.{ProgramValue}
 use Rattle.hm_terms.specs.WellFormedPrograms.{IsWellFormed}
 use Rattle.hm_focal.specs.LensFiles.{ReadsLens}
 use Rattle.hm_focal.proofs.Laws.{lens_reads_once, file_formed}
 use Rattle.hm_types.specs.Checks.{Checks}
 use Rattle.hm_types.proofs.Once.{check_once}
-use Rattle.hm_format.specs.Formats.{FormatMeaning}
 use Rattle.hm_run_files.specs.declared.slot.Slot.{Slot}
 use Rattle.hm_run_files.specs.Steps.{FindsOne}
 use Rattle.hm_run_files.proofs.Steps.{sides_once, equals_once, told_once, then_once, then_once_of}
 use Rattle.hm_run_sides.specs.Stops.{lens_stop, type_stop}
+use Rattle.hm_run_handed.specs.Handed.{Handed}
 use Rattle.hm_run_sides.specs.Sides.{source_found, GivesSource, TypesSide, OpensSide, ChecksView}
 
-module _ {B : Type 0} (means_of : B → FormatMeaning) (formats : List B) (texts : List TextMeaning) (at : Slot) where
-  source_once : (place : ℕ) (o : OptionsValue) → FindsOne (GivesSource means_of formats at place o)
+module _ (hand : Handed) (at : Slot) where
+  source_once : (place : ℕ) (o : OptionsValue) → FindsOne (GivesSource hand.means_of hand.formats at place o)
   source_once place o r s h k =
-      h.holds ∙ ap (λ (b : B). source_found at ((means_of b).schema_of o)) (same_Some h.box k.box (sym h.is ∙ k.is)) ∙ sym k.holds
+      h.holds ∙ ap (λ (b : hand.box). source_found at ((hand.means_of b).schema_of o)) (same_Some h.box k.box (sym h.is ∙ k.is)) ∙ sym k.holds
 
-  types_once : (p : ProgramValue) → IsWellFormed p → (place : ℕ) → FindsOne (TypesSide means_of formats texts at p place)
+  types_once : (p : ProgramValue) → IsWellFormed p → (place : ℕ) → FindsOne (TypesSide hand at p place)
   unfolding TypesSide
   types_once p well place =
       then_once _ _ (source_once place p.options) (λ source.
-      then_once _ _ (told_once (type_stop at) (Checks texts p source) (check_once texts p source well)) (λ view. equals_once _))
+      then_once _ _ (told_once (type_stop at) (Checks hand.texts p source) (check_once hand.texts p source well)) (λ view. equals_once _))
 
-  pub side_once : (bytes : List ℕ) → FindsOne (OpensSide means_of formats texts at bytes)
+  pub side_once : (bytes : List ℕ) → FindsOne (OpensSide hand at bytes)
   unfolding OpensSide
   side_once bytes =
       then_once_of _ _ (told_once (lens_stop at) (ReadsLens bytes) (lens_reads_once bytes)) (λ p reads.

@@ -21,6 +21,7 @@ use Rattle.hm_run_files.specs.Steps.{Computes, FindsOne}
 use Rattle.hm_run_files.proofs.Steps.{sides_once, computes_as}
 use Rattle.hm_run_sides.specs.Stops.{format_stop, write_stop}
 use Rattle.hm_run_sides.specs.Formats.{HasFormat}
+use Rattle.hm_run_handed.specs.Handed.{Handed}
 use Rattle.hm_run_sides.specs.Sides.{SideValue, seen, IsSide}
 use Rattle.hm_run_sides.specs.SideReplicas.{OpensReplica, OpensOn, ClosesReplica, ClosesOn, IsReplicaOn}
 
@@ -89,53 +90,51 @@ module _ (m : FormatMeaning) (texts : List TextMeaning) (t : TypedValue) (at : S
 
 -- ---- on a side
 
-module _ {B : Type 0} (means_of : B → FormatMeaning) (formats : List B) (texts : List TextMeaning) (side : SideValue)
-    (x : B) (within : side.place < length formats) (is : x ≡ get_or formats side.place x) where
-  there : slice_get formats side.place ≡ Some x
-  there = slice_get_read formats (length formats) side.place x refl within is
+module _ (hand : Handed) (side : SideValue) (x : hand.box) (within : side.place < length hand.formats) (is : x ≡ get_or hand.formats side.place x) where
+  there : slice_get hand.formats side.place ≡ Some x
+  there = slice_get_read hand.formats (length hand.formats) side.place x refl within is
 
   -- what holds of the format of a side holds of that at its place
-  pub of_side : {P : FormatMeaning → Type 0} → HasFormat means_of formats side.place P → P (means_of x)
-  of_side {P} h = subst (λ b. P (means_of b)) (same_Some h.box x (sym h.is ∙ there)) h.holds
+  pub of_side : {P : FormatMeaning → Type 0} → HasFormat hand.means_of hand.formats side.place P → P (hand.means_of x)
+  of_side {P} h = subst (λ b. P (hand.means_of b)) (same_Some h.box x (sym h.is ∙ there)) h.holds
 
-  pub opens_on : (at : Slot) (bytes : List ℕ) (r : Result ReplicaValue Stop) → Computes (OpensReplica (means_of x) texts side.typed at bytes) r
-      → Computes (OpensOn means_of formats texts side at bytes) r
+  pub opens_on : (at : Slot) (bytes : List ℕ) (r : Result ReplicaValue Stop) → Computes (OpensReplica (hand.means_of x) hand.texts side.typed at bytes) r
+      → Computes (OpensOn hand side at bytes) r
   opens_on at bytes r h =
-      computes_as (OpensReplica (means_of x) texts side.typed at bytes) (OpensOn means_of formats texts side at bytes)
+      computes_as (OpensReplica (hand.means_of x) hand.texts side.typed at bytes) (OpensOn hand side at bytes)
       (λ found e. record { box = x; is = there; holds = e }) r h
 
   pub opened_on : (at : Slot) (bytes : List ℕ) (r : Result Replica Stop)
-      → Computes (OpensReplica (means_of x) texts side.typed at bytes) (seen replica_value r)
-      → IfOk r (λ replica. IsReplicaOn means_of formats texts side (replica_value replica))
+      → Computes (OpensReplica (hand.means_of x) hand.texts side.typed at bytes) (seen replica_value r)
+      → IfOk r (λ replica. IsReplicaOn hand side (replica_value replica))
   opened_on at bytes (Ok replica) h = record { box = x; is = there; holds = h.0.1 }
   opened_on at bytes (Err stop) h = tt
 
   pub closes_on : (replica : ReplicaValue) (shown : Tree) (at : Slot) (r : Result (List ℕ) Stop)
-      → Computes (ClosesReplica (means_of x) texts side.typed replica shown at) r
-      → Computes (ClosesOn means_of formats texts side replica shown at) r
+      → Computes (ClosesReplica (hand.means_of x) hand.texts side.typed replica shown at) r
+      → Computes (ClosesOn hand side replica shown at) r
   closes_on replica shown at r h =
-      computes_as (ClosesReplica (means_of x) texts side.typed replica shown at) (ClosesOn means_of formats texts side replica shown at)
+      computes_as (ClosesReplica (hand.means_of x) hand.texts side.typed replica shown at) (ClosesOn hand side replica shown at)
       (λ found e. record { box = x; is = there; holds = e }) r h
 
 -- on a side there is one thing at the most
-module _ {B : Type 0} (means_of : B → FormatMeaning) (formats : List B) (texts : List TextMeaning) (side : SideValue)
-    (s : IsSide means_of formats texts side) where
-  here : {P : FormatMeaning → Type 0} → HasFormat means_of formats side.place P → P (means_of s.format)
-  here {P} h = subst (λ b. P (means_of b)) (same_Some h.box s.format (sym h.is ∙ s.is)) h.holds
+module _ (hand : Handed) (side : SideValue) (s : IsSide hand side) where
+  here : {P : FormatMeaning → Type 0} → HasFormat hand.means_of hand.formats side.place P → P (hand.means_of s.format)
+  here {P} h = subst (λ b. P (hand.means_of b)) (same_Some h.box s.format (sym h.is ∙ s.is)) h.holds
 
-  pub opens_once : (at : Slot) (bytes : List ℕ) → FindsOne (OpensOn means_of formats texts side at bytes)
-  opens_once at bytes r q h k = replica_once (means_of s.format) texts side.typed at s.lawful s.typed bytes r q (here h) (here k)
+  pub opens_once : (at : Slot) (bytes : List ℕ) → FindsOne (OpensOn hand side at bytes)
+  opens_once at bytes r q h k = replica_once (hand.means_of s.format) hand.texts side.typed at s.lawful s.typed bytes r q (here h) (here k)
 
   pub closes_once : (replica : ReplicaValue) (shown : Tree) → IsMemberTree side.typed.view shown
-      → (at : Slot) → FindsOne (ClosesOn means_of formats texts side replica shown at)
+      → (at : Slot) → FindsOne (ClosesOn hand side replica shown at)
   closes_once replica shown there at r q h k =
-      closed_once (means_of s.format) texts side.typed at s.lawful s.typed replica shown there r q (here h) (here k)
+      closed_once (hand.means_of s.format) hand.texts side.typed at s.lawful s.typed replica shown there r q (here h) (here k)
 
   -- where the view is that of the replica, its own bytes are those that are written
-  pub stays_on : (replica : ReplicaValue) → IsReplicaOn means_of formats texts side replica → IsMemberTree side.typed.view replica.view → (at : Slot)
-      → ClosesOn means_of formats texts side replica replica.view at (Ok replica.bytes)
+  pub stays_on : (replica : ReplicaValue) → IsReplicaOn hand side replica → IsMemberTree side.typed.view replica.view → (at : Slot)
+      → ClosesOn hand side replica replica.view at (Ok replica.bytes)
   stays_on replica on there at = record {
     box = s.format;
     is = s.is;
-    holds = stays (means_of s.format) texts side.typed s.lawful s.typed replica (here on) replica.view there refl;
+    holds = stays (hand.means_of s.format) hand.texts side.typed s.lawful s.typed replica (here on) replica.view there refl;
   }

@@ -4,7 +4,6 @@ use Rattle.std.proofs.lemmas.Option.{same_Some, slice_get_read, slice_get_within
 use Rattle.hm_tree.specs.Names.{Name}
 use Rattle.hm_schema.specs.Values.{NodeValue, SchemaValue, OptionsValue}
 use Rattle.hm_schema.specs.Membership.{HasNoTwins}
-use Rattle.hm_text_lens.specs.Meanings.{TextMeaning}
 use Rattle.hm_terms.specs.Programs.{ProgramValue}
 use Rattle.hm_terms.specs.WellFormedPrograms.{IsWellFormed}
 use Rattle.hm_focal.specs.LensFiles.{ReadsLens}
@@ -21,6 +20,7 @@ use Rattle.hm_run_files.specs.Steps.{Computes, Then, Told, goes_on}
 use Rattle.hm_run_files.proofs.Steps.{ok_is, computes_as, then_stop, then_go}
 use Rattle.hm_run_sides.specs.declared.side.Side.{Side}
 use Rattle.hm_run_sides.specs.Formats.{HasFormat, FindsFormat}
+use Rattle.hm_run_handed.specs.Handed.{Handed}
 use Rattle.hm_run_sides.specs.Stops.{lens_stop, type_stop}
 use Rattle.hm_run_sides.specs.Sides.{SideValue, side_value, seen, source_found, GivesSource, TypesSide, OpensSide, IsSide}
 
@@ -52,17 +52,17 @@ module _ {B : Type 0} (means_of : B → FormatMeaning) (formats : List B) (at : 
 
 -- ---- the steps
 
-module _ {B : Type 0} (means_of : B → FormatMeaning) (formats : List B) (texts : List TextMeaning) (at : Slot) (bytes : List ℕ) where
+module _ (hand : Handed) (at : Slot) (bytes : List ℕ) where
   -- behind a program comes its format, and then the rest
   abbrev Rest : ProgramValue → Result SideValue Refusal → Type 0
-  Rest p = Then (FindsFormat means_of formats at p.format) (TypesSide means_of formats texts at p)
+  Rest p = Then (FindsFormat hand.means_of hand.formats at p.format) (TypesSide hand at p)
 
-  behind : (p : ProgramValue) (place : ℕ) → ReadsLens bytes (Ok p) → FindsFormat means_of formats at p.format (Ok place)
-      → (r : Result SideValue Stop) → Computes (TypesSide means_of formats texts at p place) r → Computes (OpensSide means_of formats texts at bytes) r
+  behind : (p : ProgramValue) (place : ℕ) → ReadsLens bytes (Ok p) → FindsFormat hand.means_of hand.formats at p.format (Ok place)
+      → (r : Result SideValue Stop) → Computes (TypesSide hand at p place) r → Computes (OpensSide hand at bytes) r
   unfolding OpensSide
   behind p place reads found r h =
       then_go (Told (lens_stop at) (ReadsLens bytes)) Rest p r reads
-      (then_go (FindsFormat means_of formats at p.format) (TypesSide means_of formats texts at p) place r found h)
+      (then_go (FindsFormat hand.means_of hand.formats at p.format) (TypesSide hand at p) place r found h)
 
   -- the first step that stops stops the whole
   module _ (stop : Stop) (r : Result Side Stop) (is : r ≡ Err stop) where
@@ -70,43 +70,43 @@ module _ {B : Type 0} (means_of : B → FormatMeaning) (formats : List B) (texts
     stopped = ap (seen side_value) is
 
     pub unread : Computes {A = ProgramValue} (Told (lens_stop at) (ReadsLens bytes)) (Err stop)
-        → Computes (OpensSide means_of formats texts at bytes) (seen side_value r)
+        → Computes (OpensSide hand at bytes) (seen side_value r)
     unfolding OpensSide
     unread h = then_stop (Told (lens_stop at) (ReadsLens bytes)) Rest stop (seen side_value r) stopped h
 
     module _ (p : ProgramValue) (reads : ReadsLens bytes (Ok p)) where
-      pub unknown : Computes (FindsFormat means_of formats at p.format) (Err stop)
-          → Computes (OpensSide means_of formats texts at bytes) (seen side_value r)
+      pub unknown : Computes (FindsFormat hand.means_of hand.formats at p.format) (Err stop)
+          → Computes (OpensSide hand at bytes) (seen side_value r)
       unfolding OpensSide
       unknown h =
           then_go (Told (lens_stop at) (ReadsLens bytes)) Rest p (seen side_value r) reads
-          (then_stop (FindsFormat means_of formats at p.format) (TypesSide means_of formats texts at p) stop (seen side_value r) stopped h)
+          (then_stop (FindsFormat hand.means_of hand.formats at p.format) (TypesSide hand at p) stop (seen side_value r) stopped h)
 
-      module _ (place : ℕ) (found : FindsFormat means_of formats at p.format (Ok place)) where
-        no_types : Computes (GivesSource means_of formats at place p.options) (Err stop)
-            → Computes (TypesSide means_of formats texts at p place) (seen side_value r)
+      module _ (place : ℕ) (found : FindsFormat hand.means_of hand.formats at p.format (Ok place)) where
+        no_types : Computes (GivesSource hand.means_of hand.formats at place p.options) (Err stop)
+            → Computes (TypesSide hand at p place) (seen side_value r)
         unfolding TypesSide
         no_types h = then_stop _ _ stop (seen side_value r) stopped h
 
-        pub no_source : Computes (GivesSource means_of formats at place p.options) (Err stop)
-            → Computes (OpensSide means_of formats texts at bytes) (seen side_value r)
+        pub no_source : Computes (GivesSource hand.means_of hand.formats at place p.options) (Err stop)
+            → Computes (OpensSide hand at bytes) (seen side_value r)
         no_source h = behind p place reads found (seen side_value r) (no_types h)
 
-        bad_types : (s : SchemaValue) → GivesSource means_of formats at place p.options (Ok s)
-            → Computes {A = SchemaValue} (Told (type_stop at) (Checks texts p s)) (Err stop)
-            → Computes (TypesSide means_of formats texts at p place) (seen side_value r)
+        bad_types : (s : SchemaValue) → GivesSource hand.means_of hand.formats at place p.options (Ok s)
+            → Computes {A = SchemaValue} (Told (type_stop at) (Checks hand.texts p s)) (Err stop)
+            → Computes (TypesSide hand at p place) (seen side_value r)
         unfolding TypesSide
         bad_types s source h = then_go _ _ s (seen side_value r) source (then_stop _ _ stop (seen side_value r) stopped h)
 
-        pub untyped : (s : SchemaValue) → GivesSource means_of formats at place p.options (Ok s)
-            → Computes {A = SchemaValue} (Told (type_stop at) (Checks texts p s)) (Err stop)
-            → Computes (OpensSide means_of formats texts at bytes) (seen side_value r)
+        pub untyped : (s : SchemaValue) → GivesSource hand.means_of hand.formats at place p.options (Ok s)
+            → Computes {A = SchemaValue} (Told (type_stop at) (Checks hand.texts p s)) (Err stop)
+            → Computes (OpensSide hand at bytes) (seen side_value r)
         untyped s source h = behind p place reads found (seen side_value r) (bad_types s source h)
 
   -- ---- a side
 
-  module _ (p : ProgramValue) (place : ℕ) (s : SchemaValue) (source : GivesSource means_of formats at place p.options (Ok s))
-      (t : Typed) (accepted : IsAccepted texts p s t) where
+  module _ (p : ProgramValue) (place : ℕ) (s : SchemaValue) (source : GivesSource hand.means_of hand.formats at place p.options (Ok s))
+      (t : Typed) (accepted : IsAccepted hand.texts p s t) where
     abbrev side : SideValue
     side = record { place = place; typed = typed_value t }
 
@@ -116,12 +116,12 @@ module _ {B : Type 0} (means_of : B → FormatMeaning) (formats : List B) (texts
     value : side ≡ seen_side
     value = λ i. record { place = place; typed = record { program = accepted.program i; source = accepted.source i; view = t.view } }
 
-    all_typed : Checks texts p s (Ok t.view) → TypesSide means_of formats texts at p place (Ok side)
+    all_typed : Checks hand.texts p s (Ok t.view) → TypesSide hand at p place (Ok side)
     unfolding TypesSide
     all_typed checks = goes_on source (goes_on checks (ap Ok value))
 
-    pub opened : ReadsLens bytes (Ok p) → FindsFormat means_of formats at p.format (Ok place) → Checks texts p s (Ok t.view)
-        → Computes (OpensSide means_of formats texts at bytes) (Ok side)
+    pub opened : ReadsLens bytes (Ok p) → FindsFormat hand.means_of hand.formats at p.format (Ok place) → Checks hand.texts p s (Ok t.view)
+        → Computes (OpensSide hand at bytes) (Ok side)
     opened reads found checks = behind p place reads found (Ok side) (all_typed checks, refl)
 
     -- its view has no twins, as its form has none
@@ -130,15 +130,15 @@ module _ {B : Type 0} (means_of : B → FormatMeaning) (formats : List B) (texts
         subst (λ (m : NodeValue). m.twins ≡ []) (get_or_from_slice_get t.view.nodes i.place n n e)
         (all i.place n (slice_get_within t.view.nodes i.place n e))
 
-    pub is_side : HasFormat means_of formats place IsLawful → IsWellFormed p → All (λ (q : Name × List Name). All IsUtf8 q.1) p.options.pairs
-        → IsSide means_of formats texts side
-    is_side laws well values = subst (IsSide means_of formats texts) (sym value) (record {
+    pub is_side : HasFormat hand.means_of hand.formats place IsLawful → IsWellFormed p → All (λ (q : Name × List Name). All IsUtf8 q.1) p.options.pairs
+        → IsSide hand side
+    is_side laws well values = subst (IsSide hand) (sym value) (record {
       format = source.box;
       is = source.is;
-      lawful = laws_of means_of formats at place p.options laws source.box source.is;
+      lawful = laws_of hand.means_of hand.formats at place p.options laws source.box source.is;
       typed = record {
         sound = record { texts = values; named = well.named; types = well.types };
-        schema = source_is at ((means_of source.box).schema_of p.options) s source.holds;
+        schema = source_is at ((hand.means_of source.box).schema_of p.options) s source.holds;
         fits = accepted.fits;
       };
       no_twins = bare ((numbered_plain accepted.shown t.view accepted.numbered).1 accepted.typed.plain);

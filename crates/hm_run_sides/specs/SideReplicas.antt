@@ -13,6 +13,7 @@ use Rattle.hm_run_files.specs.declared.stop.Refusal.{Refusal}
 use Rattle.hm_run_files.specs.declared.stop.Refusal.TheVariants.{At}
 use Rattle.hm_run_files.specs.declared.stop.Stop.TheVariants.{Refused}
 use Rattle.hm_run_sides.specs.Formats.{HasFormat}
+use Rattle.hm_run_handed.specs.Handed.{Handed}
 use Rattle.hm_run_sides.specs.Stops.{format_stop}
 use Rattle.hm_run_sides.specs.Sides.{SideValue}
 
@@ -23,24 +24,23 @@ OpensReplica m texts t at bytes (Err refusal) =
     (fault : FormatFault) × m.reads (options_in t) bytes (Err fault) × (format_stop at fault ≡ Refused refusal)
 
 -- the same with the format of a side
-abbrev pub OpensOn : {B : Type 0} → (B → FormatMeaning) → List B → List TextMeaning → SideValue → Slot → List ℕ → Result ReplicaValue Refusal → Type 0
-OpensOn means_of formats texts side at bytes found = HasFormat means_of formats side.place (λ m. OpensReplica m texts side.typed at bytes found)
+abbrev pub OpensOn : Handed → SideValue → Slot → List ℕ → Result ReplicaValue Refusal → Type 0
+OpensOn h side at bytes found = HasFormat h.means_of h.formats side.place (λ m. OpensReplica m h.texts side.typed at bytes found)
 
 -- the bytes of a view, behind those of a replica; or the tree that is put of it is too deep
 abbrev pub ClosesReplica : FormatMeaning → List TextMeaning → TypedValue → ReplicaValue → Tree → Slot → Result (List ℕ) Refusal → Type 0
 ClosesReplica m texts t r shown at (Ok bytes) = IsClosed m texts t r shown bytes
 ClosesReplica m texts t r shown at (Err refusal) = (depth : ℕ) × IsTooDeep m texts t r shown depth × (refusal ≡ At at (Unwritable depth))
 
-abbrev pub ClosesOn : {B : Type 0} → (B → FormatMeaning) → List B → List TextMeaning → SideValue → ReplicaValue → Tree → Slot
+abbrev pub ClosesOn : Handed → SideValue → ReplicaValue → Tree → Slot
     → Result (List ℕ) Refusal → Type 0
-ClosesOn means_of formats texts side r shown at found =
-    HasFormat means_of formats side.place (λ m. ClosesReplica m texts side.typed r shown at found)
+ClosesOn h side r shown at found = HasFormat h.means_of h.formats side.place (λ m. ClosesReplica m h.texts side.typed r shown at found)
 
 -- a replica on a side
-abbrev pub IsReplicaOn : {B : Type 0} → (B → FormatMeaning) → List B → List TextMeaning → SideValue → ReplicaValue → Type 0
-IsReplicaOn means_of formats texts side r = HasFormat means_of formats side.place (λ m. IsReplica m texts side.typed r)
+abbrev pub IsReplicaOn : Handed → SideValue → ReplicaValue → Type 0
+IsReplicaOn h side r = HasFormat h.means_of h.formats side.place (λ m. IsReplica m h.texts side.typed r)
 
 -- a replica on a side, and what a new view of it is put over
-pub record IsBaseOn {B : Type 0} (means_of : B → FormatMeaning) (formats : List B) (texts : List TextMeaning) (side : SideValue) (r : ReplicaValue) (b : Base) : Type 0 where
+pub record IsBaseOn (h : Handed) (side : SideValue) (r : ReplicaValue) (b : Base) : Type 0 where
   pub base : IsBase r b
-  pub on_side : IsReplicaOn means_of formats texts side r
+  pub on_side : IsReplicaOn h side r

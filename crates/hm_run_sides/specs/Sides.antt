@@ -4,7 +4,6 @@ use Rattle.hm_tree.specs.Names.{Name}
 use Rattle.hm_schema.specs.Values.{SchemaValue, OptionsValue}
 use Rattle.hm_schema.specs.Membership.{HasNoTwins}
 use Rattle.hm_schema.specs.Sameness.{AreSame}
-use Rattle.hm_text_lens.specs.Meanings.{TextMeaning}
 use Rattle.hm_terms.specs.Programs.{ProgramValue}
 use Rattle.hm_focal.specs.LensFiles.{ReadsLens}
 use Rattle.hm_terms.specs.declared.typed.Typed.{Typed}
@@ -18,6 +17,7 @@ use Rattle.hm_run_files.specs.declared.stop.Refusal.TheVariants.{At}
 use Rattle.hm_run_files.specs.Steps.{Then, Told}
 use Rattle.hm_run_sides.specs.declared.side.Side.{Side}
 use Rattle.hm_run_sides.specs.Formats.{HasFormat, FindsFormat}
+use Rattle.hm_run_handed.specs.Handed.{Handed}
 use Rattle.hm_run_sides.specs.Stops.{lens_stop, type_stop}
 
 -- the place of a format, and a typed program
@@ -48,24 +48,24 @@ GivesSource means_of formats at place o found = HasFormat means_of formats place
 
 -- the rest, behind a program and a format: the options are those of the format, and the program is typed over the schema that
 -- the format gives then
-unfoldable pub TypesSide : {B : Type 0} → (B → FormatMeaning) → List B → List TextMeaning → Slot → ProgramValue → ℕ → Result SideValue Refusal → Type 0
-TypesSide means_of formats texts at p place =
-    Then (GivesSource means_of formats at place p.options) (λ source.
-    Then (Told (type_stop at) (Checks texts p source)) (λ view r.
+unfoldable pub TypesSide : Handed → Slot → ProgramValue → ℕ → Result SideValue Refusal → Type 0
+TypesSide h at p place =
+    Then (GivesSource h.means_of h.formats at place p.options) (λ source.
+    Then (Told (type_stop at) (Checks h.texts p source)) (λ view r.
     r ≡ Ok (record { place = place; typed = record { program = p; source = source; view = view } })))
 
 -- the file is read, its word names a format, and the rest is so; else the first of these that isn't so is told
-unfoldable pub OpensSide : {B : Type 0} → (B → FormatMeaning) → List B → List TextMeaning → Slot → List ℕ → Result SideValue Refusal → Type 0
-OpensSide means_of formats texts at bytes =
+unfoldable pub OpensSide : Handed → Slot → List ℕ → Result SideValue Refusal → Type 0
+OpensSide h at bytes =
     Then (Told (lens_stop at) (ReadsLens bytes)) (λ p.
-    Then (FindsFormat means_of formats at p.format) (TypesSide means_of formats texts at p))
+    Then (FindsFormat h.means_of h.formats at p.format) (TypesSide h at p))
 
 -- replicas may be opened and closed on a side: its format is lawful, its program is typed, and its view has no twins
-pub record IsSide {B : Type 0} (means_of : B → FormatMeaning) (formats : List B) (texts : List TextMeaning) (s : SideValue) : Type 0 where
-  pub format : B
-  pub is : slice_get formats s.place ≡ Some format
-  pub lawful : IsLawful (means_of format)
-  pub typed : IsFitting (means_of format) texts s.typed
+pub record IsSide (h : Handed) (s : SideValue) : Type 0 where
+  pub format : h.box
+  pub is : slice_get h.formats s.place ≡ Some format
+  pub lawful : IsLawful (h.means_of format)
+  pub typed : IsFitting (h.means_of format) h.texts s.typed
   pub no_twins : HasNoTwins s.typed.view
 
 -- ---- the schema of views

@@ -10,6 +10,7 @@ ghost use Rattle.hm_format.specs.Formats.{IsLawful};
 ghost use Rattle.hm_format.specs.Options.{AreSound};
 ghost use Rattle.hm_run_files.specs.Steps.{Computes, Told};
 ghost use Rattle.hm_run_sides.specs.Formats.{HasFormat};
+ghost use Rattle.hm_run_handed.specs.Handed.{handed_in};
 ghost use Rattle.hm_run_sides.specs.Stops.{lens_stop, type_stop};
 ghost use Rattle.hm_run_sides.specs.Sides.{seen, view_of, side_value, source_found, GivesSource, OpensSide, IsSide};
 
@@ -19,6 +20,7 @@ use crate::stops::{format_stop, lens_stop, type_stop};
 use hm_focal::read_lens;
 use hm_format::{Format, values_are_texts};
 use hm_run_files::{Slot, Stop};
+use hm_run_handed::HandedIn;
 use hm_schema::{Options, Schema};
 use hm_terms::{Program, Typed};
 use hm_text_lens::TextLens;
@@ -27,21 +29,15 @@ use std::alloc::Global;
 
 /// The side of a lens file, or why it isn't one: its first bad line, its format, the format's options, or the first
 /// condition by which its program isn't typed. Of formats of one tag, and of text lenses of one name, the first counts.
-pub fn open_side(
-    alloc: Global,
-    slot: Slot,
-    formats: &[Box<dyn Format>],
-    texts: &[Box<dyn TextLens>],
-    bytes: &[u8],
-) -> Result<Side, Stop>
-    ensures opens { Computes (OpensSide (λ b. means b) formats.now (map (λ b. meaning b) texts.now) slot bytes.now) (seen side_value result) }
-    ensures side { IfOk result (λ side. IsSide (λ b. means b) formats.now (map (λ b. meaning b) texts.now) (side_value side)) }
+pub fn open_side(alloc: Global, slot: Slot, given: HandedIn<'_>, bytes: &[u8]) -> Result<Side, Stop>
+    ensures opens { Computes (OpensSide (handed_in given.entry means meaning) slot bytes.now) (seen side_value result) }
+    ensures side { IfOk result (λ side. IsSide (handed_in given.entry means meaning) (side_value side)) }
 {
     let program = read_program(alloc, slot, bytes)?;
-    let place = find_format(slot, formats, &program.format)?;
+    let place = find_format(slot, given.formats, &program.format)?;
     values_are_texts(&program.options.pairs);
-    let source = source_of(alloc, slot, formats, place, &program.options)?;
-    let typed = check_program(alloc, slot, texts, program, &source)?;
+    let source = source_of(alloc, slot, given.formats, place, &program.options)?;
+    let typed = check_program(alloc, slot, given.texts, program, &source)?;
     Ok(Side { place, typed })
 }
 

@@ -5,6 +5,7 @@ ghost use Rattle.hm_replica.specs.Bases.{IsBase};
 ghost use Rattle.hm_replica.specs.Replicas.{ReplicaValue, typed_value, replica_value, IsFitting, IsReplica};
 ghost use Rattle.hm_run_files.specs.Steps.{Computes};
 ghost use Rattle.hm_run_files.specs.Files.{bytes_of};
+ghost use Rattle.hm_run_handed.specs.Handed.{handed_in};
 ghost use Rattle.hm_run_sides.specs.Sides.{seen, side_value, IsSide};
 ghost use Rattle.hm_run_sides.specs.SideReplicas.{OpensReplica, OpensOn, ClosesReplica, ClosesOn, IsReplicaOn, IsBaseOn};
 
@@ -13,6 +14,7 @@ use crate::stops::{format_stop, write_stop};
 use hm_format::Format;
 use hm_replica::{Base, Replica};
 use hm_run_files::{Slot, Stop};
+use hm_run_handed::HandedIn;
 use hm_terms::Typed;
 use hm_text_lens::TextLens;
 use hm_tree::Tree;
@@ -22,16 +24,16 @@ use std::alloc::Global;
 pub fn open_replica(
     alloc: Global,
     slot: Slot,
-    formats: &[Box<dyn Format>],
-    texts: &[Box<dyn TextLens>],
+    given: HandedIn<'_>,
     side: &Side,
     bytes: Vec<u8>,
 ) -> Result<Replica, Stop>
-    requires { IsSide (λ b. means b) formats.now (map (λ b. meaning b) texts.now) (side_value side.now) }
-    ensures opens { Computes (OpensOn (λ b. means b) formats.now (map (λ b. meaning b) texts.now) (side_value side.now) slot bytes.items) (seen replica_value result) }
-    ensures replica { IfOk result (λ r. IsReplicaOn (λ b. means b) formats.now (map (λ b. meaning b) texts.now) (side_value side.now) (replica_value r)) }
+    requires { IsSide (handed_in given means meaning) (side_value side.now) }
+    ensures opens { Computes (OpensOn (handed_in given.entry means meaning) (side_value side.now) slot bytes.items) (seen replica_value result) }
+    ensures replica { IfOk result (λ r. IsReplicaOn (handed_in given.entry means meaning) (side_value side.now) (replica_value r)) }
     ensures member { IfOk result (λ r. IsMemberTree side.now.typed.view r.view) }
 {
+    let HandedIn { formats, texts } = given;
     open_by(alloc, slot, &formats[side.place], texts, &side.typed, bytes)
 }
 
@@ -59,17 +61,17 @@ fn open_by(
 pub fn close_replica(
     alloc: Global,
     slot: Slot,
-    formats: &[Box<dyn Format>],
-    texts: &[Box<dyn TextLens>],
+    given: HandedIn<'_>,
     side: &Side,
     replica: Replica,
     view: Tree,
 ) -> Result<Vec<u8>, Stop>
-    requires side { IsSide (λ b. means b) formats.now (map (λ b. meaning b) texts.now) (side_value side.now) }
-    requires replica { IsReplicaOn (λ b. means b) formats.now (map (λ b. meaning b) texts.now) (side_value side.now) (replica_value replica) }
+    requires side { IsSide (handed_in given means meaning) (side_value side.now) }
+    requires replica { IsReplicaOn (handed_in given means meaning) (side_value side.now) (replica_value replica) }
     requires member { IsMemberTree side.now.typed.view view }
-    ensures { Computes (ClosesOn (λ b. means b) formats.now (map (λ b. meaning b) texts.now) (side_value side.now) (replica_value replica) view slot) (seen bytes_of result) }
+    ensures { Computes (ClosesOn (handed_in given.entry means meaning) (side_value side.now) (replica_value replica) view slot) (seen bytes_of result) }
 {
+    let HandedIn { formats, texts } = given;
     close_by(
         alloc,
         slot,
@@ -106,17 +108,17 @@ fn close_by(
 pub fn close_base(
     alloc: Global,
     slot: Slot,
-    formats: &[Box<dyn Format>],
-    texts: &[Box<dyn TextLens>],
+    given: HandedIn<'_>,
     side: &Side,
     base: Base,
     view: Tree,
 ) -> Result<Vec<u8>, Stop>
-    requires side { IsSide (λ b. means b) formats.now (map (λ b. meaning b) texts.now) (side_value side.now) }
-    requires replica { (r : ReplicaValue) × IsBaseOn (λ b. means b) formats.now (map (λ b. meaning b) texts.now) (side_value side.now) r base }
+    requires side { IsSide (handed_in given means meaning) (side_value side.now) }
+    requires replica { (r : ReplicaValue) × IsBaseOn (handed_in given means meaning) (side_value side.now) r base }
     requires member { IsMemberTree side.now.typed.view view }
-    ensures { (r : ReplicaValue) → IsBaseOn (λ b. means b) formats.now (map (λ b. meaning b) texts.now) (side_value side.now) r base → Computes (ClosesOn (λ b. means b) formats.now (map (λ b. meaning b) texts.now) (side_value side.now) r view slot) (seen bytes_of result) }
+    ensures { (r : ReplicaValue) → IsBaseOn (handed_in given.entry means meaning) (side_value side.now) r base → Computes (ClosesOn (handed_in given.entry means meaning) (side_value side.now) r view slot) (seen bytes_of result) }
 {
+    let HandedIn { formats, texts } = given;
     close_base_by(
         alloc,
         slot,

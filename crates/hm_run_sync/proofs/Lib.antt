@@ -1,4 +1,3 @@
-mod Seeing
 mod SixFiles
 pub mod Opened
 pub mod ArchiveDepths

@@ -1,5 +1,5 @@
 -- The new files, from what the reconciling gave.
-use Rattle.std.proofs.Common.{◌≡◌, ◌≢◌, ◌≤◌, ℕ, List, [], Some, Result, Ok, Err, refl, sym, ap, subst, ◌∙◌, arith}
+use Rattle.std.proofs.Common.{◌≡◌, ◌≢◌, ◌≤◌, ℕ, List, [], Some, Vec, Global, Result, Ok, Err, refl, sym, ap, subst, ◌∙◌, arith}
 use Rattle.std.specs.List.Sorted.{IsStrictlySortedBy}
 use Rattle.hm_tree.specs.declared.archive.State.TheVariants.{Marked}
 use Rattle.hm_tree.specs.Nodes.{Tree, depth}
@@ -28,24 +28,25 @@ use Rattle.hm_schema.specs.Membership.{IsMemberTree}
 use Rattle.hm_run_sides.specs.Sides.{SideValue, seen}
 use Rattle.hm_run_sync.specs.declared.closing.NewTexts.{NewTexts}
 use Rattle.hm_run_sync.specs.declared.closing.OneSided.{OneSided}
-use Rattle.hm_run_sync.specs.Handed.{Handed}
+use Rattle.hm_run_sync.specs.declared.closing.Summary.{Summary}
+use Rattle.hm_run_handed.specs.Handed.{Handed}
 use Rattle.hm_run_sync.specs.Reads.{Sides, Replicas, Before, MayClose, AreOpened}
-use Rattle.hm_run_sync.specs.Verdict.{Synced, Becomes, HasConflicts, all_as, archive_fits, Texts, Closes, OneSidedTexts, ClosesAs, Tells, TellsConflicts, outcome_of, new_texts, one_sided_texts, old_trio, MakesTexts}
+use Rattle.hm_run_sync.specs.Verdict.{Synced, Becomes, HasConflicts, all_as, archive_fits, Texts, Closes, OneSidedTexts, ClosesAs, Sums, count_of, outcome_of, new_texts, one_sided_texts, old_trio, MakesTexts}
 
 -- each side is closed, and the archive isn't too deep
-pub closed : (h : Handed) (sides : Sides) (replicas : Replicas) (after : Synced) (new : NewTexts)
-    → ClosesOn h.means_of h.formats h.texts sides.left replicas.left after.left ASlot (Ok new.left.items)
-    → ClosesOn h.means_of h.formats h.texts sides.right replicas.right after.right BSlot (Ok new.right.items)
-    → ◌≡◌ {A = Result (Unit {0}) Refusal} (Ok tt) (archive_fits after.archive) → new.archive.items ≡ archive_text after.archive
-    → Closes h sides replicas after (Ok (new_texts new))
+pub closed : (h : Handed) (sides : Sides) (replicas : Replicas) (after : Synced) (new : Texts)
+    → ClosesOn h sides.left replicas.left after.left ASlot (Ok new.left)
+    → ClosesOn h sides.right replicas.right after.right BSlot (Ok new.right)
+    → ◌≡◌ {A = Result (Unit {0}) Refusal} (Ok tt) (archive_fits after.archive) → new.archive ≡ archive_text after.archive
+    → Closes h sides replicas after (Ok new)
 unfolding Closes
 closed h sides replicas after new left right fits archive =
-    goes_on left (goes_on right (goes_on fits (λ i. Ok (record { archive = archive i; left = new.left.items; right = new.right.items }))))
+    goes_on left (goes_on right (goes_on fits (λ i. Ok (record { archive = archive i; left = new.left; right = new.right }))))
 
 -- a replica whose view stays keeps its bytes
 pub stays_closed : (h : Handed) (side : SideValue) (r : ReplicaValue) (at : Slot) → MayClose h side r r.view
-    → ClosesOn h.means_of h.formats h.texts side r r.view at (Ok r.bytes)
-stays_closed h side r at may = stays_on h.means_of h.formats h.texts side may.is_side r may.on_side may.member at
+    → ClosesOn h side r r.view at (Ok r.bytes)
+stays_closed h side r at may = stays_on h side may.is_side r may.on_side may.member at
 
 -- an archive that holds a view is spelled as that
 pub view_text : (v : Tree) → tree_text v ≡ archive_text (Some (recorded v))
@@ -55,17 +56,17 @@ view_text v = refl
 module _ (h : Handed) (before : Before) (after : Synced) (conflicts : List Conflict) (becomes : Becomes before after)
     (remain : HasConflicts before after conflicts) where
   pub made : (r : Result NewTexts Stop) → Computes (Closes h before.sides before.replicas after) (seen new_texts r)
-      → IfOk r (λ f. Tells conflicts f.output) → Computes (MakesTexts h before) r
-  made (Ok f) closes tells =
-      let told : TellsConflicts before after f.output.status = record { conflicts = conflicts; remain = remain; told = tells.status } in
-      (record { after = after; becomes = becomes; closes = closes.0; tells = record { tells = told; text = tells.text } }, refl)
-  made (Err stop) closes tells =
+      → IfOk r (λ f. Sums after conflicts f.summary) → Computes (MakesTexts h before) r
+  made (Ok f) closes sums =
+      let left = subst (HasConflicts before after) (sym sums.are) remain in
+      (record { after = after; becomes = becomes; closes = closes.0; sums = record { remain = left; left = sums.left; right = sums.right } }, refl)
+  made (Err stop) closes sums =
       computes_stop (MakesTexts h before) (λ refusal. Closes h before.sides before.replicas after (Err refusal)) stop (Err stop) refl closes
       (λ refusal f. record { after = after; becomes = becomes; closes = f })
 
 pub made_of : (h : Handed) (before : Before) (outcome : Outcome) → IsReconciled before.schema (old_trio before) outcome
     → (r : Result NewTexts Stop) → Computes (Closes h before.sides before.replicas (outcome_of outcome)) (seen new_texts r)
-    → IfOk r (λ f. Tells outcome.conflicts.items f.output) → Computes (MakesTexts h before) r
+    → IfOk r (λ f. Sums (outcome_of outcome) outcome.conflicts.items f.summary) → Computes (MakesTexts h before) r
 made_of h before outcome now = made h before (outcome_of outcome) outcome.conflicts.items now.outcome now.conflicts
 
 -- where all three become as one view there is no mark, and so no conflict
@@ -107,16 +108,21 @@ closed_as_left h sides replicas may r (goes_on f (goes_on g e)) =
 
 module _ (h : Handed) (before : Before) (t : Tree) (becomes : Becomes before (all_as t)) (finds : Result OneSidedTexts Refusal → Type 0)
     (see : OneSidedTexts → Texts) (closed : (r : Result OneSidedTexts Refusal) → finds r → Closes h before.sides before.replicas (all_as t) (seen see r))
-    (put : OneSided → NewTexts) (same : (o : OneSided) → new_texts (put o) ≡ see (one_sided_texts o)) (output : (o : OneSided) → (put o).output ≡ o.output) where
-  made_as : (r : Result OneSided Stop) → Computes finds (seen one_sided_texts r) → IfOk r (λ o. Tells [] o.output) → Computes (MakesTexts h before) (seen put r)
-  made_as (Ok o) closes tells =
+    (put : OneSided → NewTexts) (same : (o : OneSided) → new_texts (put o) ≡ see (one_sided_texts o))
+    (sums : (o : OneSided) → o.count ≡ count_of t → Sums (all_as t) [] (put o).summary) where
+  made_as : (r : Result OneSided Stop) → Computes finds (seen one_sided_texts r) → IfOk r (λ o. o.count ≡ count_of t) → Computes (MakesTexts h before) (seen put r)
+  made_as (Ok o) closes counts =
       made h before (all_as t) [] becomes (no_conflicts before t) (Ok (put o))
       (subst (λ x. Closes h before.sides before.replicas (all_as t) (Ok x)) (sym (same o)) (closed (Ok (one_sided_texts o)) closes.0), refl)
-      (subst (Tells []) (sym (output o)) tells)
-  made_as (Err stop) closes tells =
+      (sums o counts)
+  made_as (Err stop) closes counts =
       made h before (all_as t) [] becomes (no_conflicts before t) (Err stop)
       (computes_stop (Closes h before.sides before.replicas (all_as t)) (λ refusal. finds (Err refusal)) stop (Err stop) refl closes (λ refusal f. closed (Err refusal) f))
-      tells
+      tt
+
+-- without conflicts, and with as many edges on both sides
+abbrev summary_of : Vec Conflict Global → OneSided → Summary
+summary_of none o = record { conflicts = none; left = o.count; right = o.count }
 
 module _ (h : Handed) (before : Before) (opened : AreOpened h before) where
   pub may_close_left : (t : Tree) → IsMemberTree before.schema t → MayClose h before.sides.left before.replicas.left t
@@ -136,25 +142,27 @@ module _ (h : Handed) (before : Before) (opened : AreOpened h before) where
   -- the archive holds the left view, so all become as the right one; or the other way round
   pub made_as_right : before.archive ≡ Some (recorded before.replicas.left.view) → (r : Result OneSided Stop)
       → Computes (ClosesAs h ASlot before.sides.left before.replicas.left before.replicas.right) (seen one_sided_texts r)
-      → IfOk r (λ o. Tells [] o.output)
-      → Computes (MakesTexts h before) (seen (λ (o : OneSided). record { archive = o.archive; left = o.made; right = o.kept; output = o.output }) r)
-  made_as_right holds =
+      → IfOk r (λ o. o.count ≡ count_of before.replicas.right.view) → (none : Vec Conflict Global) → none.items ≡ []
+      → Computes (MakesTexts h before) (seen (λ (o : OneSided). record { archive = o.archive; left = o.made; right = o.kept; summary = summary_of none o }) r)
+  made_as_right holds r closes counts none empty =
       made_as h before before.replicas.right.view
       (rw holds (as_right before.schema before.schema.root before.replicas.left.view before.replicas.right.view opened.member_right))
       (ClosesAs h ASlot before.sides.left before.replicas.left before.replicas.right) right_kept
       (closed_as_right h before.sides before.replicas (may_close_right before.replicas.right.view opened.member_right))
-      _ (λ o. refl) (λ o. refl)
+      (λ (o : OneSided). record { archive = o.archive; left = o.made; right = o.kept; summary = summary_of none o }) (λ o. refl)
+      (λ o same. record { are = empty; left = same; right = same }) r closes counts
 
   pub made_as_left : before.archive ≡ Some (recorded before.replicas.right.view) → (r : Result OneSided Stop)
       → Computes (ClosesAs h BSlot before.sides.right before.replicas.right before.replicas.left) (seen one_sided_texts r)
-      → IfOk r (λ o. Tells [] o.output)
-      → Computes (MakesTexts h before) (seen (λ (o : OneSided). record { archive = o.archive; left = o.kept; right = o.made; output = o.output }) r)
-  made_as_left holds =
+      → IfOk r (λ o. o.count ≡ count_of before.replicas.left.view) → (none : Vec Conflict Global) → none.items ≡ []
+      → Computes (MakesTexts h before) (seen (λ (o : OneSided). record { archive = o.archive; left = o.kept; right = o.made; summary = summary_of none o }) r)
+  made_as_left holds r closes counts none empty =
       made_as h before before.replicas.left.view
       (rw holds (as_left before.schema before.schema.root before.replicas.left.view before.replicas.right.view opened.member_left))
       (ClosesAs h BSlot before.sides.right before.replicas.right before.replicas.left) left_kept
       (closed_as_left h before.sides before.replicas (may_close_left before.replicas.left.view opened.member_left))
-      _ (λ o. refl) (λ o. refl)
+      (λ (o : OneSided). record { archive = o.archive; left = o.kept; right = o.made; summary = summary_of none o }) (λ o. refl)
+      (λ o same. record { are = empty; left = same; right = same }) r closes counts
 
 -- no archive is deeper than the deeper of the views was
 pub archive_bound : (s : SchemaValue) (o : Archive) (left right : Tree) (outcome : Outcome) (n : ℕ) → IsReconciled s (given o left right) outcome

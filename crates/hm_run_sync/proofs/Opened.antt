@@ -10,7 +10,7 @@ use Rattle.hm_run_files.specs.declared.slot.Slot.TheVariants as slot
 use Rattle.hm_run_files.proofs.Steps.{ok_is, then_ok}
 use Rattle.hm_run_sides.specs.Sides.{SideValue, IsSide}
 use Rattle.hm_run_sides.specs.SideReplicas.{OpensOn, IsReplicaOn}
-use Rattle.hm_run_sync.specs.Handed.{Handed}
+use Rattle.hm_run_handed.specs.Handed.{Handed}
 use Rattle.hm_run_sync.specs.Reads.{Serves, Sides, Replicas, Before, OpensView, OpensSides, OpensReplicas, ReadsBehind, ReadsSix, ReadsAll, AreOpened}
 
 -- both sides serve a schema
@@ -35,20 +35,20 @@ module _ (h : Handed) where
       (record { left = serves s slot.LensA left a.0 a.1; right = serves s slot.LensB right b.0 b.1 })
 
   -- a replica that was opened on a side, with its view
-  module _ (side : SideValue) (is : IsSide h.means_of h.formats h.texts side) where
+  module _ (side : SideValue) (is : IsSide h side) where
     shown : (r : ReplicaValue) → IsReplica (h.means_of is.format) h.texts side.typed r → IsMemberTree side.typed.view r.view
     shown r replica =
         let member = is.lawful.members (options_in side.typed) side.typed.source r.bytes replica.tree is.typed.sound is.typed.schema replica.read in
         let one = is.typed.fits.shows replica.tree member in
         subst (IsMemberTree side.typed.view) (sym (one.only r.view replica.shown)) one.inside
 
-    pub view_member : (at : Slot) (bytes : List ℕ) (r : ReplicaValue) → OpensOn h.means_of h.formats h.texts side at bytes (Ok r)
+    pub view_member : (at : Slot) (bytes : List ℕ) (r : ReplicaValue) → OpensOn h side at bytes (Ok r)
         → IsMemberTree side.typed.view r.view
     view_member at bytes r o =
         shown r (subst (λ (b : h.box). IsReplica (h.means_of b) h.texts side.typed r) (same_Some o.box is.format (sym o.is ∙ is.is)) o.holds.1)
 
-    pub replica_on : (at : Slot) (bytes : List ℕ) (r : ReplicaValue) → OpensOn h.means_of h.formats h.texts side at bytes (Ok r)
-        → IsReplicaOn h.means_of h.formats h.texts side r
+    pub replica_on : (at : Slot) (bytes : List ℕ) (r : ReplicaValue) → OpensOn h side at bytes (Ok r)
+        → IsReplicaOn h side r
     replica_on at bytes r o = record { box = o.box; is = o.is; holds = o.holds.1 }
 
   pub six_opened : (schema lens_a lens_b archive left right : List ℕ) (b : Before) → ReadsSix h schema lens_a lens_b archive left right (Ok b) → AreOpened h b

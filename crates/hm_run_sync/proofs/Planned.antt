@@ -3,13 +3,12 @@ use Rattle.std.proofs.Common.{◌≡◌, ℕ, List, Ok, Err, refl, sym, ap, ◌�
 use Rattle.hm_run_files.specs.declared.stop.Refusal.{Refusal}
 use Rattle.hm_run_files.specs.Steps.{stops, goes_on}
 use Rattle.hm_run_files.specs.Files.{New, measures}
-use Rattle.hm_run_words.specs.declared.ending.Output.{Output}
-use Rattle.hm_run_words.specs.Words.{FileNames}
-use Rattle.hm_run_sync.specs.Handed.{Handed}
+use Rattle.hm_run_handed.specs.Handed.{Handed}
+use Rattle.hm_run_sync.specs.declared.closing.Summary.{Summary}
 use Rattle.hm_run_sync.specs.Reads.{Before, ReadsAll}
-use Rattle.hm_run_sync.specs.Verdict.{Synced, Texts, Plans, PlansFrom, Becomes, Closes, IsReport, news_of, IsUnwritable, IsPlanned}
+use Rattle.hm_run_sync.specs.Verdict.{NewNames, Synced, Texts, Plans, PlansFrom, Becomes, Closes, IsSummary, news_of, IsUnwritable, IsPlanned}
 
-module _ (h : Handed) (files : FileNames) (all : List (List ℕ)) where
+module _ (h : Handed) (files : NewNames) (all : List (List ℕ)) where
   pub reads_first : (refusal : Refusal) → ReadsAll h all (Err refusal) → PlansFrom h files all (Err refusal)
   unfolding PlansFrom
   reads_first refusal r = stops r
@@ -25,12 +24,12 @@ module _ (h : Handed) (files : FileNames) (all : List (List ℕ)) where
       unfolding PlansFrom Plans
       measures_first refusal m = goes_on reads (goes_on becomes (goes_on closes (stops (sym m ∙ ap measures are))))
 
-      pub planned : (output : Output) → measures news ≡ Ok tt → IsReport before after output → IsPlanned h files all news output
+      pub planned : (summary : Summary) → measures news ≡ Ok tt → IsSummary before after summary → IsPlanned h files all news summary
       unfolding PlansFrom Plans
-      planned output sizes tells = record {
+      planned summary sizes sums = record {
         plan = record { files = files; before = before; after = after; texts = texts };
         planned = goes_on reads (goes_on becomes (goes_on closes (goes_on (sym sizes ∙ ap measures are) refl)));
         of = refl;
         are = are;
-        tells = tells;
+        sums = sums;
       }

@@ -5,7 +5,7 @@ use Rattle.hm_run_files.specs.Steps.{Computes}
 use Rattle.hm_run_files.specs.Files.{bytes_of}
 use Rattle.hm_run_sides.specs.Sides.{seen}
 use Rattle.hm_run_sync.specs.declared.read.Inputs.{Inputs}
-use Rattle.hm_run_sync.specs.Handed.{Handed}
+use Rattle.hm_run_handed.specs.Handed.{Handed}
 use Rattle.hm_run_sync.specs.Reads.{before_of, ReadsSix, ReadsAll}
 
 abbrev Bytes : Type 0

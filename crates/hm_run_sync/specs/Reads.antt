@@ -25,7 +25,7 @@ use Rattle.hm_run_files.specs.declared.stop.Stop.TheVariants.{Refused, Memory}
 use Rattle.hm_run_files.specs.Steps.{Then, Told}
 use Rattle.hm_run_sides.specs.Sides.{SideValue, side_value, OpensSide, ChecksView, IsSide}
 use Rattle.hm_run_sides.specs.SideReplicas.{OpensOn, IsReplicaOn, IsBaseOn}
-use Rattle.hm_run_sync.specs.Handed.{Handed}
+use Rattle.hm_run_handed.specs.Handed.{Handed}
 use Rattle.hm_run_sync.specs.declared.read.Inputs.{Inputs}
 use Rattle.hm_run_sync.specs.declared.read.SidePair.{SidePair}
 use Rattle.hm_run_sync.specs.declared.read.ReplicaPair.{ReplicaPair}
@@ -45,13 +45,13 @@ archive_stop text.Memory = Memory
 
 -- replicas may be opened on a side, and closed with members of a schema
 pub record Serves (h : Handed) (s : SchemaValue) (side : SideValue) : Type 0 where
-  pub is_side : IsSide h.means_of h.formats h.texts side
+  pub is_side : IsSide h side
   pub members : Alike (IsMemberTree s) (IsMemberTree side.typed.view)
 
 -- a lens file is opened as a side, whose view is the same as the schema
 unfoldable pub OpensView : Handed → SchemaValue → Slot → List ℕ → Result SideValue Refusal → Type 0
 OpensView h s at bytes =
-    Then (OpensSide h.means_of h.formats h.texts at bytes) (λ side.
+    Then (OpensSide h at bytes) (λ side.
     Then (ChecksView at s side.typed.view) (λ same r. (r ≡ Ok side) × Serves h s side))
 
 -- the left one and the right one
@@ -79,8 +79,8 @@ replicas_of p = record { left = replica_value p.left; right = replica_value p.ri
 
 unfoldable pub OpensReplicas : Handed → Sides → List ℕ → List ℕ → Result Replicas Refusal → Type 0
 OpensReplicas h sides left right =
-    Then (OpensOn h.means_of h.formats h.texts sides.left slot.A left) (λ a.
-    Then (OpensOn h.means_of h.formats h.texts sides.right slot.B right) (λ b r.
+    Then (OpensOn h sides.left slot.A left) (λ a.
+    Then (OpensOn h sides.right slot.B right) (λ b r.
     r ≡ Ok (record { left = a; right = b })))
 
 -- ---- all six files
@@ -120,27 +120,27 @@ ReadsAll h all =
 
 -- a replica may be closed on a side with a new view
 pub record MayClose (h : Handed) (side : SideValue) (replica : ReplicaValue) (shown : Tree) : Type 0 where
-  pub is_side : IsSide h.means_of h.formats h.texts side
-  pub on_side : IsReplicaOn h.means_of h.formats h.texts side replica
+  pub is_side : IsSide h side
+  pub on_side : IsReplicaOn h side replica
   pub member : IsMemberTree side.typed.view shown
 
 -- the same over what new views of a replica are put over
 pub record MayCloseOver (h : Handed) (side : SideValue) (base : Base) (shown : Tree) : Type 0 where
-  pub is_side : IsSide h.means_of h.formats h.texts side
-  pub over : (r : ReplicaValue) × IsBaseOn h.means_of h.formats h.texts side r base
+  pub is_side : IsSide h side
+  pub over : (r : ReplicaValue) × IsBaseOn h side r base
   pub member : IsMemberTree side.typed.view shown
 
 -- new views of replicas are put over these
 pub record AreBases (h : Handed) (sides : Sides) (replicas : Replicas) (bases : BasePair) : Type 0 where
-  pub left : IsBaseOn h.means_of h.formats h.texts sides.left replicas.left bases.left
-  pub right : IsBaseOn h.means_of h.formats h.texts sides.right replicas.right bases.right
+  pub left : IsBaseOn h sides.left replicas.left bases.left
+  pub right : IsBaseOn h sides.right replicas.right bases.right
 
 -- the replicas are those of sides that serve the schema, of which their views are members
 pub record AreOpened (h : Handed) (b : Before) : Type 0 where
   pub no_twins : HasNoTwins b.schema
   pub serves_left : Serves h b.schema b.sides.left
   pub serves_right : Serves h b.schema b.sides.right
-  pub left : IsReplicaOn h.means_of h.formats h.texts b.sides.left b.replicas.left
-  pub right : IsReplicaOn h.means_of h.formats h.texts b.sides.right b.replicas.right
+  pub left : IsReplicaOn h b.sides.left b.replicas.left
+  pub right : IsReplicaOn h b.sides.right b.replicas.right
   pub member_left : IsMemberTree b.schema b.replicas.left.view
   pub member_right : IsMemberTree b.schema b.replicas.right.view

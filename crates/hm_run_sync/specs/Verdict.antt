@@ -1,7 +1,7 @@
--- What a run over these contents is to do: the first refusal in the order of the checks, or a plan.
-use Rattle.std.specs.Prelude.{◌≡◌, ℕ, zero, suc, nat_lt, cond, List, [], ◌∷◌, length, take, Some, Result, Ok, Err, map}
+-- What a synchronisation of six files is to do: the first refusal in the order of the checks, or a plan.
+use Rattle.std.specs.Prelude.{◌≡◌, ℕ, zero, suc, Bool, true, false, nat_lt, cond, List, [], ◌∷◌, length, Some, Result, Ok, Err, map}
 use Rattle.hm_tree.specs.Names.{Name}
-use Rattle.hm_tree.specs.Nodes.{Tree}
+use Rattle.hm_tree.specs.Nodes.{Tree, edges}
 use Rattle.hm_tree.specs.Archives.{Archive, depth_here, recorded}
 use Rattle.hm_tree.specs.States.{state}
 use Rattle.hm_tree_text.specs.Text.{archive_text}
@@ -10,8 +10,7 @@ use Rattle.hm_outcome.specs.Outcomes.{IsOutcome}
 use Rattle.hm_report.specs.declared.conflict.Conflict.{Conflict}
 use Rattle.hm_report.specs.declared.outcome.Outcome.{Outcome}
 use Rattle.hm_report.specs.Conflicts.{AreConflicts}
-use Rattle.hm_report.specs.Text.{report_text}
-use Rattle.hm_outside.specs.Contents.{Contents}
+use Rattle.hm_report.specs.Text.{report_text, number_line}
 use Rattle.hm_replica.specs.Replicas.{ReplicaValue}
 use Rattle.hm_run_files.specs.declared.slot.NewFile.{NewFile}
 use Rattle.hm_run_files.specs.declared.slot.Slot.{Slot}
@@ -20,14 +19,14 @@ use Rattle.hm_run_files.specs.declared.stop.FileFault.TheVariants.{Unwritable}
 use Rattle.hm_run_files.specs.declared.stop.Refusal.{Refusal}
 use Rattle.hm_run_files.specs.declared.stop.Refusal.TheVariants.{At}
 use Rattle.hm_run_files.specs.Steps.{Then}
-use Rattle.hm_run_files.specs.Files.{New, loads, measures, written, new_of}
-use Rattle.hm_run_words.specs.declared.ending.Output.{Output}
-use Rattle.hm_run_words.specs.Words.{FileNames, slots, meaning}
+use Rattle.hm_run_files.specs.Files.{New, measures, new_of}
 use Rattle.hm_run_sides.specs.Sides.{SideValue}
 use Rattle.hm_run_sides.specs.SideReplicas.{ClosesOn}
 use Rattle.hm_run_sync.specs.declared.closing.NewTexts.{NewTexts}
 use Rattle.hm_run_sync.specs.declared.closing.OneSided.{OneSided}
-use Rattle.hm_run_sync.specs.Handed.{Handed}
+use Rattle.hm_run_sync.specs.declared.closing.Summary.{Summary}
+use Rattle.hm_run_sync.specs.declared.make.WrittenFiles.{WrittenFiles}
+use Rattle.hm_run_handed.specs.Handed.{Handed}
 use Rattle.hm_run_sync.specs.Reads.{Sides, Replicas, Before, ReadsAll}
 
 -- ---- reconciling
@@ -70,10 +69,10 @@ abbrev pub conflicts_status : ℕ → ℕ
 conflicts_status zero = 0
 conflicts_status (suc n) = 1
 
--- an output tells these conflicts
-pub record Tells (conflicts : List Conflict) (output : Output) : Type 0 where
-  pub status : output.status ≡ conflicts_status (length conflicts)
-  pub text : output.text.items ≡ report_text conflicts
+-- the conflicts that remain, each in its line and their number in the last; the last line alone for a quiet run
+abbrev pub said : Bool → List Conflict → List ℕ
+said true conflicts = number_line (length conflicts)
+said false conflicts = report_text conflicts
 
 -- a status tells whether conflicts remain
 pub record TellsConflicts (before : Before) (after : Synced) (status : ℕ) : Type 0 where
@@ -81,10 +80,14 @@ pub record TellsConflicts (before : Before) (after : Synced) (status : ℕ) : Ty
   pub remain : HasConflicts before after conflicts
   pub told : status ≡ conflicts_status (length conflicts)
 
--- an output tells the conflicts that remain
-pub record IsReport (before : Before) (after : Synced) (output : Output) : Type 0 where
-  pub tells : TellsConflicts before after output.status
-  pub text : output.text.items ≡ report_text tells.conflicts
+abbrev pub count_of : Tree → ℕ
+count_of t = length (edges t)
+
+-- the conflicts that remain, and the numbers of edges of the two new views
+pub record IsSummary (before : Before) (after : Synced) (summary : Summary) : Type 0 where
+  pub remain : HasConflicts before after summary.conflicts.items
+  pub left : summary.left ≡ count_of after.left
+  pub right : summary.right ≡ count_of after.right
 
 -- ---- the new files
 
@@ -101,8 +104,8 @@ archive_fits o = cond (nat_lt 1000 (depth_here o)) (Err (At slot.Archive (Unwrit
 -- each side's bytes of its new view behind those of its replica, the left one's first, and then the text of the archive
 unfoldable pub Closes : Handed → Sides → Replicas → Synced → Result Texts Refusal → Type 0
 Closes h sides replicas after =
-    Then (ClosesOn h.means_of h.formats h.texts sides.left replicas.left after.left slot.A) (λ left.
-    Then (ClosesOn h.means_of h.formats h.texts sides.right replicas.right after.right slot.B) (λ right.
+    Then (ClosesOn h sides.left replicas.left after.left slot.A) (λ left.
+    Then (ClosesOn h sides.right replicas.right after.right slot.B) (λ right.
     Then (λ r. r ≡ archive_fits after.archive) (λ fits r.
     r ≡ Ok (record { archive = archive_text after.archive; left = left; right = right }))))
 
@@ -115,27 +118,36 @@ pub record OneSidedTexts : Type 0 where
 -- a side's bytes of the view of the other replica behind those of its own, and then the text of the archive
 unfoldable pub ClosesAs : Handed → Slot → SideValue → ReplicaValue → ReplicaValue → Result OneSidedTexts Refusal → Type 0
 ClosesAs h at side replica other =
-    Then (ClosesOn h.means_of h.formats h.texts side replica other.view at) (λ made.
+    Then (ClosesOn h side replica other.view at) (λ made.
     Then (λ r. r ≡ archive_fits (Some (recorded other.view))) (λ fits r.
     r ≡ Ok (record { archive = archive_text (Some (recorded other.view)); made = made; kept = other.bytes })))
 
+-- the names of the files that are written
+pub record NewNames : Type 0 where
+  pub archive : Name
+  pub left : Name
+  pub right : Name
+
+abbrev pub names_in : WrittenFiles → NewNames
+names_in f = record { archive = f.archive.now; left = f.left.now; right = f.right.now }
+
 -- in the order in which they are measured and written
-abbrev pub news_of : FileNames → Texts → List New
+abbrev pub news_of : NewNames → Texts → List New
 news_of f t =
     record { slot = slot.A; name = f.left; bytes = t.left } ∷ record { slot = slot.B; name = f.right; bytes = t.right }
     ∷ record { slot = slot.Archive; name = f.archive; bytes = t.archive } ∷ []
 
--- ---- the verdict: words, loads, what was read, and the plan
+-- ---- the plan
 
--- the names of the files, what was read of them, what that becomes, and the bytes that they are to have
+-- the names of the files that are written, what was read, what that becomes, and the bytes that they are to have
 pub record Plan : Type 0 where
-  pub files : FileNames
+  pub files : NewNames
   pub before : Before
   pub after : Synced
   pub texts : Texts
 
 -- the three new files are made before the first of them is measured
-unfoldable pub Plans : Handed → FileNames → Before → Result Plan Refusal → Type 0
+unfoldable pub Plans : Handed → NewNames → Before → Result Plan Refusal → Type 0
 Plans h files before =
     Then (Reconciles before) (λ after.
     Then (Closes h before.sides before.replicas after) (λ texts.
@@ -143,21 +155,8 @@ Plans h files before =
     r ≡ Ok (record { files = files; before = before; after = after; texts = texts }))))
 
 -- what is to be done with files of these names and bytes
-unfoldable pub PlansFrom : Handed → FileNames → List (List ℕ) → Result Plan Refusal → Type 0
+unfoldable pub PlansFrom : Handed → NewNames → List (List ℕ) → Result Plan Refusal → Type 0
 PlansFrom h files all = Then (ReadsAll h all) (Plans h files)
-
--- what is to be done over these contents, by what the words mean
-unfoldable pub VerdictOf : Handed → Contents → Result FileNames Refusal → Result Plan Refusal → Type 0
-VerdictOf h c meant =
-    Then (λ r. r ≡ meant) (λ files.
-    Then (λ r. r ≡ loads c (slots files)) (PlansFrom h files))
-
-abbrev pub Verdict : Handed → Contents → List Name → Result Plan Refusal → Type 0
-Verdict h c words = VerdictOf h c (meaning words)
-
--- the contents with the plan carried out as far as its first n files
-abbrev pub stop_state : Contents → Plan → ℕ → Contents
-stop_state c plan n = written c (take n (news_of plan.files plan.texts))
 
 -- ---- what is made, against what was read
 
@@ -170,12 +169,18 @@ new_texts t = record { archive = t.archive.items; left = t.left.items; right = t
 abbrev pub one_sided_texts : OneSided → OneSidedTexts
 one_sided_texts t = record { archive = t.archive.items; made = t.made.items; kept = t.kept.items }
 
--- the texts are those of what was read becomes, and the output tells the conflicts that remain
+-- a summary of what comes with these conflicts
+pub record Sums (after : Synced) (conflicts : List Conflict) (summary : Summary) : Type 0 where
+  pub are : summary.conflicts.items ≡ conflicts
+  pub left : summary.left ≡ count_of after.left
+  pub right : summary.right ≡ count_of after.right
+
+-- the texts are those of what was read becomes, with its summary
 pub record IsMade (h : Handed) (before : Before) (made : NewTexts) : Type 0 where
   pub after : Synced
   pub becomes : Becomes before after
   pub closes : Closes h before.sides before.replicas after (Ok (new_texts made))
-  pub tells : IsReport before after made.output
+  pub sums : IsSummary before after made.summary
 
 -- what was read becomes what is refused to be written
 pub record IsUnwritable (h : Handed) (before : Before) (refusal : Refusal) : Type 0 where
@@ -187,15 +192,15 @@ abbrev pub MakesTexts : Handed → Before → Result NewTexts Refusal → Type 0
 MakesTexts h before (Ok made) = IsMade h before made
 MakesTexts h before (Err refusal) = IsUnwritable h before refusal
 
--- the new files are those of a plan, and the output tells the conflicts that remain
-pub record IsPlanned (h : Handed) (files : FileNames) (all : List (List ℕ)) (news : List New) (output : Output) : Type 0 where
+-- the new files are those of a plan, with its summary
+pub record IsPlanned (h : Handed) (files : NewNames) (all : List (List ℕ)) (news : List New) (summary : Summary) : Type 0 where
   pub plan : Plan
   pub planned : PlansFrom h files all (Ok plan)
   pub of : plan.files ≡ files
   pub are : news ≡ news_of files plan.texts
-  pub tells : IsReport plan.before plan.after output
+  pub sums : IsSummary plan.before plan.after summary
 
 -- files of these names and bytes come to a plan, or are refused
-abbrev pub Makes : Handed → FileNames → List (List ℕ) → Result (List NewFile × Output) Refusal → Type 0
+abbrev pub Makes : Handed → NewNames → List (List ℕ) → Result (List NewFile × Summary) Refusal → Type 0
 Makes h files all (Ok made) = IsPlanned h files all (map new_of made.0) made.1
 Makes h files all (Err refusal) = PlansFrom h files all (Err refusal)

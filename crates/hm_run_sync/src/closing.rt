@@ -1,5 +1,5 @@
 //! Closing both replicas with what their views become, and the archive.
-ghost use Rattle.std.specs.Prelude.{◌≡◌, ◌≤◌, [], Some, IfOk, map};
+ghost use Rattle.std.specs.Prelude.{◌≡◌, ◌≤◌, Some, IfOk};
 ghost use Rattle.hm_tree.specs.Archives.{depth_here, recorded};
 ghost use Rattle.hm_tree_text.specs.Text.{archive_text};
 ghost use Rattle.hm_run_files.specs.declared.slot.Slot.TheVariants as slot;
@@ -9,38 +9,35 @@ ghost use Rattle.hm_run_files.specs.declared.stop.Stop.TheVariants.{Refused};
 ghost use Rattle.hm_run_files.specs.Steps.{Computes};
 ghost use Rattle.hm_replica.specs.Replicas.{replica_value};
 ghost use Rattle.hm_run_sides.specs.Sides.{seen, side_value};
-ghost use Rattle.hm_run_sync.specs.Handed.{handed};
+ghost use Rattle.hm_run_handed.specs.Handed.{handed_in};
 ghost use Rattle.hm_run_sync.specs.Reads.{Replicas, sides_of, MayClose, MayCloseOver, AreBases};
-ghost use Rattle.hm_run_sync.specs.Verdict.{Tells, new_texts, one_sided_texts, archive_fits, Closes, ClosesAs, outcome_of};
+ghost use Rattle.hm_run_sync.specs.Verdict.{Sums, new_texts, one_sided_texts, archive_fits, Closes, ClosesAs, outcome_of, count_of};
 
 use crate::read::{BasePair, SidePair};
-use hm_format::Format;
 use hm_replica::{Replica, leave};
-use hm_report::{Conflict, Outcome, write_report};
+use hm_report::{Conflict, Outcome};
 use hm_run_files::{FileFault, Refusal, Slot, Stop};
+use hm_run_handed::HandedIn;
 use hm_run_sides::{Side, close_base, close_replica};
-use hm_run_words::Output;
-use hm_text_lens::TextLens;
 use hm_tree::{Archive, DEEPEST, Memory, Tree};
 use hm_tree_text::{write_archive, write_tree};
 use std::alloc::Global;
 
-/// What the three files are to hold, and what is to be said of the conflicts that remain.
+/// What may be told of a synchronisation: the conflicts that remain, and how many edges each of the two new views has.
+#[derive(Drop)]
+pub struct Summary {
+    pub conflicts: Vec<Conflict>,
+    pub left: usize,
+    pub right: usize,
+}
+
+/// What the three files are to hold, and what may be told of it.
 #[derive(Drop)]
 pub struct NewTexts {
     pub archive: Vec<u8>,
     pub left: Vec<u8>,
     pub right: Vec<u8>,
-    pub output: Output,
-}
-
-fn output_of(alloc: Global, conflicts: &[Conflict]) -> Result<Output, Memory>
-    ensures { IfOk result (Tells conflicts.now) }
-{
-    Ok(Output {
-        status: u8::from(conflicts.len() > 0),
-        text: write_report(alloc, conflicts)?,
-    })
+    pub summary: Summary,
 }
 
 // How many edges of an archive lie one below another, of which a bound is known.
@@ -88,35 +85,30 @@ fn text_of(alloc: Global, archive: Archive) -> Result<Vec<u8>, Memory>
 /// The texts of an outcome, of the depth of whose archive a bound is known, over what is left of the replicas without their views.
 pub fn close(
     alloc: Global,
-    formats: &[Box<dyn Format>],
-    texts: &[Box<dyn TextLens>],
+    given: HandedIn<'_>,
     sides: &SidePair,
     bases: BasePair,
     outcome: Outcome,
     bound: usize,
 ) -> Result<NewTexts, Stop>
-    requires left { MayCloseOver (handed (λ b. means b) formats.now (map (λ b. meaning b) texts.now)) (side_value sides.now.left) bases.left outcome.left }
-    requires right { MayCloseOver (handed (λ b. means b) formats.now (map (λ b. meaning b) texts.now)) (side_value sides.now.right) bases.right outcome.right }
+    requires left { MayCloseOver (handed_in given means meaning) (side_value sides.now.left) bases.left outcome.left }
+    requires right { MayCloseOver (handed_in given means meaning) (side_value sides.now.right) bases.right outcome.right }
     requires bound { depth_here outcome.archive ≤ bound }
-    ensures closes { (replicas : Replicas) → AreBases (handed (λ b. means b) formats.now (map (λ b. meaning b) texts.now)) (sides_of sides.now) replicas bases → Computes (Closes (handed (λ b. means b) formats.now (map (λ b. meaning b) texts.now)) (sides_of sides.now) replicas (outcome_of outcome)) (seen new_texts result) }
-    ensures tells { IfOk result (λ made. Tells outcome.conflicts.items made.output) }
+    ensures closes { (replicas : Replicas) → AreBases (handed_in given.entry means meaning) (sides_of sides.now) replicas bases → Computes (Closes (handed_in given.entry means meaning) (sides_of sides.now) replicas (outcome_of outcome)) (seen new_texts result) }
+    ensures sums { IfOk result (λ made. Sums (outcome_of outcome) outcome.conflicts.items made.summary) }
 {
+    let summary = Summary {
+        conflicts: outcome.conflicts,
+        left: outcome.left.count(),
+        right: outcome.right.count(),
+    };
     let fits = check_depth(&outcome.archive, bound);
     let archive = text_of(alloc, outcome.archive)?;
-    let left = close_base(
-        alloc,
-        Slot::A,
-        formats,
-        texts,
-        &sides.left,
-        bases.left,
-        outcome.left,
-    )?;
+    let left = close_base(alloc, Slot::A, given, &sides.left, bases.left, outcome.left)?;
     let right = close_base(
         alloc,
         Slot::B,
-        formats,
-        texts,
+        given,
         &sides.right,
         bases.right,
         outcome.right,
@@ -126,7 +118,7 @@ pub fn close(
         archive,
         left,
         right,
-        output: output_of(alloc, &outcome.conflicts)?,
+        summary,
     })
 }
 
@@ -142,28 +134,28 @@ fn check_view(view: &Tree) -> Result<(), Stop>
     Ok(())
 }
 
-/// What the archive and a replica are to hold where they become as the view of the other one, which keeps its bytes.
+/// What the archive and a replica are to hold where they become as the view of the other one, which keeps its bytes; and how
+/// many edges that view has.
 #[derive(Drop)]
 pub struct OneSided {
     pub archive: Vec<u8>,
     pub made: Vec<u8>,
     pub kept: Vec<u8>,
-    pub output: Output,
+    pub count: usize,
 }
 
 /// The texts where the replica of a slot and the archive become as the view of the other replica, whose bytes stay.
 pub fn close_as(
     alloc: Global,
     slot: Slot,
-    formats: &[Box<dyn Format>],
-    texts: &[Box<dyn TextLens>],
+    given: HandedIn<'_>,
     side: &Side,
     replica: Replica,
     other: Replica,
 ) -> Result<OneSided, Stop>
-    requires { MayClose (handed (λ b. means b) formats.now (map (λ b. meaning b) texts.now)) (side_value side.now) (replica_value replica) other.view }
-    ensures closes { Computes (ClosesAs (handed (λ b. means b) formats.now (map (λ b. meaning b) texts.now)) slot (side_value side.now) (replica_value replica) (replica_value other)) (seen one_sided_texts result) }
-    ensures tells { IfOk result (λ made. Tells [] made.output) }
+    requires { MayClose (handed_in given means meaning) (side_value side.now) (replica_value replica) other.view }
+    ensures closes { Computes (ClosesAs (handed_in given.entry means meaning) slot (side_value side.now) (replica_value replica) (replica_value other)) (seen one_sided_texts result) }
+    ensures counts { IfOk result (λ made. made.count ≡ count_of other.view) }
 {
     let Replica {
         bytes,
@@ -171,14 +163,15 @@ pub fn close_as(
         view,
     } = other;
     drop(concrete);
+    let count = view.count();
     let fits = check_view(&view);
     let archive = write_tree(alloc, &view)?;
-    let made = close_replica(alloc, slot, formats, texts, side, replica, view)?;
+    let made = close_replica(alloc, slot, given, side, replica, view)?;
     fits?;
     Ok(OneSided {
         archive,
         made,
         kept: bytes,
-        output: output_of(alloc, &[])?,
+        count,
     })
 }

@@ -8,21 +8,18 @@ ghost use Rattle.hm_replica.specs.Bases.{IsBase};
 ghost use Rattle.hm_replica.specs.Replicas.{replica_value};
 ghost use Rattle.hm_run_files.specs.Steps.{Computes};
 ghost use Rattle.hm_run_files.specs.Files.{all_bytes, new_of};
-ghost use Rattle.hm_run_words.specs.Words.{names};
-ghost use Rattle.hm_run_sync.specs.Handed.{handed};
+ghost use Rattle.hm_run_handed.specs.Handed.{handed_in};
 ghost use Rattle.hm_run_sync.specs.Reads.{before_of, before_with, AreOpened};
-ghost use Rattle.hm_run_sync.specs.Verdict.{news_of, new_texts, MakesTexts, Makes};
+ghost use Rattle.hm_run_sync.specs.Verdict.{names_in, news_of, new_texts, MakesTexts, Makes};
 
-use crate::closing::{NewTexts, close, close_as};
+use crate::closing::{NewTexts, Summary, close, close_as};
 use crate::read::{BasePair, Inputs, ReplicaPair, SidePair, read_all};
-use hm_format::Format;
 use hm_reconcile::reconcile_owned;
 use hm_report::Outcome;
 use hm_run_files::{NewFile, Slot, Stop, measure_all};
-use hm_run_words::{Files, Output};
+use hm_run_handed::HandedIn;
 use hm_schema::Schema;
-use hm_text_lens::TextLens;
-use hm_tree::{Archive, Memory, Tree};
+use hm_tree::{Archive, Memory, Name, Tree};
 use std::alloc::Global;
 
 // The greater of the depths of two trees.
@@ -56,31 +53,25 @@ fn reconcile(
 // The new texts of what was read, whatever has changed.
 fn make_both(
     alloc: Global,
-    formats: &[Box<dyn Format>],
-    texts: &[Box<dyn TextLens>],
+    given: HandedIn<'_>,
     schema: &Schema,
     sides: &SidePair,
     archive: Archive,
     replicas: ReplicaPair,
 ) -> Result<NewTexts, Stop>
-    requires { AreOpened (handed (λ b. means b) formats.now (map (λ b. meaning b) texts.now)) (before_with schema.now sides.now archive replicas) }
-    ensures { Computes (MakesTexts (handed (λ b. means b) formats.now (map (λ b. meaning b) texts.now)) (before_with schema.now sides.now archive replicas)) result }
+    requires { AreOpened (handed_in given means meaning) (before_with schema.now sides.now archive replicas) }
+    ensures { Computes (MakesTexts (handed_in given.entry means meaning) (before_with schema.now sides.now archive replicas)) result }
 {
     let bound = deeper(&replicas.left.view, &replicas.right.view);
     let (outcome, bases) = reconcile(alloc, schema, archive, replicas)?;
-    close(alloc, formats, texts, sides, bases, outcome, bound)
+    close(alloc, given, sides, bases, outcome, bound)
 }
 
 // The new texts of what was read. In most runs only one side has changed since the last, or none has; then the archive is
 // let go before the other side is closed, since both together are most of what is in memory.
-fn make(
-    alloc: Global,
-    formats: &[Box<dyn Format>],
-    texts: &[Box<dyn TextLens>],
-    inputs: Inputs,
-) -> Result<NewTexts, Stop>
-    requires { AreOpened (handed (λ b. means b) formats.now (map (λ b. meaning b) texts.now)) (before_of inputs) }
-    ensures { Computes (MakesTexts (handed (λ b. means b) formats.now (map (λ b. meaning b) texts.now)) (before_of inputs)) result }
+fn make(alloc: Global, given: HandedIn<'_>, inputs: Inputs) -> Result<NewTexts, Stop>
+    requires { AreOpened (handed_in given means meaning) (before_of inputs) }
+    ensures { Computes (MakesTexts (handed_in given.entry means meaning) (before_of inputs)) result }
 {
     let Inputs {
         schema,
@@ -88,35 +79,52 @@ fn make(
         archive,
         replicas,
     } = inputs;
+    let none = Vec::new(alloc);
     if archive.records(&replicas.left.view) {
         drop(archive);
         let ReplicaPair { left, right } = replicas;
-        let one = close_as(alloc, Slot::A, formats, texts, &sides.left, left, right)?;
+        let one = close_as(alloc, Slot::A, given, &sides.left, left, right)?;
         return Ok(NewTexts {
             archive: one.archive,
             left: one.made,
             right: one.kept,
-            output: one.output,
+            summary: Summary {
+                conflicts: none,
+                left: one.count,
+                right: one.count,
+            },
         });
     }
     if archive.records(&replicas.right.view) {
         drop(archive);
         let ReplicaPair { left, right } = replicas;
-        let one = close_as(alloc, Slot::B, formats, texts, &sides.right, right, left)?;
+        let one = close_as(alloc, Slot::B, given, &sides.right, right, left)?;
         return Ok(NewTexts {
             archive: one.archive,
             left: one.kept,
             right: one.made,
-            output: one.output,
+            summary: Summary {
+                conflicts: none,
+                left: one.count,
+                right: one.count,
+            },
         });
     }
-    make_both(alloc, formats, texts, &schema, &sides, archive, replicas)
+    make_both(alloc, given, &schema, &sides, archive, replicas)
 }
 
-// The new files, in the order in which they are measured and written, and the output.
-fn in_order<'a>(files: Files<'a>, new: NewTexts) -> ([NewFile<'a>; 3], Output)
-    ensures files { map new_of result.0 ≡ news_of (names files.entry) (new_texts new) }
-    ensures output { result.1 ≡ new.output }
+/// The names of the files that a synchronisation writes.
+#[derive(Clone, Copy)]
+pub struct WrittenFiles<'a> {
+    pub archive: &'a Name,
+    pub left: &'a Name,
+    pub right: &'a Name,
+}
+
+// The new files, in the order in which they are measured and written, and what may be told of them.
+fn in_order<'a>(files: WrittenFiles<'a>, new: NewTexts) -> ([NewFile<'a>; 3], Summary)
+    ensures files { map new_of result.0 ≡ news_of (names_in files.entry) (new_texts new) }
+    ensures summary { result.1 ≡ new.summary }
 {
     let news = [
         NewFile {
@@ -135,22 +143,21 @@ fn in_order<'a>(files: Files<'a>, new: NewTexts) -> ([NewFile<'a>; 3], Output)
             bytes: new.archive,
         },
     ];
-    (news, new.output)
+    (news, new.summary)
 }
 
-/// The new files and the output of what was loaded, or the first stop.
+/// The new files of what was loaded, in the order in which they are written, and what may be told of them; or the first stop.
 pub fn plan<'a>(
     alloc: Global,
-    files: Files<'a>,
-    formats: &[Box<dyn Format>],
-    texts: &[Box<dyn TextLens>],
+    files: WrittenFiles<'a>,
+    given: HandedIn<'_>,
     loads: Vec<Vec<u8>>,
-) -> Result<([NewFile<'a>; 3], Output), Stop>
+) -> Result<([NewFile<'a>; 3], Summary), Stop>
     requires { length loads.items ≡ 6 }
-    ensures { Computes (Makes (handed (λ b. means b) formats.now (map (λ b. meaning b) texts.now)) (names files.entry) (all_bytes loads)) result }
+    ensures { Computes (Makes (handed_in given.entry means meaning) (names_in files.entry) (all_bytes loads)) result }
 {
-    let inputs = read_all(alloc, formats, texts, loads)?;
-    let (news, output) = in_order(files, make(alloc, formats, texts, inputs)?);
+    let inputs = read_all(alloc, given, loads)?;
+    let (news, summary) = in_order(files, make(alloc, given, inputs)?);
     measure_all(&news)?;
-    Ok((news, output))
+    Ok((news, summary))
 }

@@ -1,2 +1,4 @@
 mod Behind
-mod Pairs
+mod SamePairs
+mod Meanings
+mod Formed

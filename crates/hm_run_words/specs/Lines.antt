@@ -68,7 +68,7 @@ fault_text at (Unwritable depth) = slot_and_number (codes "Unwritable ") at dept
 fault_text at (Overgrown size) = slot_and_number (codes "Overgrown ") at size
 
 abbrev pub refusal_text : Refusal → List ℕ
-refusal_text Usage = codes "usage: harmony sync SCHEMA LENS_A LENS_B ARCHIVE A B"
+refusal_text Usage = codes "usage: harmony [--quiet] sync|plan SCHEMA LENS_A LENS_B ARCHIVE A B, check LENS, view LENS FILE, gen N"
 refusal_text (SameName one two) = codes "harmony: SameName " ++ slot_name one ++ codes " " ++ slot_name two
 refusal_text (At at fault) = codes "harmony: " ++ fault_text at fault
 

@@ -1,35 +1,21 @@
--- What the words behind the program's name mean.
-use Rattle.std.specs.Prelude.{◌≡◌, Bool, true, false, not, ◌&&◌, ◌||◌, ◌==◌, if◌then◌else◌, List, [], ◌∷◌, find, codes, Option, Some, None, Result, Ok, Err}
+-- What the words behind the program's name mean: a request, or the usage line, or two files of one name.
+use Rattle.std.specs.Prelude.{◌≡◌, Bool, true, false, ◌&&◌, ◌||◌, List, [], ◌∷◌, find, Option, Some, None, Result, Ok, Err}
 use Rattle.std.specs.Option.{option_map, option_or}
 use Rattle.std.specs.Str.{bytes_eq}
 use Rattle.hm_tree.specs.Names.{Name}
+use Rattle.hm_command_line.specs.declared.request.Command.{Command}
+use Rattle.hm_command_line.specs.declared.request.Command.TheVariants.{Sync, Plan, Check, View, Generate}
+use Rattle.hm_command_line.specs.Requests.{RequestValue, request_of}
 use Rattle.hm_run_files.specs.declared.slot.Slot.{Slot}
-use Rattle.hm_run_files.specs.declared.slot.Slot.TheVariants.{Schema, LensA, LensB, Archive, A, B}
+use Rattle.hm_run_files.specs.declared.slot.Slot.TheVariants.{Archive, A, B}
 use Rattle.hm_run_files.specs.declared.stop.Refusal.{Refusal}
 use Rattle.hm_run_files.specs.declared.stop.Refusal.TheVariants.{Usage, SameName}
+use Rattle.hm_run_files.specs.declared.stop.Stop.{Stop}
+use Rattle.hm_run_files.specs.declared.stop.Stop.TheVariants.{Refused, Fault, Memory}
 use Rattle.hm_run_files.specs.Files.{File}
-use Rattle.hm_run_words.specs.declared.words.Files.{Files}
+use Rattle.hm_run_words.specs.Slots.{files_of}
 
--- the names of the files of a synchronisation
-pub record FileNames : Type 0 where
-  pub schema : Name
-  pub lens_a : Name
-  pub lens_b : Name
-  pub archive : Name
-  pub left : Name
-  pub right : Name
-
--- each with its slot, in the order in which they are loaded
-abbrev pub slots : FileNames → List File
-slots f =
-    record { slot = Schema; name = f.schema } ∷ record { slot = LensA; name = f.lens_a } ∷ record { slot = LensB; name = f.lens_b }
-    ∷ record { slot = Archive; name = f.archive }
-    ∷ record { slot = A; name = f.left } ∷ record { slot = B; name = f.right } ∷ []
-
--- a word that begins with a hyphen
-abbrev pub is_flag : Name → Bool
-is_flag [] = false
-is_flag (c ∷ cs) = c == 45
+-- ---- files of one name
 
 -- the archive and the replicas are written, the other files are only read
 abbrev pub is_written : Slot → Bool
@@ -48,36 +34,41 @@ unfoldable pub first_pair : List File → Option (File × File)
 first_pair [] = None
 first_pair (f ∷ fs) = option_or (option_map (λ g. (f, g)) (find (clash f) fs)) (first_pair fs)
 
--- the files, or their first pair of equal names
-abbrev pub apart : FileNames → Option (File × File) → Result FileNames Refusal
-apart files None = Ok files
-apart files (Some pair) = Err (SameName pair.0.slot pair.1.slot)
+-- a command that writes files, or would, has them under different names; one that only reads may be given one name twice
+abbrev pub names_differ : Command → Bool
+names_differ Sync = true
+names_differ Plan = true
+names_differ Check = false
+names_differ View = false
+names_differ (Generate n) = false
 
--- `sync` and six names, of which none begins with a hyphen, and no two that may not are equal
-unfoldable pub meaning : List Name → Result FileNames Refusal
-meaning (command ∷ schema ∷ lens_a ∷ lens_b ∷ archive ∷ left ∷ right ∷ []) =
-    let files : FileNames =
-    record { schema = schema; lens_a = lens_a; lens_b = lens_b; archive = archive; left = left; right = right } in
-    if not (bytes_eq command (codes "sync")) || (is_flag schema || is_flag lens_a || is_flag lens_b)
-    || (is_flag archive || is_flag left || is_flag right)
-    then Err Usage
-    else apart files (first_pair (slots files))
-meaning _ = Err Usage
+abbrev pub same_pair : Bool → List File → Option (File × File)
+same_pair true files = first_pair files
+same_pair false files = None
 
-abbrev pub names : Files → FileNames
-names files = record {
-  schema = files.schema.now;
-  lens_a = files.lens_a.now;
-  lens_b = files.lens_b.now;
-  archive = files.archive.now;
-  left = files.left.now;
-  right = files.right.now;
-}
+-- ---- the meaning
 
--- the answer is what it should be, seen so
-abbrev pub Answers : {A B : Type 0} → (A → B) → Result A Refusal → Result B Refusal → Type 0
-Answers seen (Ok x) wanted = wanted ≡ Ok (seen x)
-Answers seen (Err refusal) wanted = wanted ≡ Err refusal
+-- the request, or its first pair of equal names
+abbrev pub apart : RequestValue → Option (File × File) → Result RequestValue Refusal
+apart asked None = Ok asked
+apart asked (Some pair) = Err (SameName pair.0.slot pair.1.slot)
+
+abbrev pub checked : Option RequestValue → Result RequestValue Refusal
+checked None = Err Usage
+checked (Some asked) = apart asked (same_pair (names_differ asked.command) (files_of asked))
+
+-- what the words ask for, with names that may stand beside one another
+unfoldable pub meaning : List Name → Result RequestValue Refusal
+meaning words = checked (request_of words)
+
+-- ---- answers
+
+-- the answer is what it should be, seen so, or the refusal; want of memory is free
+abbrev pub AnswersOrStops : {A B : Type 0} → (A → B) → Result B Refusal → Result A Stop → Type 0
+AnswersOrStops seen wanted (Ok x) = wanted ≡ Ok (seen x)
+AnswersOrStops seen wanted (Err (Refused refusal)) = wanted ≡ Err refusal
+AnswersOrStops seen wanted (Err (Fault kind at)) = ⊥
+AnswersOrStops seen wanted (Err Memory) = Unit {0}
 
 abbrev pub slot_pair : Option (File × File) → Option (Slot × Slot)
 slot_pair pair = option_map (λ (p : File × File). (p.0.slot, p.1.slot)) pair

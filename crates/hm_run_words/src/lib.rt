@@ -1,18 +1,22 @@
-//! What the words of a run mean, how a run ends, and what it says then.
+//! What the words of a run ask for, how a run ends, and what it says then.
 //!
-//! The words are told apart once, into the names of the files, which the rest of a run goes by (`words`). A run ends
+//! The words are told apart once, into a request (`meaning`): a command and the names of its files, each in a slot
+//! (`slots`), by which the rest of a run goes. A file that is written has the name of no other (`pairs`). A run ends
 //! with what its work came to, an output or what stopped it, and with how that was put out (`ending`); the line and the
 //! status of an ending are functions of these two (`lines`, `specs/Lines`). It opens no files and knows no trees.
 //!
-//! Proved: `files_of` gives the six names that the words mean, or that they have no meaning, or the first two that are
-//! equal and may not be: a file that is written has its name alone. `line_of` gives the line of each stop, and
-//! `status_of` the status of each ending.
+//! Proved: `meaning_of` gives the request that the words mean, or that they have no meaning, or the first two of its
+//! files that have one name and may not. `named` gives the files of a request in the order of their slots, `line_of`
+//! the line of each stop, and `status_of` the status of each ending.
 #![tactic(auto)]
 
 mod ending;
 mod lines;
-mod words;
+mod meaning;
+mod pairs;
+mod slots;
 
 pub use ending::{Ending, Output};
 pub use lines::{line_of, status_of};
-pub use words::{Files, files_of};
+pub use meaning::meaning_of;
+pub use slots::named;

@@ -195,7 +195,7 @@ fn put_refusal(alloc: Global, line: &mut Vec<u8>, refusal: &Refusal) -> Result<(
 {
     match refusal {
         Refusal::Usage => Ok(line.extend_from_slice(
-            b"usage: harmony sync SCHEMA LENS_A LENS_B ARCHIVE A B",
+            b"usage: harmony [--quiet] sync|plan SCHEMA LENS_A LENS_B ARCHIVE A B, check LENS, view LENS FILE, gen N",
         )?),
         Refusal::SameName(one, two) => {
             put_slot(line, b"harmony: SameName ", *one)?;

@@ -2,9 +2,9 @@
 //! run may write.
 //!
 //! Each file of the folder that a word names is taken into a store, and no file is written. What the run puts out is
-//! printed, then a line with its status, and behind six names a line for each of the last three: `NAME is absent`,
-//! `NAME stays` where it has the bytes from before, or `NAME becomes`, with the bytes that it has now in the lines
-//! below. `tests/run-cases` runs it.
+//! printed, then a line with its status, and behind `sync` or `plan` and six names a line for each of the last three:
+//! `NAME is absent`, `NAME stays` where it has the bytes from before, or `NAME becomes`, with the bytes that it has now
+//! in the lines below. `tests/run-cases` runs it.
 //!
 //! Proved: that what it calls is called as the contracts ask. Nothing is said of what it prints.
 #![tactic(auto)]
@@ -32,12 +32,17 @@ fn words_of(alloc: Global, rt: &HostRuntime) -> Result<Vec<Name>, Memory> {
     Ok(words)
 }
 
-// The names of the files that a run of these words may write.
+// Whether a word is a command that writes files, or would.
+fn writes(word: &Name) -> bool {
+    matches!(word.text(), "sync" | "plan")
+}
+
+// The names of the files that a run of these words may write, or would: the last three behind such a command and its other
+// files. Flags stand in front of it.
 fn written(words: &[Name]) -> &[Name] {
-    if words.len() == 7 && words[0].text() == "sync" {
-        &words[4..]
-    } else {
-        &[]
+    match words.iter().position(writes) {
+        Some(place) if words.len() - place == 7 => &words[place + 4..],
+        _ => &[],
     }
 }
 

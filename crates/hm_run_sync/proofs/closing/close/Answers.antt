@@ -1,7 +1,7 @@
 use Rattle.std.proofs.Common.{refl, rules}
 use Rattle.hm_run_files.proofs.Steps.{then_go}
 use Rattle.hm_run_sync.specs.Verdict.{Closes, new_texts}
-use Rattle.hm_run_sync.proofs.Seeing.{stopped_seen}
+use Rattle.hm_run_sides.proofs.Laws.{stopped_seen}
 use Rattle.hm_run_sync.proofs.Making.{closed}
 use Rattle.hm_run_sync.proofs.closing.close.Goals as goal
 
@@ -24,7 +24,7 @@ returns-in_err-fits-clause-closes g c = λ replicas bases.
 
 pub returns-clause-closes : goal.returns-clause-closes
 returns-clause-closes g c = λ replicas bases. (
-  closed _ _ _ _ (record { archive = c.in_ok-archive.archive; left = c.in_ok-left.left; right = c.in_ok-right.right; output = c.in_ok-output_of.field-0 })
+  closed _ _ _ _ (record { archive = c.in_ok-archive.archive.items; left = c.in_ok-left.left.items; right = c.in_ok-right.right.items })
       (c.in_ok-left.ensures replicas.left bases.left).0 (c.in_ok-right.ensures replicas.right bases.right).0 c.in_ok-fits.ensures.0 c.in_ok-archive.ensures,
   refl,
 )

@@ -3,7 +3,7 @@ use Rattle.hm_run_files.proofs.Steps.{then_go}
 use Rattle.hm_run_files.specs.Steps.{goes_on}
 use Rattle.hm_run_sync.specs.Verdict.{ClosesAs, one_sided_texts}
 use Rattle.hm_run_sync.proofs.Making.{view_text}
-use Rattle.hm_run_sync.proofs.Seeing.{stopped_seen}
+use Rattle.hm_run_sides.proofs.Laws.{stopped_seen}
 use Rattle.hm_run_sync.proofs.closing.close_as.Goals as goal
 
 pub returns-in_err-made-clause-closes : goal.returns-in_err-made-clause-closes

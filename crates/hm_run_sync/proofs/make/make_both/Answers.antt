@@ -34,4 +34,4 @@ returns g c =
     (c.close.ensures.closes (replicas_of c.args.replicas) (record {
       left = record { base = c.in_ok-outcome.ensures.left; on_side = c.requires.left };
       right = record { base = c.in_ok-outcome.ensures.right; on_side = c.requires.right };
-    })) c.close.ensures.tells
+    })) c.close.ensures.sums

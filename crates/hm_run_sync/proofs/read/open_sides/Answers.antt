@@ -1,7 +1,7 @@
 use Rattle.std.proofs.Common.{refl, rules}
 use Rattle.hm_run_files.specs.Steps.{goes_on}
 use Rattle.hm_run_files.proofs.Steps.{then_go}
-use Rattle.hm_run_sync.proofs.Seeing.{stopped_seen}
+use Rattle.hm_run_sides.proofs.Laws.{stopped_seen}
 use Rattle.hm_run_sync.specs.Reads.{OpensSides, sides_of}
 use Rattle.hm_run_sync.proofs.read.open_sides.Goals as goal
 

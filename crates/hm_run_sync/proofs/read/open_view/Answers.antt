@@ -2,7 +2,7 @@ use Rattle.std.proofs.Common.{refl, rules}
 use Rattle.hm_run_files.specs.Steps.{goes_on}
 use Rattle.hm_run_files.proofs.Steps.{then_go}
 use Rattle.hm_run_sides.specs.Sides.{side_value}
-use Rattle.hm_run_sync.proofs.Seeing.{stopped_seen}
+use Rattle.hm_run_sides.proofs.Laws.{stopped_seen}
 use Rattle.hm_run_sync.specs.Reads.{OpensView}
 use Rattle.hm_run_sync.proofs.read.open_view.Goals as goal
 

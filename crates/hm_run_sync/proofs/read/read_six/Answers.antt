@@ -1,7 +1,7 @@
 use Rattle.std.proofs.Common.{rules}
 use Rattle.hm_run_files.proofs.Steps.{then_go}
 use Rattle.hm_run_sync.specs.Reads.{ReadsSix, before_of}
-use Rattle.hm_run_sync.proofs.Seeing.{stopped_seen}
+use Rattle.hm_run_sides.proofs.Laws.{stopped_seen}
 use Rattle.hm_run_sync.proofs.Opened.{served}
 use Rattle.hm_run_sync.proofs.read.read_six.Goals as goal
 

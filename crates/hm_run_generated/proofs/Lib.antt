@@ -1,0 +1,3 @@
+mod Calm
+mod Numbers
+pub mod Once

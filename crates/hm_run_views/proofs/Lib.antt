@@ -1,0 +1,2 @@
+mod Viewed
+pub mod Once
