@@ -5,5 +5,6 @@ pub mod BadLines
 pub mod LensFiles
 pub mod Stages
 pub mod Judging
+pub mod Judged
 pub mod Building
 pub mod Reading
