@@ -1,5 +1,5 @@
 //! How conflicts are said: each in one line, and their number in the last.
-ghost use Rattle.std.specs.Prelude.{◌≡◌, ◌++◌, ◌∷◌, IfOk, OnOk, codes};
+ghost use Rattle.std.specs.Prelude.{◌≡◌, ◌++◌, ◌∷◌, IfOk, OnOk, codes, flat_map};
 ghost use Rattle.std.specs.Fmt.{decimal};
 ghost use Rattle.hm_tree_text.specs.Text.{text as text_of, whole};
 ghost use Rattle.hm_report.specs.Text.{over_empty, set_text, why_text, conflict_line, number_line, line_feed, report_text};
@@ -14,11 +14,19 @@ pub fn write_report(alloc: Global, conflicts: &[Conflict]) -> Result<Vec<u8>, Me
     ensures { IfOk result (λ report. report.items ≡ report_text conflicts.now) }
 {
     let mut report = Vec::new(alloc);
-    for conflict in conflicts {
-        put_conflict(&mut report, conflict)?;
-    }
-    put_last(alloc, &mut report, conflicts.len())?;
+    put_conflicts(&mut report, conflicts)?;
+    put_last_line(alloc, &mut report, conflicts.len())?;
     Ok(report)
+}
+
+/// Puts a line for each of the conflicts, in their order, behind a report.
+pub fn put_conflicts(report: &mut Vec<u8>, conflicts: &[Conflict]) -> Result<(), Memory>
+    ensures { OnOk result (report.new.items ≡ report.old.items ++ flat_map conflict_line conflicts.now) }
+{
+    for conflict in conflicts {
+        put_conflict(report, conflict)?;
+    }
+    Ok(())
 }
 
 /// The last line of a report alone, by the number of its conflicts.
@@ -26,7 +34,7 @@ pub fn write_last_line(alloc: Global, number: usize) -> Result<Vec<u8>, Memory>
     ensures { IfOk result (λ line. line.items ≡ number_line number) }
 {
     let mut line = Vec::new(alloc);
-    put_last(alloc, &mut line, number)?;
+    put_last_line(alloc, &mut line, number)?;
     Ok(line)
 }
 
@@ -85,8 +93,8 @@ fn put_names(report: &mut Vec<u8>, first: &Name, others: &[Name]) -> Result<(), 
     Ok(())
 }
 
-// Puts the last line, with the number of conflicts, behind a report.
-fn put_last(alloc: Global, report: &mut Vec<u8>, number: usize) -> Result<(), Memory>
+/// Puts the last line, with the number of conflicts, behind a report.
+pub fn put_last_line(alloc: Global, report: &mut Vec<u8>, number: usize) -> Result<(), Memory>
     ensures { OnOk result (report.new.items ≡ report.old.items ++ number_line number) }
 {
     match number {
