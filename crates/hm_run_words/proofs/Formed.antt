@@ -1,19 +1,21 @@
 -- A request that words mean has as many files as its command has slots.
-use Rattle.std.proofs.Common.{◌≡◌, ◌==◌, ℕ, Bool, true, false, List, [], ◌∷◌, length, Option, Some, None, Ok, if◌then◌else◌, refl, subst, arith}
+use Rattle.std.proofs.Common.{◌≡◌, ◌==◌, ℕ, Bool, true, false, List, [], ◌∷◌, length, Option, Some, None, Result, Ok, Err, if◌then◌else◌, refl, subst, arith}
 use Rattle.std.specs.Option.{option_map, option_and_then}
 use Rattle.std.specs.Str.{bytes_eq}
-use Rattle.std.specs.Prelude.{codes}
+use Rattle.std.specs.Prelude.{codes, IfOk}
 use Rattle.std.proofs.lemmas.Bool.Decides.{nat_tests}
 use Rattle.hm_tree.specs.Names.{Name}
+use Rattle.hm_run_files.specs.declared.stop.Stop.{Stop}
 use Rattle.hm_run_files.specs.Files.{File}
 use Rattle.hm_run_files.proofs.Steps.{ok_is}
 use Rattle.hm_command_line.specs.declared.request.Command.{Command}
 use Rattle.hm_command_line.specs.declared.request.Command.TheVariants.{Sync, Plan, Check, View, Generate}
+use Rattle.hm_command_line.specs.declared.request.Request.{Request}
 use Rattle.hm_command_line.specs.Words.{LineValue, line_of}
-use Rattle.hm_command_line.specs.Requests.{RequestValue, command_of, files_of, with_files, with_number, number_of, with_command, asked_in, request_with, request_in, request_of}
+use Rattle.hm_command_line.specs.Requests.{RequestValue, command_of, files_of, with_files, with_number, number_of, with_command, asked_in, request_with, request_in, request_of, request_value}
 use Rattle.hm_run_words.specs.Slots.{slots_of}
 use Rattle.hm_run_words.specs.Slots as slots
-use Rattle.hm_run_words.specs.Words.{apart, checked, meaning, same_pair, names_differ}
+use Rattle.hm_run_words.specs.Words.{apart, checked, meaning, same_pair, names_differ, AnswersOrStops}
 
 abbrev IsFormedOf : Command → List Name → Type 0
 IsFormedOf k files = length (files_of k files) ≡ length (slots_of k)
@@ -69,7 +71,7 @@ request_formed words r e = go (line_of words) e
     go None e = absurd (let no : ⊥ = cc in no)
     go (Some line) e = asked_formed line.quiet line.words r e
 
-pub meant_formed : (words : List Name) (r : RequestValue) → meaning words ≡ Ok r → length r.files ≡ length (slots_of r.command)
+meant_formed : (words : List Name) (r : RequestValue) → meaning words ≡ Ok r → length r.files ≡ length (slots_of r.command)
 unfolding meaning
 meant_formed words r e = go (request_of words) refl e
   where
@@ -80,3 +82,8 @@ meant_formed words r e = go (request_of words) refl e
     go : (o : Option RequestValue) → request_of words ≡ o → checked o ≡ Ok r → IsFormed r
     go None t e = absurd (let no : ⊥ = cc in no)
     go (Some s) t e = subst IsFormed (apart_same s (same_pair (names_differ s.command) (slots.files_of s)) e) (request_formed words s t)
+
+pub all_formed : (words : List Name) (answer : Result Request Stop) → AnswersOrStops request_value (meaning words) answer
+    → IfOk answer (λ r. length r.files.items ≡ length (slots_of r.command))
+all_formed words (Ok r) means = meant_formed words (request_value r) means
+all_formed words (Err stop) means = tt

@@ -6,7 +6,7 @@
 //! status of an ending are functions of these two (`lines`, `specs/Lines`). It opens no files and knows no trees.
 //!
 //! Proved: `meaning_of` gives the request that the words mean, or that they have no meaning, or the first two of its
-//! files that have one name and may not. `named` gives the files of a request in the order of their slots, `line_of`
+//! files that have one name and may not, which `with_names_apart` tells of any request. `named` gives the files of a request in the order of their slots, `line_of`
 //! the line of each stop, and `status_of` the status of each ending.
 #![tactic(auto)]
 
@@ -18,5 +18,5 @@ mod slots;
 
 pub use ending::{Ending, Output};
 pub use lines::{line_of, status_of};
-pub use meaning::meaning_of;
+pub use meaning::{meaning_of, with_names_apart};
 pub use slots::named;

@@ -1,8 +1,8 @@
 //! What the words of a run mean.
-ghost use Rattle.std.specs.Prelude.{◌≡◌, IfOk, length};
+ghost use Rattle.std.specs.Prelude.{◌≡◌, Some, IfOk, length};
 ghost use Rattle.hm_command_line.specs.Requests.{request_value};
 ghost use Rattle.hm_run_words.specs.Slots.{slots_of, files_of};
-ghost use Rattle.hm_run_words.specs.Words.{names_differ, same_pair, slot_pair, meaning, AnswersOrStops};
+ghost use Rattle.hm_run_words.specs.Words.{names_differ, same_pair, slot_pair, checked, meaning, AnswersOrStops};
 
 use crate::pairs::first_pair;
 use crate::slots::named;
@@ -29,17 +29,25 @@ fn first_clash(alloc: Global, request: &Request) -> Result<Option<(Slot, Slot)>,
     Ok(first_pair(&files))
 }
 
-/// What the words mean: a request. The usage line is told where they have no meaning, and the first two slots of one name where
-/// that may not be: a file that is written, or would be, the archive or a replica, has the name of no other.
+/// The request, if its files may have their names; else the first two slots of one name where that may not be: a file that is
+/// written, or would be, the archive or a replica, has the name of no other.
+pub fn with_names_apart(alloc: Global, request: Request) -> Result<Request, Stop>
+    ensures { AnswersOrStops request_value (checked (Some (request_value request))) result }
+{
+    match first_clash(alloc, &request)? {
+        Some((one, two)) => Err(Stop::Refused(Refusal::SameName(one, two))),
+        None => Ok(request),
+    }
+}
+
+/// What the words mean: a request whose files may have their names (`with_names_apart`). The usage line is told where they have
+/// no meaning.
 pub fn meaning_of(alloc: Global, words: &[Name]) -> Result<Request, Stop>
     ensures means { AnswersOrStops request_value (meaning words.now) result }
     ensures files { IfOk result (λ request. length request.files.items ≡ length (slots_of request.command)) }
 {
-    let Some(request) = read_request(alloc, words)? else {
-        return Err(Stop::Refused(Refusal::Usage));
-    };
-    match first_clash(alloc, &request)? {
-        Some((one, two)) => Err(Stop::Refused(Refusal::SameName(one, two))),
-        None => Ok(request),
+    match read_request(alloc, words)? {
+        Some(request) => with_names_apart(alloc, request),
+        None => Err(Stop::Refused(Refusal::Usage)),
     }
 }
