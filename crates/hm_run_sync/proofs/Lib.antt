@@ -1,6 +1,6 @@
 mod SixFiles
 pub mod Opened
 pub mod ArchiveDepths
-mod Making
+pub mod Making
 pub mod Once
-mod Planned
+pub mod Planned

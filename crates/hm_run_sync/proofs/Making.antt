@@ -70,7 +70,7 @@ pub made_of : (h : Handed) (before : Before) (outcome : Outcome) → IsReconcile
 made_of h before outcome now = made h before (outcome_of outcome) outcome.conflicts.items now.outcome now.conflicts
 
 -- where all three become as one view there is no mark, and so no conflict
-no_conflicts : (before : Before) (t : Tree) → HasConflicts before (all_as t) []
+pub no_conflicts : (before : Before) (t : Tree) → HasConflicts before (all_as t) []
 unfolding IsStrictlySortedBy
 no_conflicts before t =
     let unmarked : (p : Path) → state (Some (recorded t)) p ≢ Marked = λ p m. state_unmarked (Some t) p (sym (state-recorded t p) ∙ m) in record {

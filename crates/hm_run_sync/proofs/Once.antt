@@ -51,7 +51,7 @@ module _ (h : Handed) where
 
 -- ---- the plan
 
-becomes_once : (before : Before) (one other : Synced) → Becomes before one → Becomes before other → one ≡ other
+pub becomes_once : (before : Before) (one other : Synced) → Becomes before one → Becomes before other → one ≡ other
 becomes_once before one other h k =
     let e = outcome_once before.schema before.schema.root (old_trio before) (new_trio one) (new_trio other) h k in
     let left : one.left ≡ other.left = let l = ap (λ (t : Trio). t.left) e in cc in

@@ -192,7 +192,21 @@ abbrev pub MakesTexts : Handed → Before → Result NewTexts Refusal → Type 0
 MakesTexts h before (Ok made) = IsMade h before made
 MakesTexts h before (Err refusal) = IsUnwritable h before refusal
 
--- the new files are those of a plan, with its summary
+-- the new files are those of a plan of what was read, with its summary
+pub record IsPlannedOf (h : Handed) (files : NewNames) (before : Before) (news : List New) (summary : Summary) : Type 0 where
+  pub plan : Plan
+  pub planned : Plans h files before (Ok plan)
+  pub of : plan.files ≡ files
+  pub of_what : plan.before ≡ before
+  pub are : news ≡ news_of files plan.texts
+  pub sums : IsSummary plan.before plan.after summary
+
+-- what was read comes to a plan, or is refused
+abbrev pub MakesOf : Handed → NewNames → Before → Result (List NewFile × Summary) Refusal → Type 0
+MakesOf h files before (Ok made) = IsPlannedOf h files before (map new_of made.0) made.1
+MakesOf h files before (Err refusal) = Plans h files before (Err refusal)
+
+-- the new files are those of a plan of some files, with its summary
 pub record IsPlanned (h : Handed) (files : NewNames) (all : List (List ℕ)) (news : List New) (summary : Summary) : Type 0 where
   pub plan : Plan
   pub planned : PlansFrom h files all (Ok plan)

@@ -7,7 +7,8 @@
 //! command.
 //!
 //! Proved: `plan` makes the new files of the bytes of six files, with the conflicts that remain and the numbers of edges
-//! of the new views, or tells the first stop, as the relation says. What the six files are read as is `specs/Reads`,
+//! of the new views, or tells the first stop, as the relation says; it reads them (`read_all`), and makes the new files of
+//! what was read (`plan_of`). What the six files are read as is `specs/Reads`,
 //! each lens file as a side and each replica through its side; what is to be done with them, step by step, is
 //! `specs/Verdict`. There is one plan at the most (`proofs/Once`).
 #![tactic(auto)]
@@ -17,4 +18,5 @@ mod make;
 mod read;
 
 pub use closing::Summary;
-pub use make::{WrittenFiles, plan};
+pub use make::{WrittenFiles, plan, plan_of};
+pub use read::{Inputs, ReplicaPair, SidePair, read_all};

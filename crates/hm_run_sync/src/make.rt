@@ -10,7 +10,7 @@ ghost use Rattle.hm_run_files.specs.Steps.{Computes};
 ghost use Rattle.hm_run_files.specs.Files.{all_bytes, new_of};
 ghost use Rattle.hm_run_handed.specs.Handed.{handed_in};
 ghost use Rattle.hm_run_sync.specs.Reads.{before_of, before_with, AreOpened};
-ghost use Rattle.hm_run_sync.specs.Verdict.{names_in, news_of, new_texts, MakesTexts, Makes};
+ghost use Rattle.hm_run_sync.specs.Verdict.{names_in, news_of, new_texts, MakesTexts, MakesOf, Makes};
 
 use crate::closing::{NewTexts, Summary, close, close_as};
 use crate::read::{BasePair, Inputs, ReplicaPair, SidePair, read_all};
@@ -146,7 +146,22 @@ fn in_order<'a>(files: WrittenFiles<'a>, new: NewTexts) -> ([NewFile<'a>; 3], Su
     (news, new.summary)
 }
 
-/// The new files of what was loaded, in the order in which they are written, and what may be told of them; or the first stop.
+/// The new files of what was read, in the order in which they are written, and what may be told of them; or the first stop.
+pub fn plan_of<'a>(
+    alloc: Global,
+    files: WrittenFiles<'a>,
+    given: HandedIn<'_>,
+    inputs: Inputs,
+) -> Result<([NewFile<'a>; 3], Summary), Stop>
+    requires { AreOpened (handed_in given means meaning) (before_of inputs) }
+    ensures { Computes (MakesOf (handed_in given.entry means meaning) (names_in files.entry) (before_of inputs)) result }
+{
+    let (news, summary) = in_order(files, make(alloc, given, inputs)?);
+    measure_all(&news)?;
+    Ok((news, summary))
+}
+
+/// The same of what was loaded.
 pub fn plan<'a>(
     alloc: Global,
     files: WrittenFiles<'a>,
@@ -157,7 +172,5 @@ pub fn plan<'a>(
     ensures { Computes (Makes (handed_in given.entry means meaning) (names_in files.entry) (all_bytes loads)) result }
 {
     let inputs = read_all(alloc, given, loads)?;
-    let (news, summary) = in_order(files, make(alloc, given, inputs)?);
-    measure_all(&news)?;
-    Ok((news, summary))
+    plan_of(alloc, files, given, inputs)
 }

@@ -1,15 +1,15 @@
-use Rattle.std.proofs.Common.{map, refl, rules}
+use Rattle.std.proofs.Common.{rules}
 use Rattle.hm_run_files.specs.Files.{all_bytes}
-use Rattle.hm_run_files.proofs.Steps.{computes_stop}
+use Rattle.hm_run_files.proofs.Steps.{computes_stop, computes_as}
 use Rattle.hm_run_handed.specs.Handed.{handed_in}
 use Rattle.hm_run_sync.specs.Reads.{before_of}
-use Rattle.hm_run_sync.specs.Verdict.{names_in, Makes, new_texts}
+use Rattle.hm_run_sync.specs.Verdict.{names_in, MakesOf, Makes}
 use Rattle.hm_run_sync.proofs.Opened.{all_opened}
-use Rattle.hm_run_sync.proofs.Planned.{reads_first, unwritable, measures_first, planned}
+use Rattle.hm_run_sync.proofs.Planned.{reads_first, made_from}
 use Rattle.hm_run_sync.proofs.make.plan.Goals as goal
 
-pub make-requires : goal.make-requires
-make-requires g c = all_opened _ _ _ c.in_ok-inputs.ensures.0
+pub plan_of-requires : goal.plan_of-requires
+plan_of-requires g c = all_opened _ _ _ c.in_ok-inputs.ensures.0
 
 pub returns-in_err-inputs : goal.returns-in_err-inputs
 returns-in_err-inputs g c =
@@ -17,26 +17,8 @@ returns-in_err-inputs g c =
     computes_stop (Makes h (names_in c.args.files) (all_bytes c.args.loads)) _ _ _ (search rules)
     c.in_err-inputs.ensures (reads_first h (names_in c.args.files) (all_bytes c.args.loads))
 
-pub returns-in_err-make : goal.returns-in_err-make
-returns-in_err-make g c =
-    let h = (handed_in c.args.given (λ o. (goal.Format-dyn g o).means o.1) (λ o. (goal.TextLens-dyn g o).meaning o.1)) in
-    computes_stop (Makes h (names_in c.args.files) (all_bytes c.args.loads)) _ _ _ (search rules)
-    c.in_err-make.ensures (unwritable h (names_in c.args.files) (all_bytes c.args.loads) (before_of c.in_ok-inputs.inputs) c.in_ok-inputs.ensures.0)
-
-pub returns-in_err-measure_all : goal.returns-in_err-measure_all
-returns-in_err-measure_all g c =
-    let h = (handed_in c.args.given (λ o. (goal.Format-dyn g o).means o.1) (λ o. (goal.TextLens-dyn g o).meaning o.1)) in
-    let made = c.in_ok-make.ensures.0 in
-    computes_stop (Makes h (names_in c.args.files) (all_bytes c.args.loads)) _ _ _ (search rules)
-    c.in_err-measure_all.ensures (measures_first h (names_in c.args.files) (all_bytes c.args.loads) (before_of c.in_ok-inputs.inputs)
-    c.in_ok-inputs.ensures.0 made.after made.becomes (new_texts c.in_ok-make.field-0) made.closes _ c.in_order-news.ensures.files)
-
 pub returns : goal.returns
 returns g c =
     let h = (handed_in c.args.given (λ o. (goal.Format-dyn g o).means o.1) (λ o. (goal.TextLens-dyn g o).meaning o.1)) in
-    let made = c.in_ok-make.ensures.0 in (
-      planned h (names_in c.args.files) (all_bytes c.args.loads) (before_of c.in_ok-inputs.inputs) c.in_ok-inputs.ensures.0 made.after made.becomes
-          (new_texts c.in_ok-make.field-0) made.closes _ c.in_order-news.ensures.files
-          _ c.in_ok-measure_all.ensures.0 (rw c.in_order-news.ensures.summary made.sums),
-      refl,
-    )
+    computes_as (MakesOf h (names_in c.args.files) (before_of c.in_ok-inputs.inputs)) (Makes h (names_in c.args.files) (all_bytes c.args.loads))
+    (made_from h (names_in c.args.files) (all_bytes c.args.loads) (before_of c.in_ok-inputs.inputs) c.in_ok-inputs.ensures.0) c.plan_of.result c.plan_of.ensures
