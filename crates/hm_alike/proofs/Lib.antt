@@ -1,0 +1,9 @@
+mod NonePasses
+mod Squeezed
+mod Keys
+mod Rising
+mod Grouped
+mod Keyed
+mod Lent
+mod Classed
+mod Cases
