@@ -1,0 +1,9 @@
+mod Uniting
+mod OnceEach
+mod Lent
+mod Prefixes
+mod Staying
+mod Kept
+mod Classed
+mod Adding
+mod Gathered
