@@ -4,53 +4,27 @@
 //! This is `main` alone, which knows which store and which sink are real, and which formats and text lenses there are.
 //!
 //! Proved: that the formats and the text lenses with which it runs mean what they are to mean, in their order
-//! (`crates/harmony/specs/Handed.antt`), and that what it calls is called as the contracts ask. That `main` hands in the
+//! (`crates/hm_program/specs/Handed.antt`), and that what it calls is called as the contracts ask. That `main` hands in the
 //! words and the real files is shown by its stored run and by `tests/real-files`.
 #![tactic(auto)]
 
-ghost use Rattle.std.specs.Prelude.{◌≡◌, IfOk, Ok, map};
-ghost use Rattle.harmony.specs.Handed.{AreFormats, text_lenses};
+ghost use Rattle.std.specs.Prelude.{◌≡◌, map};
+ghost use Rattle.hm_program.specs.Handed.{AreFormats, text_lenses};
 
 use hm_csv::Csv;
 use hm_format::{Format, Plain};
 use hm_ical::ICalendar;
 use hm_outside::{FileStore, Sink, StdSink, Store};
+use hm_program::{boxed, words_of};
 use hm_text_kit::{date, email, trim, yes_no};
 use hm_text_lens::TextLens;
 use hm_tree::{Memory, Name};
 use hm_vcard::VCard;
 use std::alloc::Global;
-use std::env;
-use std::io::ErrorKind;
 use std::process::ExitCode;
 
 // The exit status for want of memory.
 const OUT_OF_MEMORY: u8 = 5;
-
-// The words behind the program's name. Where one of them isn't text there are none, and none have a meaning.
-fn words_of(alloc: Global, rt: &HostRuntime) -> Result<Vec<Name>, Memory> {
-    let mut words = Vec::new(alloc);
-    match env::args(rt) {
-        Ok(args) => {
-            for word in args.skip(1) {
-                words.push(Name::from_text(alloc, word.as_str())?)?;
-            }
-        }
-        Err(error) => {
-            if error.kind() == ErrorKind::OutOfMemory {
-                return Err(Memory);
-            }
-        }
-    }
-    Ok(words)
-}
-
-// A text lens in a box.
-fn boxed<T: Drop>(alloc: Global, lens: Result<T, Memory>) -> Result<Box<T>, Memory>
-    ensures { IfOk result (λ b. lens ≡ Ok b.value) }
-{
-    Ok(Box::new(alloc, lens?)?)
-}
 
 // The run of these words, with the formats and the text lenses of the program.
 fn run_with<S: Store, K: Sink>(
