@@ -1,5 +1,5 @@
 mod Once
 mod Written
-mod Doing
+pub mod Doing
 mod Worked
 mod Relied
