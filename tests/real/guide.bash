@@ -40,21 +40,34 @@ quoted_files() {
     finish
 }
 
-# step NAME: a step of the guide, with its lens file
+# views STEP LENS STATUS TEXT: what `view` prints of the table of a step, by this lens file
+views() {
+    cp "$STEPS/$1/before/contacts.csv" "$2" .
+    cp ./* ../want
+    run view table.lens contacts.csv >../out
+    ends "$3" "$4"
+}
+
+# step NAME: a step of the guide, with its lens file, by which `view` prints what the guide quotes
 step() {
     begin "the guide: step $1"
     grep -qF "\`examples/lenses/$1/before/table.lens\`:" "$GUIDE" || fault 'its lens file is missing'
+    views "$1" "$STEPS/$1/before/table.lens" 0 "$(<"$STEPS/$1/after/view")"
     finish
 }
 
 # wrong_turn NAME STEP: the row of the guide has a part of a line that the lens file of this folder has and that of the
 # step hasn't, and what the program prints. Where it has no lens file of its own, its schema isn't that of the step.
+# `view` prints it too where it needs no schema.
 wrong_turn() {
-    local row written prints before=$STEPS/$1/before of_step=$STEPS/$2/before
+    local row written prints output before=$STEPS/$1/before of_step=$STEPS/$2/before
     begin "the guide: wrong turn $1"
     row=$(grep -F "| \`$1\` |" "$GUIDE")
     IFS='|' read -r _ _ written prints _ <<<"$row"
-    [[ $prints == " \`$(<"$STEPS/$1/output")\` " ]] || fault "prints $prints"
+    output=$(<"$STEPS/$1/output")
+    [[ $prints == " \`$output\` " ]] || fault "prints $prints"
+    [[ $output == agreed || $output == *WrongView* ]] ||
+        views "$2" "$before/table.lens" "$(<"$STEPS/$1/status")" "$output"
     if [[ ! -e $before/table.lens ]]; then
         ! cmp -s "$before/schema" "$of_step/schema" || fault 'nothing is wrong'
     else
