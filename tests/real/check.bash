@@ -205,8 +205,30 @@ run() {
     status=$?
 }
 
+# as_planned SCHEMA LENS_A LENS_B ARCHIVE A B: of the same files harmony-changes, where it is there, refuses what a plan
+# refuses, and tells the conflicts that a plan tells, with the same status.
+as_planned() {
+    local planned
+    [[ -n $changes ]] || return
+    run plan "$@" >../planned
+    planned=$status
+    program=$changes run "$@" >../told
+    [[ ! -s ../err ]] || fault "harmony-changes: standard error: $(head -c 200 ../err)"
+    [[ $status == "$planned" ]] || fault "harmony-changes: status $status, and a plan $planned"
+    if [[ $planned -le 1 ]]; then
+        sed -n '/^conflict /p; $p' ../told >../conflicts
+    else
+        cp ../told ../conflicts
+    fi
+    cmp -s ../planned ../conflicts ||
+        fault "harmony-changes: $(head -c 200 ../told), and a plan $(head -c 200 ../planned)"
+}
+
+# Runs that are slowed, traced or limited are of the synchronisation alone.
 sync() {
-    run sync "${path[schema]}" "${path[lensA]}" "${path[lensB]}" "${path[archive]}" "${path[A]}" "${path[B]}" >../out
+    local names=("${path[schema]}" "${path[lensA]}" "${path[lensB]}" "${path[archive]}" "${path[A]}" "${path[B]}")
+    [[ -n ${under[*]} && ${under[0]} != setpriv ]] || as_planned "${names[@]}"
+    run sync "${names[@]}" >../out
 }
 
 # Compares status, output, standard error and every file of the folder, so also that no other file is left in it, and

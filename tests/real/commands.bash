@@ -1,13 +1,19 @@
 # shellcheck shell=bash
-# The commands that write nothing: what they print, each fault that their files can have, and outputs that fail.
-# Whatever comes of a run, each file stays as it is.
+# The commands that write nothing, and harmony-changes where it is there: what they print, each fault that their files
+# can have, and outputs that fail. Whatever comes of a run, each file stays as it is.
 
 # The schema of what EVERY_LENS shows.
 readonly EVERY_VIEW=$'harmony schema 1\nroot N0\nnode N0\n  other any N0\n  shape + 0..'
 
 # The slots of each command, and what it prints over the files of unchanged.
-readonly -A SLOTS_OF=([plan]="${SLOTS[*]}" [check]=lensA [view]='lensA A')
-readonly -A PRINTED=([plan]=agreed [check]=$EVERY_VIEW [view]=$NEW)
+readonly CHANGED=$'A + /"other"\nB + /"new"
+A: 1 added, 0 deleted; 1 entries: 1 added, 0 deleted, 0 changed
+B: 1 added, 0 deleted; 1 entries: 1 added, 0 deleted, 0 changed\nagreed'
+readonly -A SLOTS_OF=([plan]="${SLOTS[*]}" [check]=lensA [view]='lensA A' [changes]="${SLOTS[*]}")
+readonly -A PRINTED=([plan]=agreed [check]=$EVERY_VIEW [view]=$NEW [changes]=$CHANGED)
+plans=(plan ${changes:+changes})
+commands=("${plans[@]}" check view)
+readonly plans commands
 
 # unchanged [ARCHIVE A B]: files that stay, though a synchronisation would change them
 unchanged() {
@@ -17,19 +23,22 @@ unchanged() {
     files "$@" "$@"
 }
 
-# names_of COMMAND: the names of its files become `names`
-names_of() {
+# words_of COMMAND: its words with the names of its files become `words`, and its program `chosen`
+words_of() {
     local slot
-    names=()
+    chosen=$program words=("$1")
+    if [[ $1 == changes ]]; then
+        chosen=$changes words=()
+    fi
     for slot in ${SLOTS_OF[$1]}; do
-        names+=("${path[$slot]}")
+        words+=("${path[$slot]}")
     done
 }
 
 # carry_out COMMAND WORD..: a run of a command with the names of its files, and with these words in front
 carry_out() {
-    names_of "$1"
-    run "${@:2}" "$1" "${names[@]}" >../out
+    words_of "$1"
+    program=$chosen run "${@:2}" "${words[@]}" >../out
 }
 
 # leaves_alone COMMAND: each file keeps its bytes, its mode and its times, also one that a run which was broken off left
@@ -123,7 +132,7 @@ stopped_by() {
 # each_slot FAULT STATUS WORD: of each command each slot has this fault
 each_slot() {
     local command slot
-    for command in plan check view; do
+    for command in "${commands[@]}"; do
         for slot in ${SLOTS_OF[$command]}; do
             # An archive may be missing.
             if [[ $3 == Missing && $slot == archive ]]; then
@@ -136,9 +145,11 @@ each_slot() {
 
 # no_fault_of_a_plan FAULT: it would keep a synchronisation from writing
 no_fault_of_a_plan() {
-    local slot
-    for slot in A B archive; do
-        stopped_by "$1" plan $slot 0 agreed
+    local command slot
+    for command in "${plans[@]}"; do
+        for slot in A B archive; do
+            stopped_by "$1" "$command" $slot 0 "${PRINTED[$command]}"
+        done
     done
 }
 
@@ -171,8 +182,8 @@ unheard_of() {
     begin "$1, status $2: $3 ${*:5:1}"
     unchanged "${@:4:3}"
     : >../out
-    names_of "$3"
-    $1 "$3" "${names[@]}"
+    words_of "$3"
+    program=$chosen "$1" "${words[@]}"
     ends "$2" ''
     finish
 }
@@ -180,10 +191,14 @@ unheard_of() {
 # output_of_each_fails FUNCTION
 output_of_each_fails() {
     local command
-    for command in plan check view; do
-        unheard_of "$1" 6 $command "$OLD" "$NEW" "$OTHER"
+    for command in "${commands[@]}"; do
+        unheard_of "$1" 6 "$command" "$OLD" "$NEW" "$OTHER"
     done
-    unheard_of "$1" 6 plan "$OLD" "$KEPT" "$GONE"
+    for command in "${plans[@]}"; do
+        unheard_of "$1" 6 "$command" "$OLD" "$KEPT" "$GONE"
+        unheard_of "$1" 3 "$command" "$OLD" absent "$OTHER"
+        unheard_of "$1" 4 "$command" "$OLD" folder "$OTHER"
+    done
     unheard_of "$1" 6 view "$OLD" largest "$OTHER"
     unheard_of "$1" 3 view "$OLD" '!' "$OTHER"
     unheard_of "$1" 3 view "$OLD" absent "$OTHER"
@@ -196,10 +211,10 @@ output_of_each_fails() {
     finish
 }
 
-for command in plan check view; do
-    leaves_alone $command
+for command in "${commands[@]}"; do
+    leaves_alone "$command"
     if can_trace; then
-        only_reads $command
+        only_reads "$command"
     else
         skip "calls of $command" 'strace is not here, or may not be used'
     fi
@@ -263,8 +278,10 @@ no_fault_of_a_plan 'a folder where the new file is made'
 measured check lensA
 measured view lensA
 measured view A
-measured plan archive
-measured plan B
+for command in "${plans[@]}"; do
+    measured "$command" archive
+    measured "$command" B
+done
 one_file_read_twice view path
 one_file_read_twice view ln
 one_file_read_twice view 'ln -s'

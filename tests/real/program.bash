@@ -44,7 +44,7 @@ launcher_gives_stack() {
     close=$(repeated 198 ')%.0s')
     files "$OLD" deepest "$OLD" deepest deepest deepest
     with lensA "$(tree_lens "$EVERY_NODE"$'\nlens self R R = '"${open}map(call(self))$close" 'call(self)')"
-    program=$top/harmony sync
+    program=$top/harmony changes=${changes:+$top/harmony-changes} sync
     ends 0 agreed
     finish
 }
@@ -52,7 +52,10 @@ launcher_gives_stack() {
 # fresh_clone FOLDER: a copy of this clone as it is where nothing was built
 fresh_clone() {
     mkdir "$1"
-    (shopt -s nullglob && cd "$top" && cp -r --parents crates/*/{src,specs,proofs}/ harmony release crates.txt "$1")
+    (
+        shopt -s nullglob
+        cd "$top" && cp -r --parents crates/*/{src,specs,proofs}/ harmony{,-changes} release crates.txt "$1"
+    )
 }
 
 # Without a toolchain the launcher runs the released program where that is made of what stands there.

@@ -9,6 +9,7 @@ same_names() {
     for name in sync plan; do
         begin "equal names: $name ${*:3}"
         no_change
+        as_planned "${@:3}"
         run $name "${@:3}" >../out
         ends 3 "harmony: SameName $1 $2"
         finish
