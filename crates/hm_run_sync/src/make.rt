@@ -1,5 +1,5 @@
 //! Making the new files of what was loaded.
-ghost use Rattle.std.specs.Prelude.{◌≡◌, ◌≤◌, IfOk, length, map};
+ghost use Rattle.std.specs.Prelude.{◌≡◌, ◌≤◌, IfOk, IfSome, length, map};
 ghost use Rattle.hm_tree.specs.Nodes.{depth};
 ghost use Rattle.hm_schema.specs.Membership.{HasNoTwins};
 ghost use Rattle.hm_outcome.specs.Trios.{given, views, AreMembers};
@@ -10,7 +10,7 @@ ghost use Rattle.hm_run_files.specs.Steps.{Computes};
 ghost use Rattle.hm_run_files.specs.Files.{all_bytes, new_of};
 ghost use Rattle.hm_run_handed.specs.Handed.{handed_in};
 ghost use Rattle.hm_run_sync.specs.Reads.{before_of, before_with, AreOpened};
-ghost use Rattle.hm_run_sync.specs.Verdict.{names_in, news_of, new_texts, MakesTexts, MakesOf, Makes};
+ghost use Rattle.hm_run_sync.specs.Verdict.{old_trio, names_in, news_of, new_texts, MakesTexts, MakesOf, Makes};
 
 use crate::closing::{NewTexts, Summary, close, close_as};
 use crate::read::{BasePair, Inputs, ReplicaPair, SidePair, read_all};
@@ -146,17 +146,57 @@ fn in_order<'a>(files: WrittenFiles<'a>, new: NewTexts) -> ([NewFile<'a>; 3], Su
     (news, new.summary)
 }
 
+// The new texts of what was read, which was reconciled to an outcome before.
+fn make_by(
+    alloc: Global,
+    given: HandedIn<'_>,
+    inputs: Inputs,
+    outcome: Outcome,
+) -> Result<NewTexts, Stop>
+    requires opened { AreOpened (handed_in given means meaning) (before_of inputs) }
+    requires outcome { IsReconciled inputs.schema (old_trio (before_of inputs)) outcome }
+    ensures { Computes (MakesTexts (handed_in given.entry means meaning) (before_of inputs)) result }
+{
+    let ReplicaPair { left, right } = inputs.replicas;
+    let bound = deeper(&left.view, &right.view);
+    let bases = BasePair {
+        left: left.into_base(),
+        right: right.into_base(),
+    };
+    close(alloc, given, &inputs.sides, bases, outcome, bound)
+}
+
+// The new texts of what was read, whether it was reconciled before or wasn't.
+fn make_any(
+    alloc: Global,
+    given: HandedIn<'_>,
+    inputs: Inputs,
+    outcome: Option<Outcome>,
+) -> Result<NewTexts, Stop>
+    requires opened { AreOpened (handed_in given means meaning) (before_of inputs) }
+    requires outcome { IfSome outcome (λ o. IsReconciled inputs.schema (old_trio (before_of inputs)) o) }
+    ensures { Computes (MakesTexts (handed_in given.entry means meaning) (before_of inputs)) result }
+{
+    match outcome {
+        Some(outcome) => make_by(alloc, given, inputs, outcome),
+        None => make(alloc, given, inputs),
+    }
+}
+
 /// The new files of what was read, in the order in which they are written, and what may be told of them; or the first stop.
+/// Where it was reconciled before, it goes by that outcome.
 pub fn plan_of<'a>(
     alloc: Global,
     files: WrittenFiles<'a>,
     given: HandedIn<'_>,
     inputs: Inputs,
+    outcome: Option<Outcome>,
 ) -> Result<([NewFile<'a>; 3], Summary), Stop>
-    requires { AreOpened (handed_in given means meaning) (before_of inputs) }
+    requires opened { AreOpened (handed_in given means meaning) (before_of inputs) }
+    requires outcome { IfSome outcome (λ o. IsReconciled inputs.schema (old_trio (before_of inputs)) o) }
     ensures { Computes (MakesOf (handed_in given.entry means meaning) (names_in files.entry) (before_of inputs)) result }
 {
-    let (news, summary) = in_order(files, make(alloc, given, inputs)?);
+    let (news, summary) = in_order(files, make_any(alloc, given, inputs, outcome)?);
     measure_all(&news)?;
     Ok((news, summary))
 }
@@ -172,5 +212,5 @@ pub fn plan<'a>(
     ensures { Computes (Makes (handed_in given.entry means meaning) (names_in files.entry) (all_bytes loads)) result }
 {
     let inputs = read_all(alloc, given, loads)?;
-    plan_of(alloc, files, given, inputs)
+    plan_of(alloc, files, given, inputs, None)
 }

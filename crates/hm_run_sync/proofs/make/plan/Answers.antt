@@ -8,8 +8,8 @@ use Rattle.hm_run_sync.proofs.Opened.{all_opened}
 use Rattle.hm_run_sync.proofs.Planned.{reads_first, made_from}
 use Rattle.hm_run_sync.proofs.make.plan.Goals as goal
 
-pub plan_of-requires : goal.plan_of-requires
-plan_of-requires g c = all_opened _ _ _ c.in_ok-inputs.ensures.0
+pub plan_of-requires-clause-opened : goal.plan_of-requires-clause-opened
+plan_of-requires-clause-opened g c = all_opened _ _ _ c.in_ok-inputs.ensures.0
 
 pub returns-in_err-inputs : goal.returns-in_err-inputs
 returns-in_err-inputs g c =
