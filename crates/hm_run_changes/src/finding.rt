@@ -37,7 +37,7 @@ pub fn find_changes(
     };
     let inputs = read_all(alloc, given, loads)?;
     // An early end here would have to let go all that was read.
-    let output = tell(alloc, most, &inputs);
-    plan_of(alloc, written, given, inputs)?;
+    let (output, outcome) = tell(alloc, most, &inputs);
+    plan_of(alloc, written, given, inputs, outcome)?;
     Ok(output?)
 }

@@ -1,7 +1,8 @@
 //! Telling what would change.
-ghost use Rattle.std.specs.Prelude.{◌≡◌, IfOk};
+ghost use Rattle.std.specs.Prelude.{◌≡◌, [], IfOk, IfSome};
 ghost use Rattle.hm_schema.specs.Membership.{HasNoTwins};
 ghost use Rattle.hm_outcome.specs.Trios.{views, AreMembers};
+ghost use Rattle.hm_reconcile.specs.Reconciled.{IsReconciled};
 ghost use Rattle.hm_changes_report.specs.Text.{changes_of};
 ghost use Rattle.hm_run_effects.specs.Effects.{output_value};
 ghost use Rattle.hm_run_sync.specs.Reads.{before_of};
@@ -12,7 +13,7 @@ use hm_changes::{Change, Turn, changes_of, entries_of};
 use hm_changes_alike::{Views, alikes_of};
 use hm_changes_report::{Changes, write_changes};
 use hm_reconcile::reconcile;
-use hm_report::Conflict;
+use hm_report::{Conflict, Outcome};
 use hm_run_sync::Inputs;
 use hm_run_words::Output;
 use hm_tree::{Archive, Memory, State, Tree};
@@ -89,39 +90,33 @@ fn tell_views(
     output_of(alloc, most, changes)
 }
 
-/// What is told of what was read. In most runs only one side has changed since the last, or none has: then the new views are
-/// known without a reconciling.
-pub fn tell(alloc: Global, most: Option<usize>, inputs: &Inputs) -> Result<Output, Memory>
-    requires no_twins { HasNoTwins inputs.now.schema }
-    requires members { AreMembers inputs.now.schema inputs.now.schema.root (views (old_trio (before_of inputs.now))) }
-    ensures { IfOk result (λ output. IsTold most (before_of inputs.now) (output_value output)) }
+// What is told of two views where both become as one, without a conflict.
+fn tell_as(
+    alloc: Global,
+    most: Option<usize>,
+    first: bool,
+    left: &Tree,
+    right: &Tree,
+    new: &Tree,
+) -> Result<Output, Memory>
+    ensures { IfOk result (λ output. IsToldOf most first left.now new.now right.now new.now [] (output_value output)) }
 {
-    let left = &inputs.replicas.left.view;
-    let right = &inputs.replicas.right.view;
-    let first = holds_nothing(&inputs.archive);
-    let same_left = Views {
-        old: left,
-        new: left,
-    };
-    let same_right = Views {
-        old: right,
-        new: right,
-    };
-    if inputs.archive.records(left) {
-        let changed = Views {
-            old: left,
-            new: right,
-        };
-        return tell_views(alloc, most, first, changed, same_right, &[]);
-    }
-    if inputs.archive.records(right) {
-        let changed = Views {
-            old: right,
-            new: left,
-        };
-        return tell_views(alloc, most, first, same_left, changed, &[]);
-    }
-    let outcome = reconcile(alloc, &inputs.schema, &inputs.archive, left, right)?;
+    let left = Views { old: left, new };
+    let right = Views { old: right, new };
+    tell_views(alloc, most, first, left, right, &[])
+}
+
+// What is told of two views and the outcome of their reconciling.
+fn tell_outcome(
+    alloc: Global,
+    most: Option<usize>,
+    first: bool,
+    left: &Tree,
+    right: &Tree,
+    outcome: &Outcome,
+) -> Result<Output, Memory>
+    ensures { IfOk result (λ output. IsToldOf most first left.now outcome.now.left right.now outcome.now.right outcome.now.conflicts.items (output_value output)) }
+{
     let left = Views {
         old: left,
         new: &outcome.left,
@@ -131,4 +126,34 @@ pub fn tell(alloc: Global, most: Option<usize>, inputs: &Inputs) -> Result<Outpu
         new: &outcome.right,
     };
     tell_views(alloc, most, first, left, right, &outcome.conflicts)
+}
+
+/// What is told of what was read, if there is memory for it, with the outcome that it was reconciled to, if it was. In most
+/// runs only one side has changed since the last, or none has: then the new views are known without a reconciling.
+pub fn tell(
+    alloc: Global,
+    most: Option<usize>,
+    inputs: &Inputs,
+) -> (Result<Output, Memory>, Option<Outcome>)
+    requires no_twins { HasNoTwins inputs.now.schema }
+    requires members { AreMembers inputs.now.schema inputs.now.schema.root (views (old_trio (before_of inputs.now))) }
+    ensures told { IfOk result.0 (λ output. IsTold most (before_of inputs.now) (output_value output)) }
+    ensures outcome { IfSome result.1 (λ o. IsReconciled inputs.now.schema (old_trio (before_of inputs.now)) o) }
+{
+    let left = &inputs.replicas.left.view;
+    let right = &inputs.replicas.right.view;
+    let first = holds_nothing(&inputs.archive);
+    if inputs.archive.records(left) {
+        return (tell_as(alloc, most, first, left, right, right), None);
+    }
+    if inputs.archive.records(right) {
+        return (tell_as(alloc, most, first, left, right, left), None);
+    }
+    match reconcile(alloc, &inputs.schema, &inputs.archive, left, right) {
+        Ok(outcome) => {
+            let output = tell_outcome(alloc, most, first, left, right, &outcome);
+            (output, Some(outcome))
+        }
+        Err(Memory) => (Err(Memory), None),
+    }
 }
