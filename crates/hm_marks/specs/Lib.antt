@@ -1,0 +1,5 @@
+pub mod Contents
+pub mod Layouts
+pub mod FolderTrees
+pub mod Pieces
+pub mod Writing
