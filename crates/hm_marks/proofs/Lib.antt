@@ -3,3 +3,5 @@ mod Pieces
 pub mod ReadBack
 pub mod Sound
 pub mod Once
+mod KeptParts
+pub mod KeptContents

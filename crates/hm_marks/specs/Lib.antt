@@ -3,3 +3,4 @@ pub mod Layouts
 pub mod FolderTrees
 pub mod Pieces
 pub mod Writing
+pub mod Kept

@@ -1,4 +1,4 @@
-//! Bookmarks in folders within folders: their tree, and what is written of another tree.
+//! Bookmarks in folders within folders: their tree, what is written of another tree, and what stays of them then.
 //!
 //! A browser keeps links and folders in an order, and the same again in each folder; some files have separators between
 //! them. `specs/Contents` has them over what a format keeps of a link, of a folder and of a separator, and
@@ -8,10 +8,13 @@
 //! Where a folder is written anew for a tree, its items survive as `hm_book_items` tells, separators keep their places
 //! among them, and new items stand behind all (`specs/Pieces`). A link that survives gets another address where it has
 //! to, and a folder gets what it is to have in it in the same way; where a link is to be a folder, or a folder a link,
-//! a new one stands in its place (`specs/Writing`). This crate has definitions and theorems alone.
+//! a new one stands in its place (`specs/Writing`). What has to stay of a folder is said without that, of what stood in
+//! it and what does now (`specs/Kept`). This crate has definitions and theorems alone.
 //!
 //! Proved, for each layout that reads what it makes: what is written anew for a tree shows this tree, at each depth
 //! (`put_get`, `proofs/ReadBack`), and may stand in a file where what stood before could (`anew_sound`,
 //! `proofs/Sound`); a folder has one tree at the most, and one folder at the most is written for a tree (`tree_once`,
-//! `anew_once`, `proofs/Once`).
+//! `anew_once`, `proofs/Once`); and all stays that has to (`anew_kept`, `proofs/KeptContents`): a link but for its
+//! address, a folder but for what goes from it and comes into it, each separator in its place, and the order of what
+//! survives.
 #![tactic(auto)]
