@@ -5,3 +5,4 @@ pub mod Sound
 pub mod Once
 mod KeptParts
 pub mod KeptContents
+mod Examples
