@@ -1,0 +1,37 @@
+//! Laws of tokens and of what is written.
+ghost use Rattle.std.specs.Prelude.{◌≡◌, ℕ, Bool, List, [], ◌++◌, ◌∷◌, codes};
+ghost use Rattle.std.specs.List.{AllByRecursion};
+ghost use Rattle.hm_marks_tokens.specs.Symbols.{Symbol as SeenSymbol, IsNextSymbol};
+ghost use Rattle.hm_marks_tokens.specs.Attributes.{Attribute as SeenAttribute, AreAttributes, attributes_of};
+ghost use Rattle.hm_marks_tokens.specs.Reading.{IsFolder, IsMisfit};
+ghost use Rattle.hm_marks_tokens.specs.Lines.{Lines, closes, IsLine, AreBehindName, AreRead, laid};
+
+/// Bytes have at most one next symbol, and one rest behind it.
+pub fn symbols_are_known()
+    ensures { (titled : Bool) (bytes : List ℕ) (m n : SeenSymbol) (r s : List ℕ) → IsNextSymbol titled bytes m r → IsNextSymbol titled bytes n s → (m ≡ n) × (r ≡ s) }
+{}
+
+/// What `skip_folder` answers is all that may be answered: bytes begin with at most one folder, and else have one first symbol
+/// that doesn't fit.
+pub fn folders_are_known()
+    ensures rest { (bytes r s : List ℕ) → IsFolder bytes r → IsFolder bytes s → r ≡ s }
+    ensures misfit { (bytes r : List ℕ) (n : ℕ) → IsFolder bytes r → IsMisfit bytes n → ⊥ }
+    ensures number { (bytes : List ℕ) (m n : ℕ) → IsMisfit bytes m → IsMisfit bytes n → m ≡ n }
+{}
+
+/// The attributes that bytes are spelled by are those that are found.
+pub fn attributes_are_found()
+    ensures { (bytes : List ℕ) (attributes : List SeenAttribute) (ending : List ℕ) → AreAttributes bytes attributes ending → attributes_of bytes ≡ (attributes, ending) }
+{}
+
+/// Attributes may stand behind the name of a tag: there the tag goes on to its own `>`.
+pub fn attributes_stand_in_tags()
+    ensures { (bytes : List ℕ) (attributes : List SeenAttribute) (ending : List ℕ) → AreAttributes bytes attributes ending → AreBehindName bytes }
+{}
+
+/// Lines that are written, the last of which closes a list, are read as their symbols again, but for white space at the end of
+/// notes, whatever stands behind them.
+pub fn lines_are_read()
+    ensures { (n : ℕ) (lines : Lines) (rest : List ℕ) → AllByRecursion IsLine lines
+        → AreRead (laid n (lines ++ closes ∷ []) ++ rest) lines (codes "<p>" ++ 10 ∷ rest) }
+{}
