@@ -11,4 +11,8 @@ pub mod Spelled
 mod Titles
 mod Steps
 mod Known
+mod Accepted
+mod Accepting
+mod Unambiguous
+mod Folders
 mod Cases

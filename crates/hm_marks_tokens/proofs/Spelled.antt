@@ -8,8 +8,8 @@ use Rattle.std.proofs.lemmas.List.{append_assoc}
 use Rattle.std.proofs.lemmas.List.Folds.{list_all-append, list_any-append}
 use Rattle.hm_marks_tokens.specs.Bytes.{less, greater, has_less, is_white, begins_white}
 use Rattle.hm_marks_tokens.specs.Tokens.{is_inside, begins_tag, Token, tag, text, IsNext}
-use Rattle.hm_marks_tokens.specs.Symbols.{Symbol, list, list_end, entry, link, link_end, heading, heading_end, note, rule, words, symbol_of, is_skipped, is_titled_behind, here, behind, HasSymbols}
-use Rattle.hm_marks_tokens.specs.Lines.{Line, opens, closes, links, heads, notes, rules, words_of, symbols_in, symbols_of, core, depth_at, depth_behind, indent, laid, IsNote, IsLine, longer, AreRead}
+use Rattle.hm_marks_tokens.specs.Symbols.{Symbol, list, list_end, entry, link, link_end, heading, heading_end, note, rule, words, words_of, symbol_of, is_skipped, is_titled_behind, here, behind, HasSymbols}
+use Rattle.hm_marks_tokens.specs.Lines.{Line, opens, closes, links, heads, notes, rules, symbols_in, symbols_of, core, depth_at, depth_behind, indent, laid, IsNote, IsLine, longer, AreRead}
 
 -- ---- one token more in front
 

@@ -5,4 +5,5 @@ pub mod Attributes
 pub mod Entities
 pub mod Lines
 pub mod Reading
+pub mod Grammar
 pub mod Lent

@@ -3,7 +3,7 @@ use Rattle.std.specs.Prelude.{◌≡◌, ◌⊎◌, ℕ, ◌+◌, ◌-◌, ◌*�
 use Rattle.std.specs.List.{flat_map, AllZip}
 use Rattle.hm_marks_tokens.specs.Bytes.{greater, has_less, is_white, begins_white}
 use Rattle.hm_marks_tokens.specs.Tokens.{is_inside}
-use Rattle.hm_marks_tokens.specs.Symbols.{Symbol, list, list_end, entry, link, link_end, heading, heading_end, note, rule, words, HasSymbols}
+use Rattle.hm_marks_tokens.specs.Symbols.{Symbol, list, list_end, entry, link, link_end, heading, heading_end, note, rule, words_of, HasSymbols}
 
 -- a line; the bytes of a tag between its name and its `>`, and those of a title or a note
 pub data Line : Type 0 where
@@ -15,11 +15,6 @@ pub data Line : Type 0 where
   rules : (attributes : List ℕ) → Line  -- a rule
 
 -- ---- the symbols of a line
-
--- a text, where it isn't empty
-abbrev pub words_of : List ℕ → List Symbol
-words_of [] = []
-words_of (b ∷ bytes) = words (b ∷ bytes) ∷ []
 
 -- the symbols of a line
 abbrev pub symbols_in : Line → List Symbol

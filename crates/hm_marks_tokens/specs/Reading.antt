@@ -1,9 +1,4 @@
--- The grammar of folders, a symbol after the other: what may stand next, and where it leads.
---
---   folder = <DL> *entry </DL>
---   entry  = <DT> <A attributes> [text] </A> [ <DD> [text] ]
---          / <DT> <H3 attributes> [text] </H3> [ <DD> [text] ] folder
---          / <HR attributes>
+-- What may stand next in a folder, a symbol after the other, and where it leads.
 use Rattle.std.specs.Prelude.{◌≡◌, ◌⊎◌, ℕ, zero, suc, ◌+◌, Bool, true, false, cond, List, [], ◌∷◌, length, Option, Some, None}
 use Rattle.hm_marks_tokens.specs.Attributes.{are_attributes, are_of_link}
 use Rattle.hm_marks_tokens.specs.Symbols.{Symbol, list, list_end, entry, link, link_end, heading, heading_end, note, rule, words, IsNextSymbol, HasNoSymbol, HasSymbols}

@@ -49,6 +49,11 @@ abbrev pub symbol_of : Token → Symbol
 symbol_of (tag inside) = symbol_named (take (name_len inside) inside) (drop (name_len inside) inside)
 symbol_of (text bytes) = words bytes
 
+-- a text, where it isn't empty
+abbrev pub words_of : List ℕ → List Symbol
+words_of [] = []
+words_of (b ∷ bytes) = words (b ∷ bytes) ∷ []
+
 -- white space and `<p>`
 abbrev pub is_skipped : Symbol → Bool
 is_skipped paragraph = true

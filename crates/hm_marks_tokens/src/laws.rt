@@ -1,9 +1,10 @@
 //! Laws of tokens and of what is written.
-ghost use Rattle.std.specs.Prelude.{◌≡◌, ℕ, Bool, List, [], ◌++◌, ◌∷◌, codes};
+ghost use Rattle.std.specs.Prelude.{◌≡◌, ◌↔◌, ℕ, Bool, List, [], ◌++◌, ◌∷◌, codes};
 ghost use Rattle.std.specs.List.{AllByRecursion};
 ghost use Rattle.hm_marks_tokens.specs.Symbols.{Symbol as SeenSymbol, IsNextSymbol};
 ghost use Rattle.hm_marks_tokens.specs.Attributes.{Attribute as SeenAttribute, AreAttributes, attributes_of};
 ghost use Rattle.hm_marks_tokens.specs.Reading.{IsFolder, IsMisfit};
+ghost use Rattle.hm_marks_tokens.specs.Grammar.{Contents, IsListOf};
 ghost use Rattle.hm_marks_tokens.specs.Lines.{Lines, closes, IsLine, AreBehindName, AreRead, laid};
 
 /// Bytes have at most one next symbol, and one rest behind it.
@@ -17,6 +18,12 @@ pub fn folders_are_known()
     ensures rest { (bytes r s : List ℕ) → IsFolder bytes r → IsFolder bytes s → r ≡ s }
     ensures misfit { (bytes r : List ℕ) (n : ℕ) → IsFolder bytes r → IsMisfit bytes n → ⊥ }
     ensures number { (bytes : List ℕ) (m n : ℕ) → IsMisfit bytes m → IsMisfit bytes n → m ≡ n }
+{}
+
+/// The folders that `skip_folder` finds are those of the grammar, and bytes begin with one of them at most.
+pub fn folders_are_of_the_grammar()
+    ensures grammar { (bytes rest : List ℕ) → IsFolder bytes rest ↔ ((contents : Contents) × IsListOf bytes contents rest) }
+    ensures contents { (bytes : List ℕ) (c d : Contents) (r s : List ℕ) → IsListOf bytes c r → IsListOf bytes d s → c ≡ d }
 {}
 
 /// The attributes that bytes are spelled by are those that are found.
