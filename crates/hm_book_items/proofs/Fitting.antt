@@ -22,18 +22,18 @@ module _ {K : Type 0} (R : K → K → Ordering) (total : IsTotalOrder R) (one :
   each-append S [] ys a b = b
   each-append S (x ∷ xs) ys a b = (a.0, each-append S xs ys a.1 b)
 
-  each-drop : {X : Type 0} (S : X → Type 0) (n : ℕ) (xs : List X) → Each R S xs → Each R S (drop n xs)
+  pub each-drop : {X : Type 0} (S : X → Type 0) (n : ℕ) (xs : List X) → Each R S xs → Each R S (drop n xs)
   each-drop S zero [] a = a
   each-drop S (suc n) [] a = a
   each-drop S zero (x ∷ xs) a = a
   each-drop S (suc n) (x ∷ xs) a = each-drop S n xs a.1
 
-  each_got : {X : Type 0} (S : X → Type 0) (n : ℕ) (xs : List X) → Each R S xs → IfSome (slice_get xs n) S
+  pub each_got : {X : Type 0} (S : X → Type 0) (n : ℕ) (xs : List X) → Each R S xs → IfSome (slice_get xs n) S
   each_got S n [] a = tt
   each_got S zero (x ∷ xs) a = a.0
   each_got S (suc n) (x ∷ xs) a = each_got S n xs a.1
 
-  below_fits : (k : K) (tree : List (K × List A)) → AllFit tree → Each R (P k) (below_key R k tree)
+  pub below_fits : (k : K) (tree : List (K × List A)) → AllFit tree → Each R (P k) (below_key R k tree)
   below_fits k [] a = tt
   below_fits k (e ∷ es) a = go e es (eq_by_cmp R k e.0) refl a.0 (below_fits k es a.1)
     where

@@ -4,6 +4,7 @@ pub mod Runs
 pub mod Lists
 pub mod Made
 pub mod ListDepths
+pub mod ItemDepths
 pub mod Limits
 pub mod Laws
 pub mod Contents

@@ -50,6 +50,10 @@ list_depth deep (x ∷ xs) = max (deep x) (list_depth deep xs) + 1
 abbrev pub lists_depth : {X : Type 0} → (X → ℕ) → List (Name × List X) → ℕ
 lists_depth deep ls = most (λ l. list_depth deep l.1 + 1) ls
 
+-- so deep is a tree that has below each key the list of the items with it
+abbrev pub IsDepthOfLists : {X : Type 0} → (X → ℕ) → List (Name × X) → ℕ → Type 0
+IsDepthOfLists {X} deep items found = (lists : List (Name × List X)) → IsGrouped name_cmp items lists → found ≡ lists_depth deep lists
+
 -- the tree of these items is deeper than allowed, and so deep
 pub record IsTooDeep (items : List (Name × Tree)) (deepest found : ℕ) : Type 0 where
   pub tree : Tree

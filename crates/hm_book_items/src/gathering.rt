@@ -6,11 +6,11 @@ ghost use Rattle.std.specs.Prelude.{◌≡◌, ℕ, T, IfOk, Err, IsSortedByKey,
 ghost use Rattle.hm_tree.specs.Names.{Name as NameValue, name_cmp};
 ghost use Rattle.hm_tree.specs.Nodes.{edges, are_edges};
 ghost use Rattle.hm_book_items.specs.Items.{of_key};
-ghost use Rattle.hm_book_items.specs.ItemTrees.{AreLists, IsShallow, IsTooDeep};
+ghost use Rattle.hm_book_items.specs.ItemTrees.{AreLists, IsShallow, IsTooDeep, IsDepthOfLists};
 ghost use Rattle.hm_book_items.specs.Runs.{runs, IsListTaken};
 ghost use Rattle.hm_book_items.specs.declared.fault.ItemTreeFault.TheVariants.{TooDeep};
 
-use crate::depths::depth_of_runs;
+use crate::depths::{Deep, depth_of_runs};
 use crate::fault::ItemTreeFault;
 use hm_tree::{Memory, Name, Tree};
 use hm_tree_parts::put_first;
@@ -34,8 +34,16 @@ pub fn item_tree(
     Ok(tree_of(alloc, sorted)?)
 }
 
+/// How deep the tree of a file will be whose items have these keys, in file order, and are so deep. It isn't built.
+pub fn depth_of_items<D: Deep + Drop>(items: Vec<(Name, D)>) -> Result<usize, Memory>
+    ensures { IfOk result (λ depth. IsDepthOfLists D.deep items.items depth) }
+{
+    let sorted = by_key(items)?;
+    depth_of_runs(&sorted)
+}
+
 // The items in the order of their keys, and those of a key in the order that they had.
-fn by_key(items: Vec<(Name, Tree)>) -> Result<Vec<(Name, Tree)>, Memory>
+fn by_key<D: Drop>(items: Vec<(Name, D)>) -> Result<Vec<(Name, D)>, Memory>
     ensures rise { IfOk result (λ sorted. IsSortedByKey (λ item. item.0) name_cmp sorted.items) }
     ensures each { IfOk result (λ sorted. (k : NameValue) → of_key name_cmp k sorted.items ≡ of_key name_cmp k items.items) }
 {

@@ -21,8 +21,8 @@
 //! and where the tree stays so do all items (`proofs/ReadBack`), so with a lawful writing of one item a whole file
 //! is written lawfully (`proofs/Fitting`). `item_tree` gives the tree of a file's items; where that would be deeper
 //! than allowed it is never built: the answer is its depth. `depth_of_runs` gives the depth of such a tree from the
-//! keys and from how deep each item is, also where the items aren't built yet. `item_lists` takes a tree of lists
-//! apart; the tree is lent, and none of it is copied. Items have one such tree at the most, it can be taken apart,
+//! keys and from how deep each item is, also where the items aren't built yet, and `depth_of_items` that of items in
+//! any order. `item_lists` takes a tree of lists apart; the tree is lent, and none of it is copied. Items have one such tree at the most, it can be taken apart,
 //! and its lists are known from it.
 #![tactic(auto)]
 
@@ -36,7 +36,7 @@ mod wanted;
 
 pub use depths::{Deep, depth_of_runs};
 pub use fault::ItemTreeFault;
-pub use gathering::item_tree;
+pub use gathering::{depth_of_items, item_tree};
 pub use listing::item_lists;
 pub use new_trees::NewTrees;
 pub use planned::{NewItem, next_place, no_counts, plan};

@@ -1,7 +1,6 @@
 use Rattle.std.proofs.Common.{◌≡◌, ◌+◌, ◌-◌, List, ◌∷◌, drop, length, sym, ap, ◌∙◌, subst, arith}
 use Rattle.std.proofs.lemmas.List.{drop_more, take_all, length-drop}
 use Rattle.hm_tree.specs.Names.{Name}
-use Rattle.hm_tree.specs.Nodes.{Tree}
 use Rattle.hm_tree.proofs.Texts.{text_test}
 use Rattle.hm_book_items.specs.ItemTrees.{list_depth}
 use Rattle.hm_book_items.specs.Runs.{list_first, runs}
