@@ -1,11 +1,11 @@
--- Which trees stand at the nodes of lists of cards.
+-- Which trees stand at nodes of lists.
 use Rattle.std.proofs.Common.{◌≡◌, ◌≢◌, ℕ, ◌+◌, ◌⊎◌, All, List, [], ◌∷◌, Some, refl, sym, subst, ◌∙◌, arith, inl, inr}
 use Rattle.std.proofs.lemmas.List.Elements.{All-nil, All-cons, All-head, All-tail}
 use Rattle.hm_tree.specs.Names.{name_cmp}
 use Rattle.hm_tree.specs.Nodes.{Tree}
 use Rattle.hm_schema.specs.declared.node.NodeId.{NodeId}
 use Rattle.hm_schema.specs.declared.node.Shape.{Shape}
-use Rattle.hm_schema.specs.Values.{NodeValue, SchemaValue, child_of}
+use Rattle.hm_schema.specs.Values.{NodeValue, SchemaValue, node_at, child_of}
 use Rattle.hm_tree_parts.specs.Lists.{head, tail, ListOf, no_items, an_item, HasItems, none_left, and_then}
 use Rattle.hm_tree_parts.specs.Lists.{SomeItems}
 use Rattle.hm_schema_lists.specs.ListNodes.{item_names, empty_shape, item_shape, IsListNode, IsItemNode}
@@ -14,10 +14,8 @@ use Rattle.hm_schema.proofs.Elements.{at_head, in_tail, holds_to}
 use Rattle.hm_schema_lists.proofs.ListNodes.{some_items_set}
 use Rattle.hm_schema_lists.proofs.Plain.{exact_of}
 use Rattle.hm_schema.proofs.StandingTrees.{alike_then, members_alike, Inside}
-use Rattle.hm_book_cards.specs.Cards.{Shown}
-use Rattle.hm_book_cards.specs.Books.{id, list_node, more_place, book_schema}
+use Rattle.hm_book_cards.specs.Books.{id, list_node}
 use Rattle.hm_book_cards.proofs.NodeShapes.{listed_names, more_shapes}
-use Rattle.hm_book_cards.proofs.KindPlaces.{more_at_place}
 
 -- ---- lists with an item at least, by their items
 
@@ -71,37 +69,35 @@ tail_is : (shapes : List Shape) (item rest : ℕ) → child_of (list_node shapes
 unfolding name_cmp
 tail_is shapes item rest = refl
 
-module _ (shown : Shown) where
-  abbrev s : SchemaValue
-  s = book_schema shown
-
-  abbrev cards : NodeValue
-  cards = list_node (item_shape ∷ []) 2 (more_place shown)
+-- a node of lists with an item at least, and that of the others of a list
+module _ (s : SchemaValue) (item rest : ℕ) where
+  abbrev some : NodeValue
+  some = list_node (item_shape ∷ []) item rest
 
   abbrev more : NodeValue
-  more = list_node (empty_shape ∷ item_shape ∷ []) 2 (more_place shown)
+  more = list_node (empty_shape ∷ item_shape ∷ []) item rest
 
-  abbrev more_list : IsListNode IsSame (id (more_place shown)) more
+  abbrev more_list : IsListNode IsSame (id rest) more
   more_list = record {
     plain = refl;
     shapes = All-cons (λ a. (a ≡ empty_shape) ⊎ (a ≡ item_shape)) empty_shape (item_shape ∷ []) (inl refl)
         (All-cons (λ a. (a ≡ empty_shape) ⊎ (a ≡ item_shape)) item_shape [] (inr refl) (All-nil (λ a. (a ≡ empty_shape) ⊎ (a ≡ item_shape))));
     empty = holds_to (λ a. a ≡ empty_shape) (at_head {xs = item_shape ∷ []} refl);
     item = holds_to (λ a. a ≡ item_shape) (in_tail (at_head {xs = []} refl));
-    first = id 2;
-    first_is = head_is (empty_shape ∷ item_shape ∷ []) 2 (more_place shown);
-    rest = id (more_place shown);
-    rest_is = tail_is (empty_shape ∷ item_shape ∷ []) 2 (more_place shown);
+    first = id item;
+    first_is = head_is (empty_shape ∷ item_shape ∷ []) item rest;
+    rest = id rest;
+    rest_is = tail_is (empty_shape ∷ item_shape ∷ []) item rest;
     itself = refl;
   }
 
-  abbrev cards_list : IsItemNode IsSame cards more
-  cards_list = record {
-    names = exact_of cards item_names refl refl (λ k h. sym (listed_names ((head, id 2) ∷ (tail, id (more_place shown)) ∷ []) k) ∙ h);
-    first = id 2;
-    first_is = head_is (item_shape ∷ []) 2 (more_place shown);
-    rest = id (more_place shown);
-    rest_is = tail_is (item_shape ∷ []) 2 (more_place shown);
+  abbrev some_list : IsItemNode IsSame some more
+  some_list = record {
+    names = exact_of some item_names refl refl (λ k h. sym (listed_names ((head, id item) ∷ (tail, id rest) ∷ []) k) ∙ h);
+    first = id item;
+    first_is = head_is (item_shape ∷ []) item rest;
+    rest = id rest;
+    rest_is = tail_is (item_shape ∷ []) item rest;
     others = more_list;
     alike = refl;
   }
@@ -109,10 +105,11 @@ module _ (shown : Shown) where
   same : (i j : NodeId) → i ≡ j → Alike (Inside s i) (Inside s j)
   same i j e = subst (λ j. Alike (Inside s i) (Inside s j)) e (record { into = λ t h. h; from = λ t h. h })
 
-  -- the members at the node of lists with a card at least
-  pub lists_alike : (D : Tree → Type 0) → Alike (Inside s (id 2)) D → Alike (Inside s (id 1)) (Items D)
-  lists_alike D are =
-      alike_then (members_alike s (id 1) cards refl)
-      (alike_then (some_items_set (Inside s) IsSame same cards more cards_list (more_shapes (more_place shown + 3) 2 (more_place shown) (omega arith) (omega arith))
-      (members_alike s (id (more_place shown)) more (more_at_place shown)))
-      (items_alike (Inside s (id 2)) D are))
+  -- the members at a node of lists with an item at least
+  pub lists_alike : (i : NodeId) → node_at s i ≡ Some some → node_at s (id rest) ≡ Some more → (D : Tree → Type 0) → Alike (Inside s (id item)) D
+      → Alike (Inside s i) (Items D)
+  lists_alike i here there D are =
+      alike_then (members_alike s i some here)
+      (alike_then (some_items_set (Inside s) IsSame same some more some_list (more_shapes (item + rest + 1) item rest (omega arith) (omega arith))
+      (members_alike s (id rest) more there))
+      (items_alike (Inside s (id item)) D are))

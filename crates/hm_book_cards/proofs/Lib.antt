@@ -6,4 +6,5 @@ pub mod OpenNodes
 pub mod CardNodes
 pub mod CardLists
 pub mod BookTrees
+pub mod OpenLists
 pub mod Laws

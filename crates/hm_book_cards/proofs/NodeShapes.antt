@@ -34,7 +34,7 @@ not_in_none k h = true≢false (sym h ∙ contains-from_list name_total [] k)
 pub listed_names : {X : Type 0} (es : List (Name × X)) (k : Name) → contains (from_list {R = name_cmp} (map (λ e. e.0) es)) k ≡ is_some (find name_cmp k es)
 listed_names es k = contains-from_list name_total (map (λ e. e.0) es) k ∙ sym (is_some-find name_cmp k es)
 
-well_exact : (n : NodeValue) (names : Names) → ((k : Name) → IsTrue (contains names k) → IsTrue (is_listed n k)) → IsWellFormedShape n (exact_shape names)
+pub well_exact : (n : NodeValue) (names : Names) → ((k : Name) → IsTrue (contains names k) → IsTrue (is_listed n k)) → IsWellFormedShape n (exact_shape names)
 well_exact n names lists = record {
   listed = λ k h. lists k ((shape_exact names).only k h);
   apart = λ k h. contains-from_list name_total [] k;
@@ -42,7 +42,7 @@ well_exact n names lists = record {
   none = λ h. (refl, refl);
 }
 
-well_open : (class : Class) (count least place : ℕ) (most : Option ℕ) → place < count → IfSome most (λ m. least ≤ m) → IsWellFormedNode count (open_node class least most place)
+pub well_open : (class : Class) (count least place : ℕ) (most : Option ℕ) → place < count → IfSome most (λ m. least ≤ m) → IsWellFormedNode count (open_node class least most place)
 well_open class count least place most there ordered = record {
   ascending = tt;
   children = All-nil (λ (c : Name × NodeId). c.1.place < count);
@@ -79,7 +79,7 @@ module _ (count item rest : ℕ) (item_there : item < count) (rest_there : rest 
   pub well_bare : IsWellFormedShape here empty_shape
   well_bare = well_exact here no_names (λ k h. absurd (not_in_none k h))
 
-  well_list : 0 < length shapes → All (IsWellFormedShape here) shapes → IsWellFormedNode count here
+  pub well_list : 0 < length shapes → All (IsWellFormedShape here) shapes → IsWellFormedNode count here
   well_list some well = record {
     ascending = list_rises item rest;
     children = All-cons (λ (c : Name × NodeId). c.1.place < count) (head, id item) ((tail, id rest) ∷ []) item_there
@@ -102,7 +102,7 @@ module _ (count item rest : ℕ) (item_there : item < count) (rest_there : rest 
       All-cons (IsWellFormedShape n) empty_shape (item_shape ∷ []) (well_bare count item rest item_there rest_there (empty_shape ∷ item_shape ∷ []))
       (All-cons (IsWellFormedShape n) item_shape [] (well_item count item rest item_there rest_there (empty_shape ∷ item_shape ∷ [])) (All-nil (IsWellFormedShape n)))
 
-  well_more : IsWellFormedNode count (list_node (empty_shape ∷ item_shape ∷ []) item rest)
+  pub well_more : IsWellFormedNode count (list_node (empty_shape ∷ item_shape ∷ []) item rest)
   well_more = well_list count item rest item_there rest_there (empty_shape ∷ item_shape ∷ []) (omega arith) more_shapes
 
 -- ---- the nodes of texts

@@ -31,10 +31,10 @@ fn book_nodes(alloc: Global, shown: &[(Name, bool)]) -> Result<Vec<Node>, Memory
     let more = 3 + texts.len();
     let mut nodes = Vec::with_capacity(alloc, more + 1)?;
     nodes.push(open_node(alloc, Class::Filled, 0, None, 1)?)?;
-    nodes.push(list_node(alloc, false, more)?)?;
+    nodes.push(list_node(alloc, false, 2, more)?)?;
     nodes.push(card_node(alloc, shown, &kinds)?)?;
     nodes.append(&mut texts)?;
-    nodes.push(list_node(alloc, true, more)?)?;
+    nodes.push(list_node(alloc, true, 2, more)?)?;
     Ok(nodes)
 }
 

@@ -5,8 +5,8 @@
 //! Files of comma-separated values, of vCards (RFC 6350) and of calendars (RFC 5545) all have such trees: they differ
 //! in the names that cards may have, and in which of them may have many texts.
 //!
-//! `book_schema` is the schema of these trees (`book`, of the nodes in `nodes`), `card_tree` makes the tree of a card,
-//! and `texts_at` and `edges_at` read it (`card`). It knows no format.
+//! `book_schema` is the schema of these trees (`book`, of the nodes in `nodes`, some of which serve other schemas of lists
+//! too), `card_tree` makes the tree of a card, and `texts_at` and `edges_at` read it (`card`). It knows no format.
 //!
 //! Proved: `book_schema` is the schema of address books whose cards may have given names, each with one text or with
 //! many, and `card_tree` and `texts_at` make the tree of a card and read the texts below a name (`specs/Cards`). A card
@@ -20,3 +20,4 @@ mod nodes;
 
 pub use book::book_schema;
 pub use card::{card_tree, edges_at, texts_at};
+pub use nodes::{empty_node, list_node, open_node, shape_of};

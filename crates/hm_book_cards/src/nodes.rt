@@ -1,4 +1,4 @@
-//! The nodes of the schema of address books.
+//! The nodes of the schema of address books, and others like them.
 ghost use Rattle.std.specs.Prelude.{◌≡◌, [], ◌∷◌, cond, map, IfOk};
 ghost use Rattle.hm_schema.specs.Values.{node_value};
 ghost use Rattle.std.specs.FinSet.{from_list};
@@ -34,20 +34,28 @@ pub fn open_node(
     })
 }
 
-/// The node of lists with an item at least, or of all lists.
-pub fn list_node(alloc: Global, may_be_empty: bool, rest: usize) -> Result<Node, Memory>
-    ensures { IfOk result (λ node. node_value node ≡ spec.list_node (cond may_be_empty (lists.empty_shape ∷ lists.item_shape ∷ []) (lists.item_shape ∷ [])) 2 rest) }
+/// The node of lists with an item at least, or of all lists: what their items lead to, and the others of a list.
+pub fn list_node(
+    alloc: Global,
+    may_be_empty: bool,
+    item: usize,
+    rest: usize,
+) -> Result<Node, Memory>
+    ensures { IfOk result (λ node. node_value node ≡ spec.list_node (cond may_be_empty (lists.empty_shape ∷ lists.item_shape ∷ []) (lists.item_shape ∷ [])) item rest) }
 {
     let mut shapes = Vec::with_capacity(alloc, 2)?;
     if may_be_empty {
-        shapes.push(closed(alloc, Vec::new(alloc))?)?;
+        shapes.push(shape_of(alloc, Vec::new(alloc))?)?;
     }
     let head = Name::from_text(alloc, "*h")?;
     let tail = Name::from_text(alloc, "*t")?;
-    shapes.push(closed(alloc, vec![in alloc; head.copy()?, tail.copy()?]?)?)?;
+    shapes.push(shape_of(alloc, vec![in alloc; head.copy()?, tail.copy()?]?)?)?;
     Ok(Node {
         shapes,
-        children: vec![in alloc; (head, NodeId { place: 2 }), (tail, NodeId { place: rest })]?,
+        children: vec![in alloc;
+            (head, NodeId { place: item }),
+            (tail, NodeId { place: rest }),
+        ]?,
         other: None,
         twins: Vec::new(alloc),
     })
@@ -111,12 +119,12 @@ fn texts_node(alloc: Global, many: bool) -> Result<Node, Memory>
     open_node(alloc, Class::Filled, 1, most, 4)
 }
 
-// The node of what stands below texts, which has no names.
-fn empty_node(alloc: Global) -> Result<Node, Memory>
+/// The node of what stands below texts, which has no names.
+pub fn empty_node(alloc: Global) -> Result<Node, Memory>
     ensures { IfOk result (λ node. node_value node ≡ spec.empty_node) }
 {
     Ok(Node {
-        shapes: vec![in alloc; closed(alloc, Vec::new(alloc))?]?,
+        shapes: vec![in alloc; shape_of(alloc, Vec::new(alloc))?]?,
         children: Vec::new(alloc),
         other: None,
         twins: Vec::new(alloc),
@@ -129,8 +137,8 @@ fn no_names(alloc: Global) -> Result<NameSet, Memory>
     NameSet::from_list(Vec::new(alloc))
 }
 
-// The shape of just these names.
-fn closed(alloc: Global, names: Vec<Name>) -> Result<Shape, Memory>
+/// The shape of just these names.
+pub fn shape_of(alloc: Global, names: Vec<Name>) -> Result<Shape, Memory>
     ensures { IfOk result (λ shape. shape ≡ exact_shape (from_list names.items)) }
 {
     Ok(Shape {
