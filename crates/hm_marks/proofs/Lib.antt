@@ -1,5 +1,5 @@
 mod OneLink
-mod Pieces
+pub mod Pieces
 pub mod ReadBack
 pub mod Sound
 pub mod Once
