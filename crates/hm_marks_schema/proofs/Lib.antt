@@ -1,0 +1,10 @@
+pub mod Schemas
+pub mod Nodes
+pub mod ItemNodes
+pub mod TopNode
+pub mod Members
+pub mod SomeAnew
+pub mod SomeTree
+pub mod WholeFiles
+pub mod Nesting
+pub mod Walks

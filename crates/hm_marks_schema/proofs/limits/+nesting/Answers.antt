@@ -1,0 +1,46 @@
+use Rattle.std.proofs.Common.{arith}
+use Rattle.hm_marks_schema.proofs.Walks.{edge_less, one_place_more, all_places, one_ahead, none_ahead, item_less, rest_less, folder_less, one_more}
+use Rattle.hm_marks_schema.proofs.limits.+nesting.Goals as goal
+
+pub nested_in_folder-nested_in_list-requires : goal.nested_in_folder-nested_in_list-requires
+nested_in_folder-nested_in_list-requires t c =
+    let less = edge_less c.args.folder.now c.loop-place.place c.list_at.ensures.there.0 c.list_at.result.now c.list_at.ensures.there.1 in
+    (omega (arith, less, c.decreases), c.list_at.ensures.list)
+
+pub nested_in_folder-loop-place-preserved : goal.nested_in_folder-loop-place-preserved
+nested_in_folder-loop-place-preserved t c =
+    one_place_more c.args.folder.now c.loop-place.place c.list_at.ensures.there.0 c.list_at.result.now c.loop-place.most c.nested_in_list.result c.max-most.result
+    c.loop-place.invariant c.list_at.ensures.there.1 c.nested_in_list.ensures c.max-most.ensures
+
+pub nested_in_folder-returns : goal.nested_in_folder-returns
+nested_in_folder-returns t c =
+    all_places c.args.folder.now c.loop-place.place c.loop-place.most c.loop-place.invariant (omega (arith, c.loop-place-test.false, c.count-place-end.ensures))
+
+pub nested_in_item-nested_in_folder-requires : goal.nested_in_item-nested_in_folder-requires
+nested_in_item-nested_in_folder-requires t c =
+    let less = folder_less c.in-Some.folder.now c.args.item.now c.in-Some.ensures.0 in
+    (omega (arith, less, c.decreases), c.in-Some.ensures.1)
+
+pub nested_in_item-overflow_add-result : goal.nested_in_item-overflow_add-result
+nested_in_item-overflow_add-result t c =
+    let more = one_more c.in-Some.folder.now c.args.item.now c.nested_in_folder.result c.in-Some.ensures.0 c.nested_in_folder.ensures in
+    omega (arith, more.1, c.depth-more.ensures, c.depth-more.type_inv)
+
+pub nested_in_item-returns : goal.nested_in_item-returns
+nested_in_item-returns t c = (one_more c.in-Some.folder.now c.args.item.now c.nested_in_folder.result c.in-Some.ensures.0 c.nested_in_folder.ensures).0
+
+pub nested_in_list-nested_in_item-requires : goal.nested_in_list-nested_in_item-requires
+nested_in_list-nested_in_item-requires t c =
+    let less = item_less c.args.list.now c.loop-item.rest.now c.loop-item.most c.loop-item.invariant c.in-Some.item.now c.in-Some.others.now c.in-Some.ensures in
+    (omega (arith, less, c.decreases), c.in-Some.ensures.item_at)
+
+pub nested_in_list-loop-item-smaller : goal.nested_in_list-loop-item-smaller
+nested_in_list-loop-item-smaller t c = rest_less c.loop-item.rest.now c.in-Some.item.now c.in-Some.others.now c.in-Some.ensures
+
+pub nested_in_list-loop-item-preserved : goal.nested_in_list-loop-item-preserved
+nested_in_list-loop-item-preserved t c =
+    one_ahead c.args.list.now c.loop-item.rest.now c.loop-item.most c.loop-item.invariant c.in-Some.item.now c.in-Some.others.now c.nested_in_item.result
+    c.max-most.result c.in-Some.ensures c.nested_in_item.ensures c.max-most.ensures
+
+pub nested_in_list-returns : goal.nested_in_list-returns
+nested_in_list-returns t c = none_ahead c.args.list.now c.loop-item.rest.now c.loop-item.most c.loop-item.invariant c.in_default.ensures

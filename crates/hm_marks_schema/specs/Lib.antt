@@ -1,0 +1,4 @@
+pub mod Schema
+pub mod Members
+pub mod Bookmarks
+pub mod Nesting
