@@ -1,24 +1,25 @@
 -- The items of nodes are what they show.
-use Rattle.std.proofs.Common.{◌≡◌, ℕ, List, [], ◌∷◌, ◌++◌, length, arith, refl, sym, ap, ◌∙◌, subst, rules}
-use Rattle.std.specs.Prelude.{Vec, Contains}
+use Rattle.std.proofs.Common.{◌≡◌, List, [], ◌∷◌, ◌++◌, length, sym, ap, ◌∙◌, subst, rules}
+use Rattle.std.specs.Prelude.{Vec}
 use Rattle.std.specs.declared.alloc.Global.{Global}
 use Rattle.std.specs.declared.vec.IntoIter.{IntoIter}
 use Rattle.std.specs.Vec.Iter.{into_iter_items, into_iter_len, into_iter_steps}
 use Rattle.std.specs.Iterator.{Yields}
 use Rattle.std.proofs.lemmas.List.{append-nil}
-use Rattle.std.proofs.lemmas.List.Elements.{Contains-append_right}
 use Rattle.hm_facts.proofs.Lists.{no_items}
 use Rattle.hm_tree.specs.Names.{Name}
 use Rattle.hm_tree.specs.Nodes.{Tree}
 use Rattle.hm_book_items.proofs.Lists.{one_more as one_zipped}
 use Rattle.hm_marks.specs.Contents.{a_link, a_folder}
-use Rattle.hm_marks.specs.Layouts.{items_of}
 use Rattle.hm_marks.specs.FolderTrees.{ShowItems, show_nothing, show_link, show_folder}
 use Rattle.hm_marks_trees.specs.declared.node.Node.{Node, the_lemmas}
-use Rattle.hm_marks_trees.specs.declared.node.Node.TheVariants.{Folder}
-use Rattle.hm_marks_trees.specs.Nodes.{Plain, PlainItem, plain, in_front, view, contents, IsItemOf, AreItemsOf, HasTooDeep, too_deep_inside, IsTooDeepIn}
+use Rattle.hm_marks_trees.specs.declared.node.Node.TheVariants.{Link, Folder}
+use Rattle.hm_marks_trees.specs.Nodes.{Plain, PlainItem, plain, in_front, view, contents, IsItemOf, AreItemsOf}
 
--- a folder, by what stands in it
+-- a link, and a folder by what stands in it
+pub view_link : (k n : Name) → view (Link k n) ≡ a_link (k, n)
+view_link k n = search (rules, the_lemmas)
+
 pub view_folder : (k : Name) (v : Vec Node Global) → view (Folder k v) ≡ a_folder k (contents v.items)
 view_folder k v = search (rules, the_lemmas)
 
@@ -51,20 +52,3 @@ len_is u = search rules
 pub all_taken : (s u : IntoIter Node Global) (nodes xs : List Node) → Yields into_iter_steps s xs u → into_iter_items s ≡ nodes → into_iter_len u ≡ 0 → xs ≡ nodes
 all_taken s u nodes xs taken is over =
     sym (append-nil xs) ∙ ap (λ l. xs ++ l) (sym (no_items (into_iter_items u) (len_is u ∙ over))) ∙ sym (taken_front s xs u taken) ∙ is
-
-behind : (i : PlainItem) (rest : Plain) (x : Name × PlainItem) → Contains (items_of plain rest) x → Contains (items_of plain (in_front i rest)) x
-behind (a_link l) rest x h = Contains-append_right ((l.0, a_link l) ∷ []) (items_of plain rest) x h
-behind (a_folder k inside) rest x h = Contains-append_right ((k, a_folder k inside) ∷ []) (items_of plain rest) x h
-
--- a folder among nodes is one of their items
-among : (xs ys : List Node) (n : Node) (k : Name) (inside : Plain) → view n ≡ a_folder k inside → Contains (items_of plain (contents (xs ++ n ∷ ys))) (k, a_folder k inside)
-among [] ys n k inside e =
-    subst (λ (i : PlainItem). Contains (items_of plain (in_front i (contents ys))) (k, a_folder k inside)) (sym e) (0, omega arith, refl)
-among (x ∷ xs) ys n k inside e = behind (view x) (contents (xs ++ n ∷ ys)) (k, a_folder k inside) (among xs ys n k inside e)
-
-pub too_deep_among : (xs ys : List Node) (n : Node) (deepest found : ℕ) → IsTooDeepIn deepest found (view n) → HasTooDeep deepest found (contents (xs ++ n ∷ ys))
-too_deep_among xs ys n deepest found h = go (view n) refl h
-  where
-    go : (i : PlainItem) → view n ≡ i → IsTooDeepIn deepest found i → HasTooDeep deepest found (contents (xs ++ n ∷ ys))
-    go (a_link l) e h = absurd h
-    go (a_folder k inside) e h = too_deep_inside (among xs ys n k inside e) h

@@ -1,12 +1,11 @@
 -- Links and folders, by what a tree shows of them.
-use Rattle.std.specs.Prelude.{◌≡◌, ◌≤◌, ℕ, List, [], ◌∷◌, map, Contains}
+use Rattle.std.specs.Prelude.{◌≡◌, List, [], ◌∷◌, map}
 use Rattle.std.specs.List.{AllZip}
 use Rattle.hm_tree.specs.Names.{Name}
-use Rattle.hm_tree.specs.Nodes.{Tree, depth}
-use Rattle.hm_book_items.specs.ItemTrees.{IsTooDeep}
-use Rattle.hm_marks.specs.Contents.{Contents, nothing, link, folder, Item, a_link, a_folder}
-use Rattle.hm_marks.specs.Layouts.{Layout, items_of}
-use Rattle.hm_marks.specs.FolderTrees.{IsLinkTree, IsFolderTree, ShowItems, IsContentsTree}
+use Rattle.hm_tree.specs.Nodes.{Tree}
+use Rattle.hm_marks.specs.Contents.{Contents, nothing, link, folder, separator, Item, a_link, a_folder}
+use Rattle.hm_marks.specs.Layouts.{Layout}
+use Rattle.hm_marks.specs.FolderTrees.{IsLinkTree, IsFolderTree, IsContentsTree}
 use Rattle.hm_marks_trees.specs.declared.node.Node.{Node, fold-Node}
 use Rattle.hm_marks_trees.specs.declared.node.Node.TheOpen.{Node-F}
 
@@ -61,18 +60,11 @@ IsItemOf (a_folder k inside) x = (x.0 ≡ k) × ((u : Tree) × (IsFolderTree u x
 abbrev pub AreItemsOf : List Node → List (Name × Tree) → Type 0
 AreItemsOf nodes items = AllZip (λ (n : Node) (x : Name × Tree). IsItemOf (view n) x) nodes items
 
--- the tree of what stands in a folder, no deeper than allowed
-pub record IsShallowTree (c : Plain) (deepest : ℕ) (t : Tree) : Type 0 where
-  pub is : IsContentsTree plain c t
-  pub within : depth t ≤ deepest
+-- ---- what other formats keep
 
--- what stands in a folder, or in one of the folders in it, at any depth, has a tree that is deeper than allowed, and so deep
-pub data HasTooDeep (deepest found : ℕ) : Plain → Type 0 where
-  too_deep_itself : {c : Plain} {items : List (Name × Tree)} → ShowItems plain c items → IsTooDeep items deepest found → HasTooDeep deepest found c
-  too_deep_inside : {c : Plain} {k : Name} {inside : Plain} → Contains (items_of plain c) (k, a_folder k inside) → HasTooDeep deepest found inside
-      → HasTooDeep deepest found c
-
--- an item is a folder in which something is too deep
-abbrev pub IsTooDeepIn : ℕ → ℕ → PlainItem → Type 0
-IsTooDeepIn deepest found (a_link l) = ⊥
-IsTooDeepIn deepest found (a_folder k inside) = HasTooDeep deepest found inside
+-- of what a format keeps, what a tree shows: the key and address of a link, and the key of a folder
+abbrev pub seen : {L F S : Type 0} → Layout L F → Contents L F S → Plain
+seen y nothing = nothing
+seen y (link l rest) = link (y.link_key l, y.address l) (seen y rest)
+seen y (folder f inside rest) = folder (y.folder_key f) (seen y inside) (seen y rest)
+seen y (separator s rest) = seen y rest

@@ -1,28 +1,36 @@
-//! The tree of links and folders.
-ghost use Rattle.std.specs.Prelude.{◌≡◌, ◌++◌, ◌∷◌, [], ℕ, IfOk, OnOk, Err};
-ghost use Rattle.hm_book_items.specs.declared.fault.ItemTreeFault.TheVariants.{TooDeep};
-ghost use Rattle.hm_marks.specs.FolderTrees.{IsLinkTree, IsFolderTree, folder_name, url_name};
-ghost use Rattle.hm_marks_trees.specs.Nodes.{contents, view, IsItemOf, IsShallowTree, HasTooDeep, IsTooDeepIn};
+//! The tree of what stands in a folder.
+ghost use Rattle.std.specs.Prelude.{◌≡◌, ◌++◌, ◌∷◌, [], IfOk, OnOk};
+ghost use Rattle.hm_book_items.specs.ItemTrees.{IsItemTree};
+ghost use Rattle.hm_marks.specs.FolderTrees.{IsContentsTree, IsLinkTree, IsFolderTree, folder_name, url_name};
+ghost use Rattle.hm_marks_trees.specs.Nodes.{plain, contents, view, IsItemOf};
 
 use crate::node::Node;
-use hm_book_items::{ItemTreeFault, item_tree};
+use hm_book_items::item_tree;
 use hm_tree::{Memory, Name, Tree};
 use hm_tree_parts::{under, value};
 use std::alloc::Global;
 
-/// The tree of links and folders, if it is no deeper than `deepest` edges. Else it isn't built: the depth that is told is that
-/// of all, or of what stands in one of the folders, where that is too deep by itself.
+/// The tree of links and folders.
 #[cycle(trees)]
-pub fn tree_of(alloc: Global, nodes: Vec<Node>, deepest: usize) -> Result<Tree, ItemTreeFault>
-    ensures tree { IfOk result (IsShallowTree (contents nodes.items) deepest) }
-    ensures too_deep { (found : ℕ) → result ≡ Err (TooDeep found) → HasTooDeep deepest found (contents nodes.items) }
+pub fn tree_of(alloc: Global, nodes: Vec<Node>) -> Result<Tree, Memory>
+    ensures { IfOk result (IsContentsTree plain (contents nodes.items)) }
 {
     let mut items = room(alloc, nodes.len())?;
     for node in nodes {
-        let item = item_of(alloc, node, deepest)?;
+        let item = item_of(alloc, node)?;
         add(&mut items, item)?;
     }
-    item_tree(alloc, items, deepest)
+    items_tree(alloc, items)
+}
+
+// The tree of items, however deep it is: what it is allowed to be was looked at before.
+fn items_tree(alloc: Global, items: Vec<(Name, Tree)>) -> Result<Tree, Memory>
+    ensures { IfOk result (IsItemTree items.items) }
+{
+    match item_tree(alloc, items, usize::MAX) {
+        Ok(tree) => Ok(tree),
+        Err(_) => Err(Memory),
+    }
 }
 
 // No items, with room for so many.
@@ -41,14 +49,13 @@ fn add(items: &mut Vec<(Name, Tree)>, item: (Name, Tree)) -> Result<(), Memory>
 
 // The key and the tree of a link or a folder.
 #[cycle(trees)]
-fn item_of(alloc: Global, node: Node, deepest: usize) -> Result<(Name, Tree), ItemTreeFault>
-    ensures item { IfOk result (IsItemOf (view node)) }
-    ensures too_deep { (found : ℕ) → result ≡ Err (TooDeep found) → IsTooDeepIn deepest found (view node) }
+fn item_of(alloc: Global, node: Node) -> Result<(Name, Tree), Memory>
+    ensures { IfOk result (IsItemOf (view node)) }
 {
     match node {
         Node::Link(key, address) => Ok(link_item(alloc, key, address)?),
         Node::Folder(key, inside) => {
-            let tree = tree_of(alloc, inside, deepest)?;
+            let tree = tree_of(alloc, inside)?;
             Ok(folder_item(alloc, key, tree)?)
         }
     }
