@@ -1,7 +1,8 @@
 -- What a reader accepts, symbol by symbol, is a folder of the grammar.
 use Rattle.std.proofs.Common.{◌≡◌, ℕ, zero, suc, Bool, true, false, cond, List, [], ◌∷◌, ◌++◌, Some, None, refl, sym, ap, ◌∙◌, subst}
 use Rattle.std.proofs.lemmas.List.{append_assoc}
-use Rattle.hm_marks_tokens.specs.Grammar.{Entry, Contents, empty, separator, page, folder, note_symbols, contents_symbols, folder_symbols, AreSound}
+use Rattle.hm_marks.specs.Contents.{nothing, link, folder, separator}
+use Rattle.hm_marks_tokens.specs.Grammar.{Entry, Contents, note_symbols, contents_symbols, folder_symbols, HaveTags}
 use Rattle.hm_marks_tokens.specs.Symbols as symbols
 use Rattle.hm_marks_tokens.specs.Symbols.{Symbol, words_of}
 use Rattle.hm_marks_tokens.specs.Reading as reading
@@ -12,13 +13,13 @@ use Rattle.hm_marks_tokens.proofs.Accepting.{state}
 -- what may stand behind the beginnings of so many lists: the rest of what each holds, and its end
 abbrev Ends : ℕ → List Symbol → Type 0
 Ends zero ms = ms ≡ []
-Ends (suc n) ms = (c : Contents) × (more : List Symbol) × ((ms ≡ contents_symbols c ++ symbols.list_end ∷ more) × AreSound c × Ends n more)
+Ends (suc n) ms = (c : Contents) × (more : List Symbol) × ((ms ≡ contents_symbols c ++ symbols.list_end ∷ more) × HaveTags c × Ends n more)
 
 -- these symbols are those of a folder
 pub record IsOfGrammar (ms : List Symbol) : Type 0 where
   pub contents : Contents
   pub are : ms ≡ folder_symbols contents
-  pub sound : AreSound contents
+  pub sound : HaveTags contents
 
 -- what was read of the entry that the reader is in, in front of what is left
 front : Place → List Symbol → List Symbol
@@ -53,10 +54,10 @@ Known reading.over = ⊥
 with_separator : (n : ℕ) (a : List ℕ) (ms : List Symbol) → are_attributes a ≡ true → Ends (suc n) ms → Ends (suc n) (symbols.rule a ∷ ms)
 with_separator n a ms ok e = (separator a e.0, e.1, (ap (λ l. symbols.rule a ∷ l) e.2.0, (ok, e.2.1), e.2.2))
 
-with_page : (n : ℕ) (r : Entry) (ms : List Symbol) → are_of_link r.attributes ≡ true → Ends (suc n) ms
+with_link : (n : ℕ) (r : Entry) (ms : List Symbol) → are_of_link r.attributes ≡ true → Ends (suc n) ms
     → Ends (suc n) (symbols.entry ∷ symbols.link r.attributes ∷ (words_of r.title ++ symbols.link_end ∷ (note_symbols r.note ++ ms)))
-with_page n r ms ok e = (
-  page r e.0,
+with_link n r ms ok e = (
+  link r e.0,
   e.1,
   (
     ap (λ l. symbols.entry ∷ symbols.link r.attributes ∷ (words_of r.title ++ symbols.link_end ∷ (note_symbols r.note ++ l))) e.2.0
@@ -117,9 +118,9 @@ chosen false s u e = no_step u e
 list_ends : (ms : List Symbol) (n : ℕ) (u t : State) → IH ms → closed (suc n) ≡ Some u → Runs u ms t → t.place ≡ reading.over
     → Ends (suc n) (symbols.list_end ∷ ms)
 unfolding front Known
-list_ends ms zero u t ih is runs ends = (empty, ms, (refl, tt, over_done ms t (moved (state 0 reading.over) u t ms is runs)))
+list_ends ms zero u t ih is runs ends = (nothing, ms, (refl, tt, over_done ms t (moved (state 0 reading.over) u t ms is runs)))
 list_ends ms (suc n) u t ih is runs ends =
-    (empty, ms, (refl, tt, ih reading.inside n t tt (moved (state (suc n) reading.inside) u t ms is runs) ends))
+    (nothing, ms, (refl, tt, ih reading.inside n t tt (moved (state (suc n) reading.inside) u t ms is runs) ends))
 
 in_list_ends : (m : Symbol) (ms : List Symbol) (n : ℕ) (u t : State) → IH ms → in_list (suc n) m ≡ Some u → Runs u ms t
     → t.place ≡ reading.over → Ends (suc n) (m ∷ ms)
@@ -176,7 +177,7 @@ unfolding front Known
 linked_ends symbols.note ms n a title u t ok ih is runs ends =
     ih (reading.noting a title) n t ok (moved (state (suc n) (reading.noting a title)) u t ms is runs) ends
 linked_ends m ms n a title u t ok ih is runs ends =
-    with_page n (record { attributes = a; title = title; note = None }) (m ∷ ms) ok (in_list_ends m ms n u t ih is runs ends)
+    with_link n (record { attributes = a; title = title; note = None }) (m ∷ ms) ok (in_list_ends m ms n u t ih is runs ends)
 
 noting_ends : (m : Symbol) (ms : List Symbol) (n : ℕ) (a title : List ℕ) (u t : State) → are_of_link a ≡ true → IH ms
     → reading.in_link_note (suc n) m ≡ Some u → Runs u ms t → t.place ≡ reading.over
@@ -185,10 +186,10 @@ unfolding front Known
 noting_ends (symbols.words b) ms n a title u t ok ih is runs ends =
     let f = first_is [] b (state (suc n) reading.inside) u is in
     subst (λ l. Ends (suc n) (symbols.entry ∷ symbols.link a ∷ (words_of title ++ symbols.link_end ∷ symbols.note ∷ (l ++ ms)))) f.1
-    (with_page n (record { attributes = a; title = title; note = Some b }) ms ok
+    (with_link n (record { attributes = a; title = title; note = Some b }) ms ok
     (ih reading.inside n t tt (subst (λ (k : State). Runs k ms t) (sym f.2) runs) ends))
 noting_ends m ms n a title u t ok ih is runs ends =
-    with_page n (record { attributes = a; title = title; note = Some [] }) (m ∷ ms) ok (in_list_ends m ms n u t ih is runs ends)
+    with_link n (record { attributes = a; title = title; note = Some [] }) (m ∷ ms) ok (in_list_ends m ms n u t ih is runs ends)
 
 titling_ends : (m : Symbol) (ms : List Symbol) (n : ℕ) (a title : List ℕ) (u t : State) → are_attributes a ≡ true → IH ms
     → reading.in_heading (suc n) a title m ≡ Some u → Runs u ms t → t.place ≡ reading.over

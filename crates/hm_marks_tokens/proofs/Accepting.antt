@@ -1,7 +1,8 @@
 -- Each folder of the grammar is accepted.
 use Rattle.std.proofs.Common.{◌≡◌, ℕ, suc, cond, List, [], ◌∷◌, ◌++◌, Option, Some, None, refl, sym, ap, ◌∙◌, subst}
 use Rattle.std.proofs.lemmas.List.{append_assoc}
-use Rattle.hm_marks_tokens.specs.Grammar.{empty, separator, page, folder, Contents, note_symbols, contents_symbols, folder_symbols, AreSound}
+use Rattle.hm_marks.specs.Contents.{nothing, link, folder, separator}
+use Rattle.hm_marks_tokens.specs.Grammar.{Contents, note_symbols, contents_symbols, folder_symbols, HaveTags}
 use Rattle.hm_marks_tokens.specs.Symbols as symbols
 use Rattle.hm_marks_tokens.specs.Symbols.{Symbol, words_of}
 use Rattle.hm_marks_tokens.specs.Reading as reading
@@ -20,9 +21,9 @@ Clear (m ∷ ms) = Unit {0}
 
 pub clear_symbols : (c : Contents) (ms : List Symbol) → Clear ms → Clear (contents_symbols c ++ ms)
 unfolding Clear
-clear_symbols empty ms clear = clear
+clear_symbols nothing ms clear = clear
 clear_symbols (separator u s) ms clear = tt
-clear_symbols (page e s) ms clear = tt
+clear_symbols (link e s) ms clear = tt
 clear_symbols (folder e c s) ms clear = tt
 
 as_linked : (n : ℕ) (a title : List ℕ) (ms : List Symbol) (t : State) → Clear ms → Runs (state n reading.inside) ms t
@@ -66,13 +67,13 @@ heading_note (Some []) n a title ms t runs = (state n (reading.telling a title),
 heading_note (Some (b ∷ bytes)) n a title ms t runs =
     (state n (reading.telling a title), (refl, (state n (reading.told a title (b ∷ bytes)), (refl, (state (suc n) reading.inside, (refl, runs))))))
 
-entries_run : (c : Contents) (n : ℕ) (ms : List Symbol) (t : State) → AreSound c → Clear ms
+entries_run : (c : Contents) (n : ℕ) (ms : List Symbol) (t : State) → HaveTags c → Clear ms
     → Runs (state (suc n) reading.inside) ms t → Runs (state (suc n) reading.inside) (contents_symbols c ++ ms) t
 unfolding Clear
-entries_run empty n ms t sound clear runs = runs
+entries_run nothing n ms t sound clear runs = runs
 entries_run (separator u s) n ms t sound clear runs =
     (state (suc n) reading.inside, (ap (λ b. cond b (Some (state (suc n) reading.inside)) None) sound.0, entries_run s n ms t sound.1 clear runs))
-entries_run (page e s) n ms t sound clear runs =
+entries_run (link e s) n ms t sound clear runs =
     let more = entries_run s n ms t sound.1 clear runs in
     let assoc : (words_of e.title ++ symbols.link_end ∷ (note_symbols e.note ++ contents_symbols s)) ++ ms
     ≡ words_of e.title ++ symbols.link_end ∷ (note_symbols e.note ++ (contents_symbols s ++ ms)) =
@@ -118,7 +119,7 @@ entries_run (folder e c s) n ms t sound clear runs =
     )
 
 -- a folder's symbols lead from the beginning to its end
-pub folder_runs : (c : Contents) → AreSound c → Runs start (folder_symbols c) (state 0 reading.over)
+pub folder_runs : (c : Contents) → HaveTags c → Runs start (folder_symbols c) (state 0 reading.over)
 unfolding Clear
 folder_runs c sound =
     (state 1 reading.inside, (refl, entries_run c 0 (symbols.list_end ∷ []) (state 0 reading.over) sound tt (state 0 reading.over, (refl, refl))))

@@ -10,7 +10,7 @@ use Rattle.std.proofs.lemmas.List.{append_assoc, length-append}
 use Rattle.std.proofs.lemmas.List.Folds.{list_all-append}
 use Rattle.hm_marks_tokens.specs.declared.attributes.Attribute.{Attribute as LentAttribute}
 use Rattle.hm_marks_tokens.specs.Bytes.{is_white}
-use Rattle.hm_marks_tokens.specs.Attributes.{Attribute, value_bytes, spelled_value, spelled_attribute, spelled_attributes, is_of_name, IsAttribute, AreAttributes, IsFirst, is_address, first_address, attribute_at, first_and, attributes_within, attributes_of, address_of}
+use Rattle.hm_marks_tokens.specs.Attributes.{Attribute, value_bytes, spelled_value, spelled_attribute, spelled_attributes, is_of_name, IsAttribute, AreAttributes, IsFirst, is_address, first_address, attribute_at, first_and, attributes_within, attributes_of, are_attributes, address_of}
 use Rattle.hm_marks_tokens.specs.Lent.{attribute_seen}
 use Rattle.hm_marks_tokens.proofs.Attributed.{all_begin}
 use Rattle.hm_marks_tokens.proofs.AttributesRead.{not_white_name, first_found, found_first}
@@ -36,7 +36,7 @@ found_shorter bytes None none = tt
 found_shorter bytes (Some f) first = shorter bytes (attribute_seen f.0) f.1.now first
 
 -- there is none, where none is one
-none_found : (bytes : List ℕ) → ((a : Attribute) (rest : List ℕ) → IsFirst bytes a rest → ⊥) → attribute_at bytes ≡ None
+pub none_found : (bytes : List ℕ) → ((a : Attribute) (rest : List ℕ) → IsFirst bytes a rest → ⊥) → attribute_at bytes ≡ None
 none_found bytes none = go (attribute_at bytes) (found_first bytes)
   where
     go : (o : Option (Attribute × List ℕ)) → IfSome o (λ f. IsFirst bytes f.0 f.1) → o ≡ None
@@ -79,12 +79,12 @@ enough (suc n) (suc m) bytes hn hm = go (attribute_at bytes) (found_first bytes)
         let same = more f.1 (omega (arith, lt)) (omega (arith, lt)) in
         ap (λ (r : List Attribute × List ℕ). (f.0 ∷ r.0, r.1)) same
 
-none_more : (bytes : List ℕ) → attribute_at bytes ≡ None → attributes_of bytes ≡ ([], bytes)
+pub none_more : (bytes : List ℕ) → attribute_at bytes ≡ None → attributes_of bytes ≡ ([], bytes)
 unfolding attributes_of
 none_more [] e = refl
 none_more (b ∷ bytes) e = ap (first_and (attributes_within (length bytes)) (b ∷ bytes)) e
 
-one_more : (bytes : List ℕ) (a : Attribute) (rest : List ℕ) → IsFirst bytes a rest → attributes_of bytes ≡ (a ∷ (attributes_of rest).0, (attributes_of rest).1)
+pub one_more : (bytes : List ℕ) (a : Attribute) (rest : List ℕ) → IsFirst bytes a rest → attributes_of bytes ≡ (a ∷ (attributes_of rest).0, (attributes_of rest).1)
 unfolding attributes_of
 one_more [] a rest first = absurd (none-some (a, rest) (first_found [] a rest first))
 one_more (b ∷ bytes) a rest first =
@@ -150,6 +150,10 @@ found_within (suc n) bytes = go (attribute_at bytes) (found_first bytes) (λ l. 
 found_all : (bytes : List ℕ) → AreFound bytes (attributes_of bytes)
 unfolding attributes_of
 found_all bytes = found_within (length bytes) bytes
+
+-- bytes that are attributes are those that are found
+pub found_attributes : (bytes : List ℕ) → are_attributes bytes ≡ true → AreAttributes bytes (attributes_of bytes).0 (attributes_of bytes).1
+found_attributes bytes are = record { are = (found_all bytes).are; each = (found_all bytes).each; white = are }
 
 -- what a search answers, by the grammar
 pub by_attributes : (bytes : List ℕ) (b : Bool) → b ≡ is_white (attributes_of bytes).1

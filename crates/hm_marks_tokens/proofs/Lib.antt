@@ -1,18 +1,19 @@
 mod Found
-mod NextTokens
-mod NextSymbols
-mod Attributed
-mod AttributesRead
-mod AllAttributes
+pub mod NextTokens
+pub mod NextSymbols
+pub mod Attributed
+pub mod AttributesRead
+pub mod AllAttributes
+pub mod Readdressed
 mod Digits
-mod Escaped
-mod Utf8
+pub mod Escaped
+pub mod Utf8
 pub mod Spelled
 mod Titles
 mod Steps
-mod Known
+pub mod Known
 mod Accepted
 mod Accepting
-mod Unambiguous
-mod Folders
+pub mod Unambiguous
+pub mod Folders
 mod Cases

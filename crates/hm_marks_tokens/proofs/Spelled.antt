@@ -9,7 +9,7 @@ use Rattle.std.proofs.lemmas.List.Folds.{list_all-append, list_any-append}
 use Rattle.hm_marks_tokens.specs.Bytes.{less, greater, has_less, is_white, begins_white}
 use Rattle.hm_marks_tokens.specs.Tokens.{is_inside, begins_tag, Token, tag, text, IsNext}
 use Rattle.hm_marks_tokens.specs.Symbols.{Symbol, list, list_end, entry, link, link_end, heading, heading_end, note, rule, words, words_of, symbol_of, is_skipped, is_titled_behind, here, behind, HasSymbols}
-use Rattle.hm_marks_tokens.specs.Lines.{Line, opens, closes, links, heads, notes, rules, symbols_in, symbols_of, core, depth_at, depth_behind, indent, laid, IsNote, IsLine, longer, AreRead}
+use Rattle.hm_marks_tokens.specs.Lines.{Line, opens, closes, links, heads, notes, rules, symbols_in, symbols_of, core, depth_at, depth_behind, indent, laid, open_behind, laid_list, IsNote, IsLine, longer, AreRead}
 
 -- ---- one token more in front
 
@@ -36,16 +36,16 @@ white_other b white = go (b == less) refl
     go true e = let no : false ≡ true = ap is_ascii_whitespace (sym (eqb-true b less e)) ∙ white in let bad : ⊥ = cc in absurd bad
     go false e = refl
 
-white_plain : (bytes : List ℕ) → is_white bytes ≡ true → has_less bytes ≡ false
+pub white_plain : (bytes : List ℕ) → is_white bytes ≡ true → has_less bytes ≡ false
 white_plain [] white = refl
 white_plain (b ∷ bytes) white =
     let parts = and_parts (is_ascii_whitespace b) (is_white bytes) white in
     rw (white_other b parts.0) (white_plain bytes parts.1)
 
-plain_append : (xs ys : List ℕ) → has_less xs ≡ false → has_less ys ≡ false → has_less (xs ++ ys) ≡ false
+pub plain_append : (xs ys : List ℕ) → has_less xs ≡ false → has_less ys ≡ false → has_less (xs ++ ys) ≡ false
 plain_append xs ys hx hy = list_any-append (λ b. b == less) xs ys ∙ (λ i. hx i || hy i)
 
-black_append : (xs ys : List ℕ) → is_white xs ≡ false → is_white (xs ++ ys) ≡ false
+pub black_append : (xs ys : List ℕ) → is_white xs ≡ false → is_white (xs ++ ys) ≡ false
 black_append xs ys hx = list_all-append is_ascii_whitespace xs ys ∙ ap (λ t. t && is_white ys) hx
 
 spaces_white : (n : ℕ) → is_white (replicate n 32) ≡ true
@@ -90,19 +90,20 @@ first_depth n [] = n - 1
 first_depth n (l ∷ ls) = depth_at n l
 
 headless : ℕ → List Line → List ℕ → List ℕ
-headless n [] rest = before closes (10 ∷ rest)
+headless n [] rest = codes "</DL>" ++ rest
 headless n (l ∷ ls) rest = before l (10 ∷ (indent (first_depth (depth_behind n l) ls) ++ headless (depth_behind n l) ls rest))
 
-laid_before : (n : ℕ) (ls : List Line) (rest : List ℕ)
-    → laid n (ls ++ closes ∷ []) ++ rest ≡ indent (first_depth n ls) ++ headless n ls rest
+laid_before : (n : ℕ) (ls : List Line) (rest : List ℕ) → laid_list n ls ++ rest ≡ indent (first_depth n ls) ++ headless n ls rest
 unfolding headless first_depth
-laid_before n [] rest =
-    append_assoc (indent (n - 1)) (codes "</DL><p>" ++ 10 ∷ []) rest ∙ ap (λ l. indent (n - 1) ++ l) (core_before closes (10 ∷ rest))
+laid_before n [] rest = append_assoc (indent (n - 1)) (codes "</DL>") rest
 laid_before n (l ∷ ls) rest =
-    append_assoc (indent (depth_at n l)) (core l ++ 10 ∷ laid (depth_behind n l) (ls ++ closes ∷ [])) rest
-    ∙ ap (λ k. indent (depth_at n l) ++ k)
-    (append_assoc (core l) (10 ∷ laid (depth_behind n l) (ls ++ closes ∷ [])) rest
-    ∙ core_before l (10 ∷ (laid (depth_behind n l) (ls ++ closes ∷ []) ++ rest))
+    let spaces = indent (depth_at n l) in
+    let lines = laid (depth_behind n l) ls in
+    let last = indent (open_behind (depth_behind n l) ls - 1) ++ codes "</DL>" in
+    ap (λ k. k ++ rest) (append_assoc spaces (core l ++ 10 ∷ lines) last ∙ ap (λ k. spaces ++ k) (append_assoc (core l) (10 ∷ lines) last))
+    ∙ append_assoc spaces (core l ++ 10 ∷ (lines ++ last)) rest
+    ∙ ap (λ k. spaces ++ k)
+    (append_assoc (core l) (10 ∷ (lines ++ last)) rest ∙ core_before l (10 ∷ ((lines ++ last) ++ rest))
     ∙ ap (λ k. before l (10 ∷ k)) (laid_before (depth_behind n l) ls rest))
 
 begins : (n : ℕ) (ls : List Line) (rest : List ℕ) → begins_tag (headless n ls rest) ≡ true
@@ -211,15 +212,10 @@ first_there (heads attributes title ∷ ls) = tt
 first_there (notes bytes ∷ ls) = tt
 first_there (rules attributes ∷ ls) = tt
 
-headless_read : (n : ℕ) (ls : List Line) (rest : List ℕ) → AllByRecursion IsLine ls → AreRead (headless n ls rest) ls (codes "<p>" ++ 10 ∷ rest)
+headless_read : (n : ℕ) (ls : List Line) (rest : List ℕ) → AllByRecursion IsLine ls → AreRead (headless n ls rest) ls rest
 unfolding headless before
 headless_read n [] rest are =
-    record {
-      found = [];
-      alike = tt;
-      symbols = alone (codes "<p>" ++ 10 ∷ rest) [] false (codes "/DL") list_end (codes "<p>" ++ 10 ∷ rest) refl refl refl
-          refl;
-    }
+    record { found = []; alike = tt; symbols = alone rest [] false (codes "/DL") list_end rest refl refl refl refl }
 headless_read n (l ∷ ls) rest are =
     let r = headless_read (depth_behind n l) ls rest are.1 in
     let spaces = indent (first_depth (depth_behind n l) ls) in
@@ -228,20 +224,20 @@ headless_read n (l ∷ ls) rest are =
       found = longer (10 ∷ spaces) l ∷ r.found;
       alike = ((10 ∷ spaces, (white, refl)), r.alike);
       symbols =
-          line_symbols (10 ∷ spaces) (headless (depth_behind n l) ls rest) (codes "<p>" ++ 10 ∷ rest) (symbols_of (r.found ++ closes ∷ [])) white
+          line_symbols (10 ∷ spaces) (headless (depth_behind n l) ls rest) rest (symbols_of (r.found ++ closes ∷ [])) white
           (begins (depth_behind n l) ls rest) (first_there r.found) r.symbols l are.0;
     }
 
--- lines that are written, the last of which closes a list, are read again
+-- lines that are written, and the end of their list, are read again
 pub laid_read : (n : ℕ) (ls : List Line) (rest : List ℕ) → AllByRecursion IsLine ls
-    → AreRead (laid n (ls ++ closes ∷ []) ++ rest) ls (codes "<p>" ++ 10 ∷ rest)
+    → AreRead (laid_list n ls ++ rest) ls rest
 laid_read n ls rest are =
     let r = headless_read n ls rest are in
     record {
       found = r.found;
       alike = r.alike;
       symbols =
-          subst (λ bytes. HasSymbols false bytes (symbols_of (r.found ++ closes ∷ [])) (codes "<p>" ++ 10 ∷ rest)) (sym (laid_before n ls rest))
-          (white_passed (indent (first_depth n ls)) (headless n ls rest) (codes "<p>" ++ 10 ∷ rest) (symbols_of (r.found ++ closes ∷ []))
+          subst (λ bytes. HasSymbols false bytes (symbols_of (r.found ++ closes ∷ [])) rest) (sym (laid_before n ls rest))
+          (white_passed (indent (first_depth n ls)) (headless n ls rest) rest (symbols_of (r.found ++ closes ∷ []))
           (spaces_white (4 * first_depth n ls)) (begins n ls rest) (first_there r.found) r.symbols);
     }

@@ -2,7 +2,7 @@
 use Rattle.std.proofs.Common.{◌≡◌, ℕ, ◌+◌, length, Bool, false, List, [], ◌∷◌, ◌++◌, Some, refl, sym, ap, ◌∙◌, subst}
 use Rattle.std.proofs.lemmas.List.{length-append}
 use Rattle.hm_marks_tokens.specs.Symbols.{Symbol, IsNextSymbol, HasSymbols}
-use Rattle.hm_marks_tokens.specs.Reading.{State, over, in_title, step, Runs, start, IsFolder}
+use Rattle.hm_marks_tokens.specs.Reading.{State, over, in_title, step, Runs, start, HasFolder}
 use Rattle.hm_marks_tokens.proofs.Titles.{titled_behind}
 
 -- bytes begin with so many symbols that fit, which lead to a state, and this rest stands behind them
@@ -59,5 +59,6 @@ has_more bytes number t rest read m more next u fits =
       number_is = ap (λ n. n + 1) read.number_is ∙ sym (length-append read.symbols (m ∷ []));
     }
 
-pub is_folder : (bytes : List ℕ) (number : ℕ) (t : State) (rest : List ℕ) → HasRead bytes number t rest → t.place ≡ over → IsFolder bytes rest
-is_folder bytes number t rest read ends = record { symbols = read.symbols; state = t; has = read.has; runs = read.runs; ends = ends }
+pub has_folder : (bytes : List ℕ) (number : ℕ) (t : State) (rest : List ℕ) → HasRead bytes number t rest → t.place ≡ over → HasFolder bytes rest number
+has_folder bytes number t rest read ends =
+    record { folder = record { symbols = read.symbols; state = t; has = read.has; runs = read.runs; ends = ends }; count_is = read.number_is }

@@ -1,7 +1,8 @@
 -- Symbols are those of one folder at the most.
 use Rattle.std.proofs.Common.{◌≡◌, ℕ, List, [], ◌∷◌, ◌++◌, Option, Some, None, refl, sym, ap, ◌∙◌, subst}
 use Rattle.std.proofs.lemmas.List.{append_assoc}
-use Rattle.hm_marks_tokens.specs.Grammar.{Entry, Contents, empty, separator, page, folder, note_symbols, contents_symbols, folder_symbols}
+use Rattle.hm_marks.specs.Contents.{nothing, link, folder, separator}
+use Rattle.hm_marks_tokens.specs.Grammar.{Entry, Contents, note_symbols, contents_symbols, folder_symbols}
 use Rattle.hm_marks_tokens.specs.Symbols as symbols
 use Rattle.hm_marks_tokens.specs.Symbols.{Symbol, words_of}
 use Rattle.hm_marks_tokens.proofs.Accepting.{Clear, clear_symbols}
@@ -44,19 +45,19 @@ one_entry m other r q a b same ca cb e =
     let n = note_once r.note q.note a b ca cb w.rest in
     record { same = one_whole r q same w.same n.same; rest = n.rest }
 
-regroup : (t : List ℕ) (m : Symbol) (n : Option (List ℕ)) (a b : List Symbol)
+pub regroup : (t : List ℕ) (m : Symbol) (n : Option (List ℕ)) (a b : List Symbol)
     → (words_of t ++ m ∷ (note_symbols n ++ a)) ++ b ≡ words_of t ++ m ∷ (note_symbols n ++ (a ++ b))
 regroup t m n a b = append_assoc (words_of t) (m ∷ (note_symbols n ++ a)) b ∙ ap (λ l. words_of t ++ m ∷ l) (append_assoc (note_symbols n) a b)
 
 -- the last symbols of a list's entries
-abbrev ended : Contents → List Symbol → List Symbol
+abbrev pub ended : Contents → List Symbol → List Symbol
 ended c x = contents_symbols c ++ symbols.list_end ∷ x
 
-link_parts : (r : Entry) (s : Contents) (x : List Symbol)
-    → ended (page r s) x ≡ symbols.entry ∷ symbols.link r.attributes ∷ (words_of r.title ++ symbols.link_end ∷ (note_symbols r.note ++ ended s x))
+pub link_parts : (r : Entry) (s : Contents) (x : List Symbol)
+    → ended (link r s) x ≡ symbols.entry ∷ symbols.link r.attributes ∷ (words_of r.title ++ symbols.link_end ∷ (note_symbols r.note ++ ended s x))
 link_parts r s x = ap (λ l. symbols.entry ∷ symbols.link r.attributes ∷ l) (regroup r.title symbols.link_end r.note (contents_symbols s) (symbols.list_end ∷ x))
 
-folder_parts : (r : Entry) (c s : Contents) (x : List Symbol)
+pub folder_parts : (r : Entry) (c s : Contents) (x : List Symbol)
     → ended (folder r c s) x ≡ symbols.entry ∷ symbols.heading r.attributes ∷ (words_of r.title ++ symbols.heading_end ∷ (note_symbols r.note ++ symbols.list ∷ ended c (ended s x)))
 folder_parts r c s x =
     ap (λ l. symbols.entry ∷ symbols.heading r.attributes ∷ l)
@@ -72,33 +73,33 @@ unfolding Clear
 clear_list a = tt
 
 pub entries_once : (c d : Contents) (x y : List Symbol) → ended c x ≡ ended d y → AreOne c d x y
-entries_once empty empty x y e = record { same = refl; rest = cc }
-entries_once empty (separator v r) x y e = let bad : ⊥ = cc in absurd bad
-entries_once empty (page q r) x y e = let bad : ⊥ = cc in absurd bad
-entries_once empty (folder q d r) x y e = let bad : ⊥ = cc in absurd bad
-entries_once (separator u s) empty x y e = let bad : ⊥ = cc in absurd bad
+entries_once nothing nothing x y e = record { same = refl; rest = cc }
+entries_once nothing (separator v r) x y e = let bad : ⊥ = cc in absurd bad
+entries_once nothing (link q r) x y e = let bad : ⊥ = cc in absurd bad
+entries_once nothing (folder q d r) x y e = let bad : ⊥ = cc in absurd bad
+entries_once (separator u s) nothing x y e = let bad : ⊥ = cc in absurd bad
 entries_once (separator u s) (separator v r) x y e =
     let here : u ≡ v = cc in
     let more : ended s x ≡ ended r y = cc in
     let rest = entries_once s r x y more in
     record { same = λ i. separator (here i) (rest.same i); rest = rest.rest }
-entries_once (separator u s) (page q r) x y e = let bad : ⊥ = cc in absurd bad
+entries_once (separator u s) (link q r) x y e = let bad : ⊥ = cc in absurd bad
 entries_once (separator u s) (folder q d r) x y e = let bad : ⊥ = cc in absurd bad
-entries_once (page p s) empty x y e = let bad : ⊥ = cc in absurd bad
-entries_once (page p s) (separator v r) x y e = let bad : ⊥ = cc in absurd bad
-entries_once (page p s) (page q r) x y e =
+entries_once (link p s) nothing x y e = let bad : ⊥ = cc in absurd bad
+entries_once (link p s) (separator v r) x y e = let bad : ⊥ = cc in absurd bad
+entries_once (link p s) (link q r) x y e =
     let whole = sym (link_parts p s x) ∙ e ∙ link_parts q r y in
     let a : p.attributes ≡ q.attributes = cc in
     let tails : words_of p.title ++ symbols.link_end ∷ (note_symbols p.note ++ ended s x) ≡ words_of q.title ++ symbols.link_end ∷ (note_symbols q.note ++ ended r y) = cc in
     let one = one_entry symbols.link_end (λ b is. let bad : ⊥ = cc in bad) p q (ended s x) (ended r y) a (clear_ended s x) (clear_ended r y) tails in
     let rest = entries_once s r x y one.rest in
-    record { same = λ i. page (one.same i) (rest.same i); rest = rest.rest }
-entries_once (page p s) (folder q d r) x y e =
+    record { same = λ i. link (one.same i) (rest.same i); rest = rest.rest }
+entries_once (link p s) (folder q d r) x y e =
     let whole = sym (link_parts p s x) ∙ e ∙ folder_parts q d r y in
     let bad : ⊥ = cc in absurd bad
-entries_once (folder p c s) empty x y e = let bad : ⊥ = cc in absurd bad
+entries_once (folder p c s) nothing x y e = let bad : ⊥ = cc in absurd bad
 entries_once (folder p c s) (separator v r) x y e = let bad : ⊥ = cc in absurd bad
-entries_once (folder p c s) (page q r) x y e =
+entries_once (folder p c s) (link q r) x y e =
     let whole = sym (folder_parts p c s x) ∙ e ∙ link_parts q r y in
     let bad : ⊥ = cc in absurd bad
 entries_once (folder p c s) (folder q d r) x y e =

@@ -84,6 +84,15 @@ abbrev pub first_address : List Attribute → Option (List ℕ)
 first_address [] = None
 first_address (a ∷ xs) = cond (is_address a) (Some (value_bytes a.value)) (first_address xs)
 
+-- an attribute with another value, in quotes
+abbrev pub with_value : Attribute → List ℕ → Attribute
+with_value a bytes = record { blank = a.blank; name = a.name; value = quoted bytes }
+
+-- attributes with another value of the first `HREF`
+abbrev pub with_first_address : List ℕ → List Attribute → List Attribute
+with_first_address bytes [] = []
+with_first_address bytes (a ∷ xs) = cond (is_address a) (with_value a bytes ∷ xs) (a ∷ with_first_address bytes xs)
+
 -- ---- finding them
 
 -- how many bytes of white space bytes begin with
@@ -158,3 +167,7 @@ address_of bytes = first_address (attributes_of bytes).0
 -- bytes are attributes, and an address is among them
 abbrev pub are_of_link : List ℕ → Bool
 are_of_link bytes = are_attributes bytes && is_some (address_of bytes)
+
+-- the same with another address, which is spelled by these bytes
+abbrev pub with_address : List ℕ → List ℕ → List ℕ
+with_address address bytes = spelled_attributes (with_first_address address (attributes_of bytes).0) ++ (attributes_of bytes).1

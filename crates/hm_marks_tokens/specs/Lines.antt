@@ -67,6 +67,15 @@ abbrev pub laid : ℕ → List Line → List ℕ
 laid n [] = []
 laid n (l ∷ ls) = indent (depth_at n l) ++ (core l ++ 10 ∷ laid (depth_behind n l) ls)
 
+-- how many are open behind lines
+abbrev pub open_behind : ℕ → List Line → ℕ
+open_behind n [] = n
+open_behind n (l ∷ ls) = open_behind (depth_behind n l) ls
+
+-- the bytes of lines, and of the tag that ends the list of the last folder that is open behind them
+abbrev pub laid_list : ℕ → List Line → List ℕ
+laid_list n ls = laid n ls ++ (indent (open_behind n ls - 1) ++ codes "</DL>")
+
 -- ---- lines that can be written
 
 -- bytes between the name of a tag and its `>`

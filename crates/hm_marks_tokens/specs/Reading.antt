@@ -137,6 +137,11 @@ pub record IsFolder (bytes rest : List ℕ) : Type 0 where
   pub runs : Runs start symbols state
   pub ends : state.place ≡ over
 
+-- and these symbols are so many
+pub record HasFolder (bytes rest : List ℕ) (count : ℕ) : Type 0 where
+  pub folder : IsFolder bytes rest
+  pub count_is : count ≡ length folder.symbols
+
 -- no symbol stands next, or one that doesn't fit
 abbrev pub IsStuck : State → List ℕ → Type 0
 IsStuck s bytes = HasNoSymbol (in_title s.place) bytes ⊎ ((m : Symbol) × (more : List ℕ) × (IsNextSymbol (in_title s.place) bytes m more × (step s m ≡ None)))

@@ -51,8 +51,8 @@ mod token;
 pub use attributes::{Attribute, Value, address, are_attributes, next_attribute};
 pub use entities::{escape, unescape};
 pub use laws::{
-    attributes_are_found, attributes_stand_in_tags, folders_are_known, folders_are_of_the_grammar,
-    lines_are_read, symbols_are_known,
+    addresses_are_replaced, attributes_are_found, attributes_stand_in_tags, folders_are_known,
+    folders_are_of_the_grammar, lines_are_read, symbols_are_known,
 };
 pub use reading::{Place, State, skip_folder, step};
 pub use symbol::{Symbol, next_symbol, symbol_of};

@@ -1,8 +1,8 @@
 //! Reading an outermost folder, a symbol after the other.
-ghost use Rattle.std.specs.Prelude.{◌≡◌, ◌+◌, ◌<◌, ◌≤◌, Some, IfSome, IsTrue, ◌↔◌, MatchResult, option_map};
+ghost use Rattle.std.specs.Prelude.{◌≡◌, ◌+◌, ◌<◌, ◌≤◌, length, Some, IfSome, IfOk, IsTrue, ◌↔◌, MatchResult, option_map};
 ghost use Rattle.hm_marks_tokens.specs.Attributes.{are_of_link};
 ghost use Rattle.hm_marks_tokens.specs.Lent.{symbol_seen, place_seen, state_seen};
-ghost use Rattle.hm_marks_tokens.specs.Reading.{in_title, step, first_words, at_start, in_list, closed, behind_entry, in_link, in_heading, over, IsFolder, IsMisfit};
+ghost use Rattle.hm_marks_tokens.specs.Reading.{in_title, step, first_words, at_start, in_list, closed, behind_entry, in_link, in_heading, over, HasFolder, IsMisfit};
 
 use crate::attributes::{address, are_attributes};
 use crate::symbol::{Symbol, next_symbol};
@@ -202,11 +202,12 @@ fn are_of_link(attributes: &[u8]) -> bool
     are_attributes(attributes) && address(attributes).is_some()
 }
 
-/// What stands behind the outermost folder that bytes begin with, or the number of the first symbol that doesn't fit. Symbols
-/// that aren't skipped are numbered from 1 on; where the bytes end, or begin a tag that doesn't, it is the number behind the
-/// last. The folder may nest as deep as it will, and nothing is allocated.
-pub fn skip_folder(bytes: &[u8]) -> Result<&[u8], usize>
-    ensures { MatchResult result (λ rest. IsFolder bytes.now rest.now) (IsMisfit bytes.now) }
+/// What stands behind the outermost folder that bytes begin with, and how many symbols it has; or the number of the first
+/// symbol that doesn't fit. Symbols that aren't skipped are numbered from 1 on; where the bytes end, or begin a tag that
+/// doesn't, it is the number behind the last. The folder may nest as deep as it will, and nothing is allocated.
+pub fn skip_folder(bytes: &[u8]) -> Result<(&[u8], usize), usize>
+    ensures folder { MatchResult result (λ found. HasFolder bytes.now found.0.now found.1) (IsMisfit bytes.now) }
+    ensures few { IfOk result (λ found. found.1 ≤ length bytes.now) }
 {
     let mut state = State {
         lists: 0,
@@ -220,7 +221,7 @@ pub fn skip_folder(bytes: &[u8]) -> Result<&[u8], usize>
             return Err(number);
         };
         if is_over(next.place) {
-            return Ok(behind);
+            return Ok((behind, number));
         }
         state = next;
         rest = behind;

@@ -21,7 +21,10 @@ fn a_file(rt: HostRuntime) -> Result<(), Fail> {
     let file =
         b"<DL><p>\n    <DT><H3 ADD_DATE=\"1\">Bar</H3>\n    <DD>A note\n    <DL><p>\n        <DT><A HREF=\"https://a.example/?a>b\">A &amp; B</A>\n        <HR>\n    </DL><p>\n</DL>\n<p>";
     match skip_folder(file) {
-        Ok(rest) => assert_eq!(rt; rest, "\n<p>".as_bytes()),
+        Ok((rest, count)) => {
+            assert_eq!(rt; rest, "\n<p>".as_bytes());
+            assert_eq!(rt; count, 15);
+        }
         Err(number) => assert_eq!(rt; number, 0),
     }
     Ok(())

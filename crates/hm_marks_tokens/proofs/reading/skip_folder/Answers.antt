@@ -1,12 +1,12 @@
 use Rattle.std.proofs.Common.{◌+◌, Bool, sym, subst, arith}
 use Rattle.hm_marks_tokens.specs.Lent.{symbol_seen, state_seen}
 use Rattle.hm_marks_tokens.specs.Symbols.{IsNextSymbol}
-use Rattle.hm_marks_tokens.proofs.Steps.{has_more, is_folder}
+use Rattle.hm_marks_tokens.proofs.Steps.{has_more, has_folder}
 use Rattle.hm_marks_tokens.proofs.reading.skip_folder.Goals as goal
 
-pub returns-then-is_over : goal.returns-then-is_over
-returns-then-is_over c =
-    is_folder c.args.bytes.now (c.loop-symbol.number + 1) (state_seen c.in-Some-step.next) c.in-Some.behind.now
+pub returns-then-is_over-clause-folder : goal.returns-then-is_over-clause-folder
+returns-then-is_over-clause-folder c =
+    has_folder c.args.bytes.now (c.loop-symbol.number + 1) (state_seen c.in-Some-step.next) c.in-Some.behind.now
     (has_more c.args.bytes.now c.loop-symbol.number (state_seen c.loop-symbol.state) c.loop-symbol.rest.now c.loop-symbol.invariant.read
     (symbol_seen c.in-Some.symbol) c.in-Some.behind.now
     (subst (λ (b : Bool). IsNextSymbol b c.loop-symbol.rest.now (symbol_seen c.in-Some.symbol) c.in-Some.behind.now) c.in_title.ensures c.in-Some.ensures.symbol)
