@@ -1,0 +1,5 @@
+pub mod Roots
+pub mod Files
+pub mod Writing
+pub mod Reading
+pub mod Rewriting

@@ -1,0 +1,163 @@
+//! Files that are written anew.
+ghost use Rattle.std.specs.Prelude.{◌≡◌, ◌↔◌, IfOk, OnOk, None, Ok, IsTrue, IsUtf8};
+ghost use Rattle.hm_tree.specs.Nodes.{Tree as TreeValue};
+ghost use Rattle.hm_format.specs.Answers.{Writes};
+ghost use Rattle.hm_schema.specs.Membership.{IsMemberTree};
+ghost use Rattle.hm_marks_schema.specs.Members.{IsAt, AreFoldersOf};
+ghost use Rattle.hm_marks_schema.specs.Nesting.{marks_over};
+ghost use Rattle.hm_marks_schema.specs.Schema.{marks_schema};
+ghost use Rattle.serde_json.specs.Data.{object, Members};
+ghost use Rattle.serde_json.specs.View.{view, members_view};
+ghost use Rattle.hm_json_documents.specs.Documents.{IsDocument};
+ghost use Rattle.hm_json_marks.specs.Roots.{bar_key, other_key};
+ghost use Rattle.hm_json_marks.specs.Files.{IsFile, JsonReads};
+ghost use Rattle.hm_json_marks.specs.Writing.{IsWrittenAnew, JsonWrites};
+ghost use Rattle.hm_json_marks.specs.Rewriting.{HasRootAt, IsRootAnew, AreBothWritten, HasBothRoots, AreRootsWritten};
+
+use crate::reading::read_file;
+use hm_format::FormatFault;
+use hm_json_documents::{read_document, write_document};
+use hm_json_nodes::{folder_written, replace, set};
+use hm_marks_schema::over_limits;
+use hm_tree::{Memory, Tree};
+use serde_json::{Map, Value};
+use std::alloc::Global;
+
+/// The file of a tree behind the file from before; `TooDeep` where the tree is over a limit.
+pub(crate) fn write_file(alloc: Global, tree: &Tree, before: &[u8]) -> Result<Vec<u8>, FormatFault>
+    requires member { IsMemberTree marks_schema tree.now }
+    requires read { (old : TreeValue) × JsonReads before.now (Ok old) }
+    ensures { Writes (marks_over tree.now) (JsonWrites tree.now before.now) result }
+{
+    if let Some(depth) = over_limits(tree) {
+        return Err(FormatFault::TooDeep { depth });
+    }
+    if is_read_as(alloc, before, tree)? {
+        return Ok(copied(alloc, before)?);
+    }
+    Ok(written_anew(alloc, tree, before)?)
+}
+
+// Whether a file that is read is read as a tree.
+fn is_read_as(alloc: Global, bytes: &[u8], tree: &Tree) -> Result<bool, Memory>
+    requires { (old : TreeValue) × JsonReads bytes.now (Ok old) }
+    ensures { IfOk result (λ same. IsTrue same ↔ JsonReads bytes.now (Ok tree.now)) }
+{
+    match read_file(alloc, bytes) {
+        Ok(old) => Ok(old.same(tree)),
+        // A file that is read has no other fault.
+        Err(_) => Err(Memory),
+    }
+}
+
+fn copied(alloc: Global, bytes: &[u8]) -> Result<Vec<u8>, Memory>
+    ensures { IfOk result (λ copy. copy.items ≡ bytes.now) }
+{
+    Ok(Vec::from_slice(alloc, bytes)?)
+}
+
+// A file that is written anew for a tree within the limits.
+fn written_anew(alloc: Global, tree: &Tree, before: &[u8]) -> Result<Vec<u8>, Memory>
+    requires member { IsMemberTree marks_schema tree.now }
+    requires within { marks_over tree.now ≡ None }
+    requires utf8 { IsUtf8 before.now }
+    requires file { IsFile before.now }
+    ensures { IfOk result (λ bytes. IsWrittenAnew tree.now before.now bytes.items) }
+{
+    match std::str::from_utf8(before) {
+        Ok(text) => match read_document(alloc, text)? {
+            Some(file) => written_over(alloc, tree, text, file),
+            None => unreachable!(),
+        },
+        Err(_) => unreachable!(),
+    }
+}
+
+// The same over its document.
+fn written_over(alloc: Global, tree: &Tree, text: &str, file: Value) -> Result<Vec<u8>, Memory>
+    requires member { IsMemberTree marks_schema tree.now }
+    requires within { marks_over tree.now ≡ None }
+    requires file { IsFile text.now }
+    requires document { IsDocument text.now (view file) }
+    ensures { IfOk result (λ bytes. IsWrittenAnew tree.now text.now bytes.items) }
+{
+    let (bar, other) = folders_of(tree);
+    let new = roots_anew(alloc, file, bar, other)?;
+    write_document(alloc, &new)
+}
+
+// The trees of the two folders.
+fn folders_of(tree: &Tree) -> (&Tree, &Tree)
+    requires { IsMemberTree marks_schema tree.now }
+    ensures { AreFoldersOf tree.now result.0.now result.1.now }
+{
+    (tree.edge(0).1, tree.edge(1).1)
+}
+
+// A document in the two folders of which what stands is written anew for trees.
+fn roots_anew(alloc: Global, file: Value, bar: &Tree, other: &Tree) -> Result<Value, Memory>
+    requires roots { HasBothRoots (view file) }
+    requires bar { IsAt 1 bar.now }
+    requires other { IsAt 1 other.now }
+    ensures { IfOk result (λ new. (roots : HasBothRoots (view file)) → AreRootsWritten (view file) roots bar.now other.now (view new)) }
+{
+    let mut members = members_of(file);
+    match replace(alloc, &mut members, "roots", Value::Null)? {
+        Some(roots) => {
+            let roots = both_anew(alloc, members_of(roots), bar, other)?;
+            set(alloc, &mut members, "roots", Value::Object(roots))?;
+            Ok(Value::Object(members))
+        }
+        None => unreachable!(),
+    }
+}
+
+// The members of an object.
+fn members_of(value: Value) -> Map<String, Value>
+    requires { (members : Members) × (view value ≡ object members) }
+    ensures { view value ≡ object (members_view result.entries) }
+{
+    match value {
+        Value::Object(members) => members,
+        _ => unreachable!(),
+    }
+}
+
+// The same among the members of `roots`.
+fn both_anew(
+    alloc: Global,
+    roots: Map<String, Value>,
+    bar: &Tree,
+    other: &Tree,
+) -> Result<Map<String, Value>, Memory>
+    requires bar_root { HasRootAt bar_key (members_view roots.entries) }
+    requires other_root { HasRootAt other_key (members_view roots.entries) }
+    requires bar { IsAt 1 bar.now }
+    requires other { IsAt 1 other.now }
+    ensures { IfOk result (λ new. AreBothWritten bar.now other.now (members_view roots.entries) (members_view new.entries)) }
+{
+    let mut roots = roots;
+    root_anew(alloc, &mut roots, "bookmark_bar", bar)?;
+    root_anew(alloc, &mut roots, "other", other)?;
+    Ok(roots)
+}
+
+// The same for one of the two.
+fn root_anew(
+    alloc: Global,
+    roots: &mut Map<String, Value>,
+    key: &str,
+    tree: &Tree,
+) -> Result<(), Memory>
+    requires root { HasRootAt key.now (members_view roots.old.entries) }
+    requires tree { IsAt 1 tree.now }
+    ensures { OnOk result (IsRootAnew key.now tree.now (members_view roots.old.entries) (members_view roots.new.entries)) }
+{
+    match replace(alloc, roots, key, Value::Null)? {
+        Some(root) => {
+            let new = folder_written(alloc, root, tree)?;
+            set(alloc, roots, key, new)
+        }
+        None => unreachable!(),
+    }
+}
