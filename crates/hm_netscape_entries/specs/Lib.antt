@@ -1,0 +1,4 @@
+pub mod Entries
+pub mod Toolbars
+pub mod Written
+pub mod Next
