@@ -8,15 +8,18 @@ use Rattle.hm_format.specs.Plain.{plain}
 use Rattle.hm_lines_files.specs.Writing.{meaning_of}
 use Rattle.hm_csv.specs.Writing as tables
 use Rattle.hm_ical.specs.Calendars.{ical}
+use Rattle.hm_json_marks.specs.Writing.{json_marks}
 use Rattle.hm_vcard.specs.Cards.{vcards}
 
--- the formats in their order: vCards, calendars, CSV, and trees as text
+-- the formats in their order: bookmarks as JSON, vCards, calendars, CSV, and trees as text
 pub record AreFormats {B : Type 0} (means : B → FormatMeaning) (formats : List B) : Type 0 where
+  pub chrome : B
   pub vcard : B
   pub icalendar : B
   pub csv : B
   pub tree : B
-  pub are : formats ≡ vcard ∷ icalendar ∷ csv ∷ tree ∷ []
+  pub are : formats ≡ chrome ∷ vcard ∷ icalendar ∷ csv ∷ tree ∷ []
+  pub chrome_means : MeanTheSame (means chrome) json_marks
   pub vcard_means : MeanTheSame (means vcard) (meaning_of vcards)
   pub icalendar_means : MeanTheSame (means icalendar) (meaning_of ical)
   pub csv_means : MeanTheSame (means csv) tables.csv
