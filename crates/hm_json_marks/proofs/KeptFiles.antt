@@ -13,7 +13,7 @@ use Rattle.hm_json_marks.specs.Roots.{roots_key, bar_key, other_key}
 use Rattle.hm_json_marks.specs.Files.{IsFile, JsonReads}
 use Rattle.hm_json_marks.specs.Writing.{HasMembers, JsonWrites, stays, anew, JsonKeeps}
 use Rattle.hm_json_marks.proofs.Found.{file_members}
-use Rattle.hm_json_marks.proofs.KeptItself.{keeps_itself}
+use Rattle.hm_marks.proofs.KeptItself.{keeps_itself}
 use Rattle.hm_json_marks.proofs.NewFile.{root_with, roots_there, new_whole, new_file, new_read}
 use Rattle.hm_json_marks.proofs.Puts.{puts_twice}
 

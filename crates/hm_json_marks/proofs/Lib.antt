@@ -2,7 +2,6 @@ mod RootNodes
 mod ReadTrees
 mod RootLaws
 mod ReadOnce
-mod KeptItself
 mod Puts
 mod Found
 mod FineFiles

@@ -1,8 +1,9 @@
-mod OneLink
+pub mod OneLink
 pub mod Pieces
 pub mod ReadBack
 pub mod Sound
 pub mod Once
 mod KeptParts
 pub mod KeptContents
+pub mod KeptItself
 mod Examples

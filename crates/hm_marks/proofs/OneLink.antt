@@ -16,7 +16,7 @@ first_name : List (Name × Tree) → Name
 first_name [] = []
 first_name (e ∷ es) = e.0
 
-names_apart : url_name ≡ folder_name → ⊥
+pub names_apart : url_name ≡ folder_name → ⊥
 names_apart e = let first : 117 ≡ 102 = ap (λ (n : Name). get_or n 0 0) e in omega (arith, first)
 
 pub not_both : (n : Name) (u t : Tree) → IsLinkTree n t → IsFolderTree u t → ⊥

@@ -16,5 +16,6 @@
 //! `proofs/Sound`); a folder has one tree at the most, and one folder at the most is written for a tree (`tree_once`,
 //! `anew_once`, `proofs/Once`); and all stays that has to (`anew_kept`, `proofs/KeptContents`): a link but for its
 //! address, a folder but for what goes from it and comes into it, each separator in its place, and the order of what
-//! survives. Small folders in which one of these isn't kept are told apart (`proofs/Examples`).
+//! survives. A folder that stays as it is keeps all of itself (`keeps_itself`, `proofs/KeptItself`). Small folders in which
+//! one of these isn't kept are told apart (`proofs/Examples`).
 #![tactic(auto)]
