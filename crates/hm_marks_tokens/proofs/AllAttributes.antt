@@ -127,9 +127,9 @@ are_found bytes (a ∷ xs) ending are =
     ∙ ap (λ (r : List Attribute × List ℕ). (a ∷ r.0, r.1)) (are_found rest xs ending (record { are = refl; each = are.each.1; white = are.white }))
 
 -- what is found are attributes, with a rest
-record AreFound (bytes : List ℕ) (r : List Attribute × List ℕ) : Type 0 where
-  are : bytes ≡ spelled_attributes r.0 ++ r.1
-  each : AllByRecursion IsAttribute r.0
+pub record AreFound (bytes : List ℕ) (r : List Attribute × List ℕ) : Type 0 where
+  pub are : bytes ≡ spelled_attributes r.0 ++ r.1
+  pub each : AllByRecursion IsAttribute r.0
 
 found_within : (n : ℕ) (bytes : List ℕ) → AreFound bytes (attributes_within n bytes)
 found_within zero bytes = record { are = refl; each = tt }
@@ -147,7 +147,7 @@ found_within (suc n) bytes = go (attribute_at bytes) (found_first bytes) (λ l. 
           each = (h.is, r.each);
         }
 
-found_all : (bytes : List ℕ) → AreFound bytes (attributes_of bytes)
+pub found_all : (bytes : List ℕ) → AreFound bytes (attributes_of bytes)
 unfolding attributes_of
 found_all bytes = found_within (length bytes) bytes
 

@@ -5,12 +5,13 @@ pub mod Attributed
 pub mod AttributesRead
 pub mod AllAttributes
 pub mod Readdressed
+mod OtherAddress
 mod Digits
 pub mod Escaped
 pub mod Utf8
 pub mod Spelled
-mod Titles
-mod Steps
+pub mod Titles
+pub mod Steps
 pub mod Known
 mod Accepted
 mod Accepting

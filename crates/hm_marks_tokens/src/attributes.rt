@@ -70,7 +70,7 @@ fn behind_attributes(bytes: &[u8]) -> &[u8]
 }
 
 // Whether an attribute is an `HREF`.
-fn is_address(attribute: Attribute<'_>) -> bool
+pub(crate) fn is_address(attribute: Attribute<'_>) -> bool
     ensures { result ≡ is_address (attribute_seen attribute.entry) }
 {
     attribute.name.eq_ignore_ascii_case(b"href")

@@ -17,14 +17,22 @@ pub fn escape(alloc: Global, bytes: &[u8]) -> Result<Vec<u8>, Memory>
     ensures utf8 { IsUtf8 bytes.now → IfOk result (λ made. IsUtf8 made.items) }
 {
     let mut made = Vec::with_capacity(alloc, bytes.len())?;
-    for byte in bytes {
-        append_escaped(&mut made, *byte)?;
-    }
+    add_escaped(&mut made, bytes)?;
     Ok(made)
 }
 
+/// Puts bytes behind others, with entities in place of `&`, `<`, `>` and `"`.
+pub fn add_escaped(out: &mut Vec<u8>, bytes: &[u8]) -> Result<(), Memory>
+    ensures { OnOk result (out.new.items ≡ out.old.items ++ escaped bytes.now) }
+{
+    for byte in bytes {
+        add_byte(out, *byte)?;
+    }
+    Ok(())
+}
+
 // Puts a byte behind others as it is written.
-fn append_escaped(out: &mut Vec<u8>, byte: u8) -> Result<(), Memory>
+fn add_byte(out: &mut Vec<u8>, byte: u8) -> Result<(), Memory>
     ensures { OnOk result (out.new.items ≡ out.old.items ++ escaped_byte byte) }
 {
     match byte {

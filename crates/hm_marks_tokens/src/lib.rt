@@ -30,18 +30,20 @@
 //! Proved: `next_token` gives exactly the token that bytes begin with, and `next_symbol` what the first one means that
 //! isn't skipped (`specs/Tokens`, `specs/Symbols`); `next_attribute` gives exactly the first attribute of a tag,
 //! `are_attributes` tells whether bytes are attributes, and `address` finds the first address (`specs/Attributes`).
-//! `unescape` reads entities, and `escape` writes bytes as they are read again; both keep UTF-8 (`specs/Entities`). `step`
-//! tells what may stand where in a folder, and `skip_folder` finds the end of one, or the number of the first symbol that
-//! doesn't fit (`specs/Reading`); no other answer would do (`folders_are_known`), and the folders are exactly those of the
-//! grammar (`specs/Grammar`, `folders_are_of_the_grammar`). A file that is written line by line is read as the symbols of
-//! its lines, but for white space at the end of notes (`specs/Lines`, `lines_are_read`). Some small cases are computed from
-//! the definitions (`proofs/Cases`).
+//! `unescape` reads entities, and `escape` writes bytes as they are read again; both keep UTF-8 (`specs/Entities`).
+//! `add_readdressed` writes attributes with another address, and all else byte for byte. `step` tells what may stand where
+//! in a folder, and `skip_folder` finds the end of one, or the number of the first symbol that doesn't fit
+//! (`specs/Reading`); no other answer would do (`folders_are_known`), and the folders are exactly those of the grammar
+//! (`specs/Grammar`, `folders_are_of_the_grammar`). A file that is written line by line is read as the symbols of its
+//! lines, but for white space at the end of notes (`specs/Lines`, `lines_are_read`). Some small cases are computed from the
+//! definitions (`proofs/Cases`).
 #![tactic(auto)]
 
 mod attributes;
 mod bytes;
 mod entities;
 mod laws;
+mod readdressing;
 mod reading;
 mod symbol;
 #[cfg(test)]
@@ -49,11 +51,12 @@ mod tests;
 mod token;
 
 pub use attributes::{Attribute, Value, address, are_attributes, next_attribute};
-pub use entities::{escape, unescape};
+pub use entities::{add_escaped, escape, unescape};
 pub use laws::{
     addresses_are_replaced, attributes_are_found, attributes_stand_in_tags, folders_are_known,
     folders_are_of_the_grammar, lines_are_read, symbols_are_known,
 };
+pub use readdressing::add_readdressed;
 pub use reading::{Place, State, skip_folder, step};
 pub use symbol::{Symbol, next_symbol, symbol_of};
 pub use token::{Token, next_token};

@@ -1,6 +1,7 @@
-//! That entities are read and written where there is memory, and that a file as browsers write it is a folder.
+//! That entities are read and written where there is memory, that attributes get another address, and that a file as
+//! browsers write it is a folder.
 
-use crate::{escape, skip_folder, unescape};
+use crate::{add_readdressed, escape, skip_folder, unescape};
 use std::test::Fail;
 
 #[test]
@@ -12,6 +13,21 @@ fn entities(rt: HostRuntime) -> Result<(), Fail> {
     assert_eq!(rt;
         written.as_slice(),
         "R&amp;D &lt;&quot;x&quot;&gt;".as_bytes()
+    );
+    Ok(())
+}
+
+#[test]
+fn another_address(rt: HostRuntime) -> Result<(), Fail> {
+    let mut out = Vec::new(rt.alloc());
+    add_readdressed(
+        &mut out,
+        b" ID=7  hRef=old LAST=\"a&amp;b\" HREF=\"2\" ",
+        b"https://a.example/?x&\"y\"",
+    )?;
+    assert_eq!(rt;
+        out.as_slice(),
+        " ID=7  hRef=\"https://a.example/?x&amp;&quot;y&quot;\" LAST=\"a&amp;b\" HREF=\"2\" ".as_bytes()
     );
     Ok(())
 }

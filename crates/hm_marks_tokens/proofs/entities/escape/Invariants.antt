@@ -1,6 +1,0 @@
-use Rattle.std.proofs.Common.{◌≡◌, take}
-use Rattle.hm_marks_tokens.specs.Entities.{escaped}
-use Rattle.hm_marks_tokens.proofs.entities.escape.Given as goal
-
-abbrev pub invariant-loop-byte : goal.invariant-loop-byte
-invariant-loop-byte l = l.made.items ≡ escaped (take l.byte-index l.bytes)
