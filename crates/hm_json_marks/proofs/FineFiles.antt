@@ -17,7 +17,7 @@ use Rattle.hm_json_nodes.specs.Nodes.{children_key, Contents, json, filled, spel
 use Rattle.hm_json_nodes.proofs.Deep.{children_found}
 use Rattle.hm_json_nodes.proofs.Fine.{children_utf8, nodes_fine}
 use Rattle.hm_json_nodes.proofs.FineAnew.{anew_fine}
-use Rattle.hm_json_nodes.proofs.Texts.{word_utf8}
+use Rattle.hm_marks_schema.proofs.Utf8Keys.{word_utf8}
 use Rattle.hm_json_marks.specs.Roots.{roots_key, bar_key, other_key, HasRoots}
 use Rattle.hm_json_marks.specs.Files.{IsRoot}
 use Rattle.hm_json_marks.specs.Writing.{HasMembers, with_roots}

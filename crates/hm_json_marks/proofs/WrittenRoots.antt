@@ -1,14 +1,10 @@
 -- The two roots of a document, written anew one after the other.
-use Rattle.std.proofs.Common.{◌≡◌, ℕ, List, length, slice_get, Option, Some, None, sym, ap, ◌∙◌, subst}
+use Rattle.std.proofs.Common.{◌≡◌, ℕ, List, Option, Some, None, sym, ap, ◌∙◌, subst}
 use Rattle.std.specs.Prelude.{option_and_then, option_map, IsUtf8}
 use Rattle.std.proofs.lemmas.Option.{same_Some}
-use Rattle.hm_tree.specs.Names.{Name}
-use Rattle.hm_schema.specs.Membership.{IsMemberTree}
-use Rattle.hm_marks_schema.specs.Schema.{marks_schema, bar_name, other_name}
-use Rattle.hm_marks_schema.proofs.TopNode.{top_alike}
 use Rattle.serde_json.specs.View.{view}
 use Rattle.serde_json.specs.declared.value.Value.{Value}
-use Rattle.hm_tree.specs.Nodes.{Tree, edges}
+use Rattle.hm_tree.specs.Nodes.{Tree}
 use Rattle.hm_marks_schema.specs.Members.{AreFoldersOf}
 use Rattle.hm_marks_schema.specs.Nesting.{marks_over}
 use Rattle.serde_json.specs.Data.{Data, object, Members, put}
@@ -105,21 +101,6 @@ root_taken k old v o d was there at = same_Some (view v) d (sym (ap (option_map 
 
 pub root_with_members : (v : Value) (d : Data) (r : IsRoot d) → view v ≡ d → IsFolderWith r.members r.children r.contents (view v)
 root_with_members v d r same = record { is = same ∙ r.folder.is; children_are = r.folder.children_are; nodes = r.folder.nodes }
-
--- ---- the folders of a tree
-
-pub two_folders : (t : Tree) → IsMemberTree marks_schema t → (bar_tree : Tree) × (other_tree : Tree) × AreFoldersOf t bar_tree other_tree
-two_folders t member = let h = top_alike.into t member in (h.bar_tree, h.other_tree, record { tree = h.tree; bar = h.bar; other = h.other })
-
-pub two_edges : (t : Tree) → IsMemberTree marks_schema t → length (edges t) ≡ 2
-two_edges t member = let h = two_folders t member in ap length h.2.tree
-
-pub these_folders : (t : Tree) → IsMemberTree marks_schema t → (a b : Name × Tree) → slice_get (edges t) 0 ≡ Some a → slice_get (edges t) 1 ≡ Some b → AreFoldersOf t a.1 b.1
-these_folders t member a b first second =
-    let h = two_folders t member in
-    let bar : h.0 ≡ a.1 = ap (λ (e : Name × Tree). e.1) (same_Some (bar_name, h.0) a (sym (ap (λ (es : List (Name × Tree)). slice_get es 0) h.2.tree) ∙ first)) in
-    let other : h.1 ≡ b.1 = ap (λ (e : Name × Tree). e.1) (same_Some (other_name, h.1) b (sym (ap (λ (es : List (Name × Tree)). slice_get es 1) h.2.tree) ∙ second)) in
-    subst (λ u. AreFoldersOf t u b.1) bar (subst (λ u. AreFoldersOf t h.0 u) other h.2)
 
 -- ---- the whole
 

@@ -1,10 +1,9 @@
 -- What is written of a tree behind the bytes from before, and what stays.
-use Rattle.std.specs.Prelude.{◌≡◌, ℕ, List, [], Some, Ok}
+use Rattle.std.specs.Prelude.{◌≡◌, ℕ, List, Some, Ok}
 use Rattle.hm_tree.specs.Nodes.{Tree}
-use Rattle.hm_format.specs.Options.{Rules, accepted, bad_key}
 use Rattle.hm_format.specs.Formats.{FormatMeaning}
 use Rattle.hm_marks.specs.Kept.{Keeps}
-use Rattle.hm_marks_schema.specs.Schema.{marks_schema}
+use Rattle.hm_marks_schema.specs.Schema.{schema_under}
 use Rattle.hm_marks_schema.specs.Bookmarks.{AreBookmarksAnew}
 use Rattle.hm_marks_schema.specs.Nesting.{marks_over}
 use Rattle.serde_json.specs.Data.{Data, object, Members, put}
@@ -13,12 +12,6 @@ use Rattle.serde_json.specs.Written.{compact_text}
 use Rattle.hm_json_nodes.specs.Nodes.{children_key, Contents, json, AreAlike, filled, spelled}
 use Rattle.hm_json_marks.specs.Roots.{roots_key, bar_key, other_key}
 use Rattle.hm_json_marks.specs.Files.{IsFile, JsonReads}
-
--- a file has no options
-abbrev pub json_rules : Rules
-json_rules = []
-
--- ---- files
 
 -- the members of a file, and those of its member `roots`
 pub record HasMembers (d : Data) : Type 0 where
@@ -69,7 +62,7 @@ pub record JsonKeeps (before after : List ℕ) : Type 0 where
 abbrev pub json_marks : FormatMeaning
 json_marks = record {
   tag = 1;
-  schema_of = λ o. accepted (bad_key json_rules o) marks_schema;
+  schema_of = schema_under;
   reads = λ o bytes r. JsonReads bytes r;
   over = marks_over;
   writes = λ o t before after. JsonWrites t before after;

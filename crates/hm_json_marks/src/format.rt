@@ -1,8 +1,8 @@
 //! The format.
 use crate::reading::read_file;
-use crate::schema::schema;
 use crate::writing::write_file;
 use hm_format::{Format, FormatFault};
+use hm_marks_schema::schema_under;
 use hm_schema::{Options, Schema};
 use hm_tree::Tree;
 use std::alloc::Global;
@@ -34,7 +34,7 @@ impl Format for Chrome {
     }
 
     fn schema(&self, alloc: Global, options: &Options) -> Result<Schema, FormatFault> {
-        schema(alloc, options)
+        schema_under(alloc, options)
     }
 
     fn read(&self, alloc: Global, _options: &Options, bytes: &[u8]) -> Result<Tree, FormatFault> {

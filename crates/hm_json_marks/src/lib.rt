@@ -23,7 +23,6 @@
 mod format;
 mod reading;
 mod roots;
-mod schema;
 mod writing;
 
 pub use format::Chrome;

@@ -3,7 +3,7 @@ ghost use Rattle.std.specs.Prelude.{◌≡◌, ◌↔◌, IfOk, OnOk, None, Ok, 
 ghost use Rattle.hm_tree.specs.Nodes.{Tree as TreeValue};
 ghost use Rattle.hm_format.specs.Answers.{Writes};
 ghost use Rattle.hm_schema.specs.Membership.{IsMemberTree};
-ghost use Rattle.hm_marks_schema.specs.Members.{IsAt, AreFoldersOf};
+ghost use Rattle.hm_marks_schema.specs.Members.{IsAt};
 ghost use Rattle.hm_marks_schema.specs.Nesting.{marks_over};
 ghost use Rattle.hm_marks_schema.specs.Schema.{marks_schema};
 ghost use Rattle.serde_json.specs.Data.{object, Members};
@@ -18,7 +18,7 @@ use crate::reading::read_file;
 use hm_format::FormatFault;
 use hm_json_documents::{read_document, write_document};
 use hm_json_nodes::{folder_written, replace, set};
-use hm_marks_schema::over_limits;
+use hm_marks_schema::{folders_of, over_limits};
 use hm_tree::{Memory, Tree};
 use serde_json::{Map, Value};
 use std::alloc::Global;
@@ -84,14 +84,6 @@ fn written_over(alloc: Global, tree: &Tree, text: &str, file: Value) -> Result<V
     let (bar, other) = folders_of(tree);
     let new = roots_anew(alloc, file, bar, other)?;
     write_document(alloc, &new)
-}
-
-// The trees of the two folders.
-fn folders_of(tree: &Tree) -> (&Tree, &Tree)
-    requires { IsMemberTree marks_schema tree.now }
-    ensures { AreFoldersOf tree.now result.0.now result.1.now }
-{
-    (tree.edge(0).1, tree.edge(1).1)
 }
 
 // A document in the two folders of which what stands is written anew for trees.

@@ -1,12 +1,12 @@
 -- What is read of sound values is sound, and no deeper than they are.
 use Rattle.std.proofs.Common.{◌<◌, ◌≤◌, ◌-◌, ℕ, IsUtf8, refl, arith}
 use Rattle.hm_marks.specs.Contents.{nothing, link, folder, separator}
+use Rattle.hm_marks_schema.proofs.Utf8Keys.{word_utf8}
 use Rattle.hm_json_documents.specs.Documents.{ItemsAreSound, MembersAreSound}
 use Rattle.hm_json_documents.proofs.Members.{put_sound, put_depth, found_sound, found_depth}
 use Rattle.serde_json.specs.Data.{array, Items, no_items, Members, items_depth, members_depth}
 use Rattle.hm_json_nodes.specs.Nodes.{children_key, Contents, AreNodes, no_nodes, a_link_node, a_folder_node}
 use Rattle.hm_json_nodes.proofs.Deep.{children_found}
-use Rattle.hm_json_nodes.proofs.Texts.{word_utf8}
 
 -- items are sound, and nest at most so deep
 abbrev pub ItemsAreFine : ℕ → Items → Type 0

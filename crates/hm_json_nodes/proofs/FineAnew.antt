@@ -1,14 +1,10 @@
 -- What is written anew is sound, and no deeper than what it is written over or than its folders ask for.
-use Rattle.std.proofs.Common.{◌≤◌, ◌-◌, ◌+◌, ◌*◌, ℕ, Bool, true, false, cond, T, List, [], ◌∷◌, Option, Some, None, IsUtf8, refl, subst, arith}
+use Rattle.std.proofs.Common.{◌≤◌, ◌-◌, ◌+◌, ◌*◌, ℕ, Bool, true, false, cond, List, Option, Some, None, IsUtf8, refl, arith}
 use Rattle.std.specs.Prelude.{IfSome}
 use Rattle.std.specs.Str.{bytes_eq}
-use Rattle.std.proofs.lemmas.Str.{IsUtf8-from_is_utf8}
-use Rattle.hm_facts.proofs.Booleans.{is_true}
 use Rattle.hm_tree.specs.Names.{Name, name_cmp}
-use Rattle.hm_tree.specs.Nodes.{Tree, edges, empty, are_edges, edges_head, edges_tail}
-use Rattle.hm_tree.specs.NodeLaws.{edges_are}
+use Rattle.hm_tree.specs.Nodes.{Tree, edges, empty}
 use Rattle.hm_tree.proofs.Sorted.{name_total, name_one}
-use Rattle.hm_tree_parts.specs.Edges.{IsEdge}
 use Rattle.hm_book_items.specs.Items.{Each}
 use Rattle.hm_book_items.specs.ItemTrees.{Lists, AreLists}
 use Rattle.hm_book_items.proofs.Fitting.{all_fit}
@@ -18,33 +14,12 @@ use Rattle.hm_marks.specs.Pieces.{NewItem, new_items, pieces}
 use Rattle.hm_marks.specs.Writing.{link_for, folder_for, inside_of, AreMade, made_nothing, made_link, made_folder, made_separator, AreWrittenAnew}
 use Rattle.hm_marks.proofs.Pieces.{pieces_rewritten}
 use Rattle.hm_marks_schema.specs.Nesting.{nesting}
+use Rattle.hm_marks_schema.proofs.Utf8Keys.{word_utf8, edge_utf8, keys_utf8}
 use Rattle.hm_json_documents.proofs.Members.{put_sound, put_depth}
 use Rattle.serde_json.specs.Data.{string, array, object, Items, item, Members, members_depth}
 use Rattle.hm_json_nodes.specs.Nodes.{type_key, name_key, url_key, children_key, folder_type, filled, json, Contents, spelled}
 use Rattle.hm_json_nodes.specs.Anew.{OldItem, Piece}
 use Rattle.hm_json_nodes.proofs.Fine.{ItemsAreFine, MembersAreFine, IsFineAt, children_utf8}
-use Rattle.hm_json_nodes.proofs.Texts.{word_utf8}
-
--- ---- names of edges
-
-edge_utf8 : (n : Name) (x t : Tree) → IsEdge n x t → IsUtf8 n
-edge_utf8 n x t is = IsUtf8-from_is_utf8 n (is_true _ (edges_head (n, x) [] (subst (λ (es : List (Name × Tree)). T (are_edges es)) is (edges_are t))))
-
-abbrev KeysAreUtf8 : Lists → Type 0
-KeysAreUtf8 lists = Each name_cmp (λ (l : Name × List Tree). Each name_cmp (λ t. IsUtf8 l.0) l.1) lists
-
-each_so : (P : Type 0) → P → (ts : List Tree) → Each name_cmp (λ t. P) ts
-each_so P p [] = tt
-each_so P p (t ∷ ts) = (p, each_so P p ts)
-
-keys_utf8 : (es : List (Name × Tree)) (lists : Lists) → T (are_edges es) → AreLists es lists → KeysAreUtf8 lists
-keys_utf8 [] [] are h = tt
-keys_utf8 [] (l ∷ lists) are h = absurd h
-keys_utf8 (e ∷ es) [] are h = absurd h
-keys_utf8 (e ∷ es) (l ∷ lists) are h = (
-  each_so (IsUtf8 l.0) (subst IsUtf8 h.0.0 (IsUtf8-from_is_utf8 e.0 (is_true _ (edges_head e es are)))) l.1,
-  keys_utf8 es lists (edges_tail e es are) h.1,
-)
 
 -- ---- pieces
 
@@ -65,7 +40,7 @@ old_fine n (separator s rest) fine = old_fine n rest fine
 pieces_fit : (n : ℕ) (old : Contents) (t : Tree) (lists : Lists) → AreLists (edges t) lists → IsFineAt n old → ItemsFit n (new_items (pieces json lists old))
 pieces_fit n old t lists below fine =
     all_fit name_cmp name_total name_one (λ k t. IsUtf8 k) (λ k i. ItemIsFine n i) (items_of json old) lists (new_items (pieces json lists old))
-    (keys_utf8 (edges t) lists (edges_are t) below) (old_fine n old fine) (pieces_rewritten json lists old)
+    (keys_utf8 t lists below) (old_fine n old fine) (pieces_rewritten json lists old)
 
 -- ---- one item
 

@@ -15,7 +15,8 @@ use Rattle.serde_json.specs.Data.{Data, Items, no_items, item}
 use Rattle.serde_json.specs.View.{view, items_view}
 use Rattle.serde_json.specs.declared.value.Value.{Value}
 use Rattle.hm_json_nodes.specs.Nodes.{json, Contents, AreNodes, no_nodes, a_link_node, a_folder_node, emptied}
-use Rattle.hm_json_nodes.specs.Anew.{OldItem, Piece, IsNodeOf, item_entry, Adds, HaveTaken}
+use Rattle.hm_marks_schema.specs.Taken.{HaveTaken}
+use Rattle.hm_json_nodes.specs.Anew.{OldItem, Piece, IsNodeOf, item_entry, Adds}
 use Rattle.hm_json_nodes.proofs.Spelling.{adds_none, adds_more}
 
 -- some nodes of a folder are left, of trees that those before them have taken; what stays of these was put behind others

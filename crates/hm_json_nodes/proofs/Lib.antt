@@ -5,10 +5,8 @@ pub mod Listed
 pub mod FirstBad
 pub mod EachNode
 mod ReadNodes
-mod ItemEdges
 pub mod OldNodes
 mod Spelling
-mod Taking
 mod Left
 pub mod Layouts
 pub mod Spelled

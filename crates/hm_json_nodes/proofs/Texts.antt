@@ -1,15 +1,11 @@
 -- The keys and addresses of nodes are clean, and UTF-8 where their values are sound.
-use Rattle.std.proofs.Common.{◌≡◌, ℕ, true, List, [], get_or, Option, Some, None, IsUtf8, refl}
+use Rattle.std.proofs.Common.{◌≡◌, ℕ, List, [], Option, Some, None, IsUtf8, refl}
 use Rattle.std.specs.Prelude.{option_and_then, unwrap_or}
-use Rattle.std.specs.Bool.{nat_lt}
-use Rattle.std.specs.List.{list_all}
-use Rattle.std.proofs.lemmas.Bool.{ltb-true}
-use Rattle.std.proofs.lemmas.List.Sums.{AllPass-from_list_all}
-use Rattle.std.proofs.lemmas.Str.{IsUtf8-nil, IsUtf8-from_ascii}
-use Rattle.std.proofs.lemmas.Str.Ascii.{IsAscii-from_all}
+use Rattle.std.proofs.lemmas.Str.{IsUtf8-nil}
 use Rattle.hm_tree.proofs.Classed.{cleaned-cleaned}
 use Rattle.hm_tree.proofs.CleanText.{cleaned_utf8}
 use Rattle.hm_marks_schema.specs.Bookmarks.{HaveCleanTexts, HaveUtf8Texts}
+use Rattle.hm_marks_schema.proofs.Utf8Keys.{word_utf8}
 use Rattle.hm_json_documents.specs.Documents.{IsSound, ItemsAreSound, MembersAreSound}
 use Rattle.hm_json_documents.proofs.Members.{found_sound, put_sound}
 use Rattle.serde_json.specs.Data.{Data, null, boolean, number, string, array, object, Items, no_items, Members}
@@ -25,10 +21,6 @@ nodes_clean _ _ (a_folder_node {ms = ms} {children = children} {ds = ds} {inside
     (cleaned-cleaned (unwrap_or (text_at name_key (object (emptied ms))) []), nodes_clean children inside within, nodes_clean ds rest more)
 
 -- ---- UTF-8
-
-pub word_utf8 : (word : List ℕ) → list_all (λ b. nat_lt b 128) word ≡ true → IsUtf8 word
-word_utf8 word small =
-    IsUtf8-from_ascii word (IsAscii-from_all word (λ i d lt. ltb-true (get_or word i d) 128 (AllPass-from_list_all (λ b. nat_lt b 128) word small i d lt)))
 
 text_utf8 : (o : Option Data) → ((d : Data) → o ≡ Some d → IsSound d) → IsUtf8 (unwrap_or (option_and_then as_str o) [])
 text_utf8 None sound = IsUtf8-nil

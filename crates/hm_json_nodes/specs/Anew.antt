@@ -1,12 +1,7 @@
 -- Nodes that are written anew for the tree of a folder.
-use Rattle.std.specs.Prelude.{◌≡◌, suc, List, [], ◌∷◌, ◌++◌, Option, Some, None, map}
-use Rattle.hm_tree.specs.Names.{Name, name_cmp}
-use Rattle.hm_tree.specs.Nodes.{Tree, depth}
-use Rattle.hm_book_items.specs.Items.{Each}
-use Rattle.hm_book_items.specs.ItemTrees.{Lists, lists_depth}
-use Rattle.hm_book_items.specs.Taken.{HasTaken}
-use Rattle.hm_book_items.specs.declared.new_trees.NewTrees.{NewTrees}
-use Rattle.hm_marks_schema.specs.Members.{IsGood}
+use Rattle.std.specs.Prelude.{◌≡◌, List, [], ◌∷◌, ◌++◌, Option, Some, None, map}
+use Rattle.hm_tree.specs.Names.{Name}
+use Rattle.hm_tree.specs.Nodes.{Tree}
 use Rattle.hm_marks.specs.Contents.{nothing, link, folder, Item, a_link, a_folder}
 use Rattle.hm_marks.specs.Pieces as marks
 use Rattle.hm_marks.specs.Pieces.{an_item}
@@ -72,17 +67,8 @@ pub record IsFolderAnew (members : Members) (old : Contents) (t : Tree) (d : Dat
   pub anew : AreSpelledAnew old t children
   pub is : d ≡ object (filled children members)
 
--- lists of items of clean keys, no deeper than all of them
-abbrev pub AreGood : Lists → Type 0
-AreGood lists = Each name_cmp (λ (l : Name × List Tree). Each name_cmp (IsGood (suc (lists_depth depth lists)) l.0) l.1) lists
-
 -- the nodes of these pieces were put behind others
 pub record Adds (old new : List Value) (pieces : List Piece) : Type 0 where
   pub added : List Data
   pub are : map view new ≡ map view old ++ added
   pub spell : Spell pieces added
-
--- trees, of which items with these keys have taken theirs, are those of such lists
-pub record HaveTaken (trees : NewTrees) (lists : Lists) (keys : List Name) : Type 0 where
-  pub taken : HasTaken trees lists keys
-  pub good : AreGood lists

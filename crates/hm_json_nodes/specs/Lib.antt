@@ -2,5 +2,4 @@ pub mod Nodes
 pub mod Numbers
 pub mod Kinds
 pub mod Reading
-pub mod ItemTrees
 pub mod Anew

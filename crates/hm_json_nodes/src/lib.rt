@@ -19,14 +19,12 @@
 
 mod anew;
 mod fault;
-mod item;
 mod kind;
 mod members;
 mod reading;
 mod writing;
 
 pub use fault::NodeFault;
-pub use item::{ItemTree, item_of};
 pub use kind::{Kind, kind_of};
 pub use members::{replace, set};
 pub use reading::{count_one, nodes_of};

@@ -12,13 +12,14 @@ ghost use Rattle.hm_marks_schema.specs.Members.{IsAt, IsGood};
 ghost use Rattle.serde_json.specs.Data.{Items, Members};
 ghost use Rattle.serde_json.specs.View.{view, items_view};
 ghost use Rattle.hm_json_nodes.specs.Nodes.{json, Contents, AreNodes};
-ghost use Rattle.hm_json_nodes.specs.Anew.{OldItem, IsNodeOf, IsOld, item_entry, IsNodeAnew, AreSpelledAnew, IsFolderWith, IsFolderAnew, Adds, HaveTaken};
+ghost use Rattle.hm_marks_schema.specs.Taken.{HaveTaken};
+ghost use Rattle.hm_json_nodes.specs.Anew.{OldItem, IsNodeOf, IsOld, item_entry, IsNodeAnew, AreSpelledAnew, IsFolderWith, IsFolderAnew, Adds};
 
 use crate::anew::{emptied, folder_anew, link_anew};
-use crate::item::{ItemTree, item_of};
 use crate::kind::text_at;
 use crate::members::set;
 use hm_book_items::{NewTrees, item_lists};
+use hm_marks_schema::{ItemTree, item_of};
 use hm_tree::{Memory, Name, Tree};
 use serde_json::Value;
 use std::alloc::Global;

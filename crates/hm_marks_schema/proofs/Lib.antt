@@ -8,3 +8,6 @@ pub mod SomeTree
 pub mod WholeFiles
 pub mod Nesting
 pub mod Walks
+pub mod TreeParts
+pub mod Utf8Keys
+pub mod Taking

@@ -1,5 +1,5 @@
 -- The schema of bookmarks is well formed, and no node of it has twins.
-use Rattle.std.proofs.Common.{◌≡◌, ◌<◌, IsTrue, T, All, List, [], ◌∷◌, map, Some, None, refl, sym, ap, subst, ◌∙◌, arith}
+use Rattle.std.proofs.Common.{◌≡◌, ◌<◌, IsTrue, T, All, List, [], ◌∷◌, map, Some, None, Ok, refl, sym, ap, subst, ◌∙◌, arith}
 use Rattle.std.proofs.lemmas.Option.{get_or_from_slice_get, slice_get_within}
 use Rattle.std.proofs.lemmas.List.Elements.{All-nil, All-cons}
 use Rattle.std.specs.List.{AllByRecursion}
@@ -10,15 +10,17 @@ use Rattle.hm_tree.specs.Names.{Name, name_cmp}
 use Rattle.hm_tree.proofs.NameSets.{tied_one}
 use Rattle.hm_schema.specs.declared.node.Node.{Node}
 use Rattle.hm_schema.specs.declared.node.NodeId.{NodeId}
-use Rattle.hm_schema.specs.Values.{NodeValue, node_value, schema_value, is_listed}
+use Rattle.hm_schema.specs.Values.{NodeValue, OptionsValue, SchemaValue, node_value, schema_value, is_listed}
 use Rattle.hm_schema.specs.WellFormed.{IsWellFormedShape, IsWellFormedNode, IsWellFormed}
 use Rattle.hm_schema.specs.Membership.{HasNoTwins}
 use Rattle.hm_schema.specs.OneName.{alone}
 use Rattle.hm_schema.proofs.OneName.{in_alone}
 use Rattle.hm_book_cards.specs.Books.{id}
+use Rattle.hm_format.specs.Options.{bad_key}
+use Rattle.hm_format.proofs.Accepted.{schema_given}
 use Rattle.hm_book_cards.proofs.NodeShapes.{listed_names, well_exact, well_open, well_cards, well_more, well_empty}
 use Rattle.hm_marks.specs.FolderTrees.{folder_name, url_name}
-use Rattle.hm_marks_schema.specs.Schema.{top_node, folder_node, items_node, item_node, link_node, more_node, marks_schema}
+use Rattle.hm_marks_schema.specs.Schema.{top_node, folder_node, items_node, item_node, link_node, more_node, marks_schema, no_rules, schema_under}
 
 -- what holds of each by recursion holds of all
 all_each : {X : Type 0} (P : X → Type 0) (xs : List X) → AllByRecursion P xs → All P xs
@@ -107,3 +109,9 @@ pub no_twins : HasNoTwins marks_schema
 no_twins i n at =
     subst IsPlain (get_or_from_slice_get marks_schema.nodes i.place n n at)
     (all_plain i.place n (slice_get_within marks_schema.nodes i.place n at))
+
+-- ---- options
+
+-- where options are accepted, the schema is that of bookmarks
+pub schema_is : (o : OptionsValue) (s : SchemaValue) → schema_under o ≡ Ok s → marks_schema ≡ s
+schema_is o s has = schema_given (bad_key no_rules o) marks_schema s has

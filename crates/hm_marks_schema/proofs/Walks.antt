@@ -1,49 +1,25 @@
 -- Walks through the tree of bookmarks.
-use Rattle.std.proofs.Common.{◌≡◌, ◌≢◌, inl, inr, ℕ, ◌+◌, ◌<◌, ◌≤◌, max, List, [], ◌∷◌, length, take, slice_get, get_or, Some, sym, ap, subst, ◌∙◌, arith}
+use Rattle.std.proofs.Common.{◌≡◌, ℕ, ◌+◌, ◌<◌, ◌≤◌, max, List, ◌∷◌, [], length, take, slice_get, get_or, Some, sym, ap, subst, ◌∙◌, arith}
 use denote.Param.Weighed.{most, most-append}
 use Rattle.std.proofs.lemmas.List.{take_all, take_more}
-use Rattle.std.proofs.lemmas.Option.{same_Some, get_or_from_slice_get, slice_get_within}
+use Rattle.std.proofs.lemmas.Option.{get_or_from_slice_get, slice_get_within}
 use Rattle.hm_tree.specs.Names.{Name}
 use Rattle.hm_tree.specs.Nodes.{Tree, edges, depth}
 use Rattle.hm_tree.proofs.Depths.{depth_edge, depth_below}
-use Rattle.hm_schema.specs.Membership.{IsMemberTree}
 use Rattle.hm_tree_parts.specs.Edges.{IsEdge}
 use Rattle.hm_tree_parts.specs.Lists.{IsNil, ListOf, an_item}
 use Rattle.hm_tree_parts.proofs.OneEdge.{below-edge}
 use Rattle.hm_tree_parts.proofs.OneList.{below-head, below-tail}
 use Rattle.hm_book_cards.proofs.CardLists.{Items, items_alike as items_of_list}
-use Rattle.hm_marks.specs.FolderTrees.{folder_name, url_name}
-use Rattle.hm_marks_schema.specs.Schema.{bar_name, other_name, marks_schema}
-use Rattle.hm_marks_schema.specs.Members.{IsAt, IsItemOf, AreFoldersOf, IsNextItem}
+use Rattle.hm_marks.specs.FolderTrees.{folder_name}
+use Rattle.hm_marks_schema.specs.Members.{IsAt, IsNextItem}
 use Rattle.hm_marks_schema.specs.Nesting.{at_folder, at_list, at_item, folders_in}
-use Rattle.hm_marks_schema.proofs.Nesting.{at_edge, by_edges, in_list, in_nil, in_link, in_folder, in_item, within_depth}
+use Rattle.hm_marks_schema.proofs.Nesting.{at_edge, by_edges, in_list, in_nil, in_folder, in_item, within_depth}
 use Rattle.hm_marks_schema.proofs.Nodes.{entries_alike}
-use Rattle.hm_marks_schema.proofs.ItemNodes.{item_alike}
-use Rattle.hm_marks_schema.proofs.TopNode.{top_alike}
-
-names_apart : url_name ≡ folder_name → ⊥
-names_apart e = let first : 117 ≡ 102 = ap (λ (n : Name). get_or n 0 0) e in omega (arith, first)
 
 -- what stands at a place of a tree
 abbrev Stands : ℕ → Name → Tree → Tree → Type 0
 Stands i k x t = slice_get (edges t) i ≡ Some (k, x)
-
--- ---- the two folders at the top
-
-module _ (t : Tree) (member : IsMemberTree marks_schema t) where
-  pub two_edges : length (edges t) ≡ 2
-  two_edges = ap length (top_alike.into t member).tree
-
-  pub the_two : (k j : Name) (b o : Tree) → Stands 0 k b t → Stands 1 j o t → AreFoldersOf t b o
-  the_two k j b o first second =
-      let h = top_alike.into t member in
-      let bars = ap (λ (e : Name × Tree). e.1) (same_Some (bar_name, h.bar_tree) (k, b) (sym (ap (λ es. slice_get es 0) h.tree) ∙ first)) in
-      let others = ap (λ (e : Name × Tree). e.1) (same_Some (other_name, h.other_tree) (j, o) (sym (ap (λ es. slice_get es 1) h.tree) ∙ second)) in
-      record {
-        tree = h.tree ∙ (λ i. (bar_name, bars i) ∷ (other_name, others i) ∷ []);
-        bar = subst (IsAt 1) bars h.bar;
-        other = subst (IsAt 1) others h.other;
-      }
 
 -- ---- the lists of a folder
 
@@ -107,33 +83,6 @@ pub rest_less : (rest item others : Tree) → IsNextItem rest item others → de
 rest_less rest item others next = depth_below _ rest others (below-tail item others rest next.is)
 
 -- ---- an item
-
-module _ (t : Tree) (member : IsAt 3 t) where
-  pub one_edge_here : length (edges t) ≡ 1
-  one_edge_here = go (item_alike.into t member)
-    where
-      go : IsItemOf (IsAt 1) (IsAt 4) t → length (edges t) ≡ 1
-      go (inl (u, is, at)) = ap length is
-      go (inr (v, is, at)) = ap length is
-
-  known : (n k : Name) (y x : Tree) → IsEdge n y t → Stands 0 k x t → (n ≡ k) × (y ≡ x)
-  known n k y x is at =
-      let same = same_Some (n, y) (k, x) (sym (ap (λ es. slice_get es 0) is) ∙ at) in
-      (ap (λ (e : Name × Tree). e.0) same, ap (λ (e : Name × Tree). e.1) same)
-
-  pub folder_here : (k : Name) (x : Tree) → Stands 0 k x t → k ≡ folder_name → IsEdge folder_name x t × IsAt 1 x
-  folder_here k x at named = go (item_alike.into t member)
-    where
-      go : IsItemOf (IsAt 1) (IsAt 4) t → IsEdge folder_name x t × IsAt 1 x
-      go (inl (u, is, here)) = let same = (known folder_name k u x is at).1 in (subst (λ z. IsEdge folder_name z t) same is, subst (IsAt 1) same here)
-      go (inr (v, is, here)) = absurd (names_apart ((known url_name k v x is at).0 ∙ named))
-
-  pub link_here : (k : Name) (x : Tree) → Stands 0 k x t → k ≢ folder_name → folders_in at_item t.shape ≡ 0
-  link_here k x at other = go (item_alike.into t member)
-    where
-      go : IsItemOf (IsAt 1) (IsAt 4) t → folders_in at_item t.shape ≡ 0
-      go (inl (u, is, here)) = absurd (other (sym (known folder_name k u x is at).0))
-      go (inr (v, is, here)) = in_link v t is
 
 pub folder_less : (u t : Tree) → IsEdge folder_name u t → depth u < depth t
 folder_less u t is = depth_below folder_name t u (below-edge folder_name u t is)

@@ -18,7 +18,7 @@ abbrev BothEdges : Tree → Tree → List (Name × Tree)
 BothEdges b o = (bar_name, b) ∷ (other_name, o) ∷ []
 
 -- the two trees are known from the whole
-both_known : (b o c p t : Tree) → edges t ≡ BothEdges b o → edges t ≡ BothEdges c p → (b ≡ c) × (o ≡ p)
+pub both_known : (b o c p t : Tree) → edges t ≡ BothEdges b o → edges t ≡ BothEdges c p → (b ≡ c) × (o ≡ p)
 both_known b o c p t e f =
     let same : BothEdges b o ≡ BothEdges c p = sym e ∙ f in
     let bars : ◌≡◌ {A = Name × Tree} (bar_name, b) (bar_name, c) = cc in

@@ -1,13 +1,14 @@
 -- The schema of bookmarks, its nodes numbered as a check numbers those of a view.
-use Rattle.std.specs.Prelude.{[], ◌∷◌, Some, None, codes}
+use Rattle.std.specs.Prelude.{[], ◌∷◌, Some, None, Result, codes}
 use Rattle.std.specs.FinSet.{from_list}
 use Rattle.hm_tree.specs.declared.class.Class.TheVariants.{Clean}
 use Rattle.hm_tree.specs.Names.{Name}
-use Rattle.hm_schema.specs.Values.{NodeValue, SchemaValue}
+use Rattle.hm_schema.specs.Values.{NodeValue, OptionsValue, SchemaValue}
 use Rattle.hm_schema.specs.OneName.{alone}
 use Rattle.hm_schema_lists.specs.Plain.{exact_shape}
 use Rattle.hm_schema_lists.specs.ListNodes.{empty_shape, item_shape}
 use Rattle.hm_book_cards.specs.Books.{id, open_node, list_node, empty_node}
+use Rattle.hm_format.specs.Options.{Rules, accepted, bad_key}
 use Rattle.hm_marks.specs.FolderTrees.{folder_name, url_name}
 
 -- the names of the two folders at the top
@@ -52,3 +53,11 @@ more_node = list_node (empty_shape ∷ item_shape ∷ []) 3 6
 
 abbrev pub marks_schema : SchemaValue
 marks_schema = record { nodes = top_node ∷ folder_node ∷ items_node ∷ item_node ∷ link_node ∷ empty_node ∷ more_node ∷ []; root = id 0 }
+
+-- a file of bookmarks has no options
+abbrev pub no_rules : Rules
+no_rules = []
+
+-- the schema of its trees, or the first key, where there is one
+abbrev pub schema_under : OptionsValue → Result SchemaValue Name
+schema_under o = accepted (bad_key no_rules o) marks_schema

@@ -1,16 +1,15 @@
 //! How many folders nest in a tree of bookmarks.
-ghost use Rattle.std.specs.Prelude.{◌≡◌, ◌<◌, ◌↔◌, IsTrue, MatchOption, Some, length, slice_get};
+ghost use Rattle.std.specs.Prelude.{◌≡◌, ◌<◌, MatchOption, Some, length, slice_get};
 ghost use Rattle.hm_tree.specs.Names.{Name as NameValue};
 ghost use Rattle.hm_tree.specs.Nodes.{edges};
 ghost use Rattle.hm_schema.specs.Membership.{IsMemberTree};
-ghost use Rattle.hm_tree_parts.specs.Edges.{IsEdge};
 ghost use Rattle.hm_tree_parts.specs.Lists.{IsNil, ListOf};
-ghost use Rattle.hm_marks.specs.FolderTrees.{folder_name};
 ghost use Rattle.hm_marks_schema.specs.Schema.{marks_schema};
-ghost use Rattle.hm_marks_schema.specs.Members.{IsAt, AreFoldersOf, IsNextItem};
+ghost use Rattle.hm_marks_schema.specs.Members.{IsAt, IsNextItem};
 ghost use Rattle.hm_marks_schema.specs.Nesting.{marks_over, folders_deep, folders_in, at_folder, at_list, at_item};
 
-use hm_tree::{DEEPEST, Name, Tree};
+use crate::parts::{ItemTree, folders_of, item_of};
+use hm_tree::{DEEPEST, Tree};
 
 /// So many folders may nest.
 pub const MOST_FOLDERS: usize = 50;
@@ -33,7 +32,7 @@ fn nested_in_both(tree: &Tree) -> usize
     requires { IsMemberTree marks_schema tree.now }
     ensures { result ≡ folders_deep tree.now }
 {
-    let (bar, other) = both_folders(tree);
+    let (bar, other) = folders_of(tree);
     nested_in_folder(bar).max(nested_in_folder(other))
 }
 
@@ -71,19 +70,13 @@ fn nested_in_item(item: &Tree) -> usize
     requires { IsAt 3 item.now }
     ensures { result ≡ folders_in at_item item.now.shape }
 {
-    let Some(folder) = folder_in(item) else {
-        return 0;
-    };
-    let _more = item.depth();
-    nested_in_folder(folder) + 1
-}
-
-// The two folders at the top.
-fn both_folders(tree: &Tree) -> (&Tree, &Tree)
-    requires { IsMemberTree marks_schema tree.now }
-    ensures { AreFoldersOf tree.now result.0.now result.1.now }
-{
-    (tree.edge(0).1, tree.edge(1).1)
+    match item_of(item) {
+        ItemTree::Folder(folder) => {
+            let _more = item.depth();
+            nested_in_folder(folder) + 1
+        }
+        ItemTree::Link(_) => 0,
+    }
 }
 
 // The list at a place of a folder.
@@ -105,20 +98,4 @@ fn next_item(list: &Tree) -> Option<(&Tree, &Tree)>
         return None;
     }
     Some((list.edge(0).1, list.edge(1).1))
-}
-
-// The folder that an item is; none where it is a link.
-fn folder_in(item: &Tree) -> Option<&Tree>
-    requires { IsAt 3 item.now }
-    ensures { MatchOption result (folders_in at_item item.now.shape ≡ 0) (λ folder. IsEdge folder_name folder.now item.now × IsAt 1 folder.now) }
-{
-    let (name, inside) = item.edge(0);
-    if is_folder(name) { Some(inside) } else { None }
-}
-
-// Whether a name is that of what stands in a folder.
-fn is_folder(name: &Name) -> bool
-    ensures { IsTrue result ↔ (name.now ≡ folder_name) }
-{
-    name.bytes() == b"folder".as_slice()
 }

@@ -1,11 +1,14 @@
 //! The schema of bookmarks.
 ghost use Rattle.std.specs.Prelude.{◌≡◌, [], ◌∷◌, map, IfOk};
 ghost use Rattle.hm_tree.specs.Names.{Name as NameValue};
-ghost use Rattle.hm_schema.specs.Values.{node_value};
+ghost use Rattle.hm_schema.specs.Values.{node_value, options_value};
+ghost use Rattle.hm_format.specs.Answers.{GivesSchema};
+ghost use Rattle.hm_format.specs.Options.{AreSound};
 ghost use Rattle.hm_marks_schema.specs.Schema as spec;
 
 use hm_book_cards::{empty_node, list_node, open_node, shape_of};
-use hm_schema::{Node, NodeId, Schema};
+use hm_format::{FormatFault, first_bad_key};
+use hm_schema::{Node, NodeId, Options, Schema};
 use hm_tree::{Class, Memory, Name};
 use std::alloc::Global;
 
@@ -16,6 +19,17 @@ pub fn marks_schema(alloc: Global) -> Result<Schema, Memory>
 {
     let nodes = marks_nodes(alloc)?;
     Ok(Schema::new(nodes, NodeId { place: 0 }))
+}
+
+/// The schema of the trees of a file of bookmarks, or the first key of its options, since it has none.
+pub fn schema_under(alloc: Global, options: &Options) -> Result<Schema, FormatFault>
+    requires { AreSound (options_value options.now) }
+    ensures { GivesSchema (spec.schema_under (options_value options.now)) result }
+{
+    match first_bad_key(alloc, &[], options)? {
+        Some(key) => Err(FormatFault::BadOption { key }),
+        None => Ok(marks_schema(alloc)?),
+    }
 }
 
 // Its nodes, numbered as a check numbers those of a view.

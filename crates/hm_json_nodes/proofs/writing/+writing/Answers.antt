@@ -21,10 +21,11 @@ use Rattle.serde_json.specs.View.{view, items_view}
 use Rattle.serde_json.specs.declared.value.Value.{Value}
 use Rattle.serde_json.proofs.Views.{view-Array, view-Object}
 use Rattle.hm_json_nodes.specs.Nodes.{json, AreNodes, children_key}
-use Rattle.hm_json_nodes.specs.Anew.{item_key, IsNodeAnew, Adds, HaveTaken}
+use Rattle.hm_marks_schema.specs.Taken.{HaveTaken}
+use Rattle.hm_json_nodes.specs.Anew.{item_key, item_entry, IsNodeAnew, Adds}
 use Rattle.hm_json_nodes.proofs.Left.{AreLeft, left_all, first_left, left_more, all_added, all_taken, over}
 use Rattle.hm_json_nodes.proofs.Spelling.{link_node, folder_node, adds_none, adds_more, adds_one, spelled_all}
-use Rattle.hm_json_nodes.proofs.Taking.{tree_for, keys_more, survives, goes, good_for, most_good, deep_in, next_fresh, next_added, less_than, lists_good, known_good, good_in, fresh_more, left_good}
+use Rattle.hm_marks_schema.proofs.Taking.{tree_for, keys_more, survives, goes, good_for, most_good, deep_in, next_fresh, next_added, less_than, lists_good, known_good, good_in, fresh_more, left_good}
 use Rattle.hm_json_nodes.proofs.writing.+writing.Goals as goal
 
 -- ---- one node
@@ -66,7 +67,7 @@ add_with_key-node_anew-requires t c =
 pub add_with_key-loop-tree-preserved : goal.add_with_key-loop-tree-preserved
 add_with_key-loop-tree-preserved t c =
     subst (Adds c.args.new.now.items c.push.new.self.items)
-    (fresh_more c.args.key.now c.args.trees.now c.loop-tree.tree-index c.tree-item.result c.loop-tree-test.true c.tree-item.is)
+    (fresh_more json c.args.key.now c.args.trees.now c.loop-tree.tree-index c.tree-item.result c.loop-tree-test.true c.tree-item.is)
     (adds_more c.args.new.now.items c.loop-tree.new.items c.push.new.self.items _ _ c.loop-tree.invariant
     (adds_one c.loop-tree.new.items c.push.new.self.items c.in_ok-node.node c.args.key.now None c.tree-item.result.now c.in_ok-push.ensures.items
     (c.in_ok-node.ensures None tt)))
@@ -103,7 +104,7 @@ add_new-loop-edge-preserved t c = λ lists before h.
     let l = get_or c.args.trees.now.lists.now c.loop-edge.edge c.index-trees-edge.result in
     let key = key_at c.args.trees.now lists (keys_of before) h.taken c.loop-edge.edge lt c.index-trees-edge.result l refl in
     subst (Adds c.args.new.now.items c.add_with_key.new.new.items)
-    (next_added before lists c.loop-edge.edge lt l.0.now (map (λ (b : Bor Tree). b.now) c.left.result.now) key (c.left.ensures lists (keys_of before) h.taken))
+    (next_added json before lists c.loop-edge.edge lt l.0.now (map (λ (b : Bor Tree). b.now) c.left.result.now) key (c.left.ensures lists (keys_of before) h.taken))
     (adds_more c.args.new.now.items c.loop-edge.new.items c.add_with_key.new.new.items _ _ (c.loop-edge.invariant lists before h) c.in_ok-add_with_key.ensures)
 
 pub add_new-returns : goal.add_new-returns
@@ -129,7 +130,7 @@ add_over-node_anew-requires t c =
 
 pub add_over-returns-in_ok-push-clause-taken : goal.add_over-returns-in_ok-push-clause-taken
 add_over-returns-in_ok-push-clause-taken t c = λ lists before item h is. record {
-  taken = subst (HasTaken c.next.new.self lists) (ap (λ (k : Name). keys_of before ++ k ∷ []) (c.in_ok-key.ensures.key item is) ∙ keys_more before item)
+  taken = subst (HasTaken c.next.new.self lists) (ap (λ (k : Name). keys_of before ++ k ∷ []) (c.in_ok-key.ensures.key item is) ∙ keys_more before (item_entry item))
       (c.in_ok-tree.ensures.taken lists (keys_of before) h.taken);
   good = h.good;
 }
@@ -138,13 +139,13 @@ pub add_over-returns-in_ok-push-clause-adds : goal.add_over-returns-in_ok-push-c
 add_over-returns-in_ok-push-clause-adds t c = λ lists before item h is.
     let key = c.in_ok-key.ensures.key item is in
     let took = subst (λ k. Some c.in-Some.tree.now ≡ tree_for lists before k) key (rw c.in-Some.is at (c.in_ok-tree.ensures.tree lists (keys_of before) h.taken)) in
-    subst (Adds c.args.new.now.items c.push.new.self.items) (sym (survives lists before item c.in-Some.tree.now took))
+    subst (Adds c.args.new.now.items c.push.new.self.items) (sym (survives json lists before (item_entry item) c.in-Some.tree.now took))
     (adds_one c.args.new.now.items c.push.new.self.items c.in_ok-node.node (item_key item) (Some item) c.in-Some.tree.now c.in_ok-push.ensures.items
     (subst (λ k. IsNodeAnew k (Some item) c.in-Some.tree.now (view c.in_ok-node.node)) key (c.in_ok-node.ensures (Some item) is)))
 
 pub add_over-returns-in_default-clause-taken : goal.add_over-returns-in_default-clause-taken
 add_over-returns-in_default-clause-taken t c = λ lists before item h is. record {
-  taken = subst (HasTaken c.next.new.self lists) (ap (λ (k : Name). keys_of before ++ k ∷ []) (c.in_ok-key.ensures.key item is) ∙ keys_more before item)
+  taken = subst (HasTaken c.next.new.self lists) (ap (λ (k : Name). keys_of before ++ k ∷ []) (c.in_ok-key.ensures.key item is) ∙ keys_more before (item_entry item))
       (c.in_ok-tree.ensures.taken lists (keys_of before) h.taken);
   good = h.good;
 }
@@ -153,7 +154,7 @@ pub add_over-returns-in_default-clause-adds : goal.add_over-returns-in_default-c
 add_over-returns-in_default-clause-adds t c = λ lists before item h is.
     let key = c.in_ok-key.ensures.key item is in
     let none = subst (λ k. None ≡ tree_for lists before k) key (rw c.in_default.is at (c.in_ok-tree.ensures.tree lists (keys_of before) h.taken)) in
-    subst (Adds c.args.new.now.items c.args.new.now.items) (sym (goes lists before item none)) (adds_none c.args.new.now.items)
+    subst (Adds c.args.new.now.items c.args.new.now.items) (sym (goes json lists before (item_entry item) none)) (adds_none c.args.new.now.items)
 
 pub add_old-loop-node-init : goal.add_old-loop-node-init
 add_old-loop-node-init t c = λ lists all h nodes.

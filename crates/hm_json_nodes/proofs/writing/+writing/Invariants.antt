@@ -10,7 +10,8 @@ use Rattle.hm_book_items.specs.Plans.{keys_of}
 use Rattle.hm_marks.specs.Pieces.{an_item}
 use Rattle.serde_json.specs.View.{items_view}
 use Rattle.hm_json_nodes.specs.Nodes.{Contents, AreNodes}
-use Rattle.hm_json_nodes.specs.Anew.{OldItem, Adds, HaveTaken}
+use Rattle.hm_marks_schema.specs.Taken.{HaveTaken}
+use Rattle.hm_json_nodes.specs.Anew.{OldItem, Adds}
 use Rattle.hm_json_nodes.proofs.Left.{AreLeft}
 use Rattle.hm_json_nodes.proofs.writing.+writing.Given as goal
 

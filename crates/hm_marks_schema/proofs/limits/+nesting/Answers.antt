@@ -1,4 +1,5 @@
-use Rattle.std.proofs.Common.{arith}
+use Rattle.std.proofs.Common.{sym, arith}
+use Rattle.hm_marks_schema.proofs.Nesting.{in_link}
 use Rattle.hm_marks_schema.proofs.Walks.{edge_less, one_place_more, all_places, one_ahead, none_ahead, item_less, rest_less, folder_less, one_more}
 use Rattle.hm_marks_schema.proofs.limits.+nesting.Goals as goal
 
@@ -18,16 +19,25 @@ nested_in_folder-returns t c =
 
 pub nested_in_item-nested_in_folder-requires : goal.nested_in_item-nested_in_folder-requires
 nested_in_item-nested_in_folder-requires t c =
-    let less = folder_less c.in-Some.folder.now c.args.item.now c.in-Some.ensures.0 in
-    (omega (arith, less, c.decreases), c.in-Some.ensures.1)
+    let is = rw c.in-Folder.is at c.item_of.ensures in
+    let less = folder_less c.in-Folder.folder.now c.args.item.now is.0 in
+    (omega (arith, less, c.decreases), is.1)
 
 pub nested_in_item-overflow_add-result : goal.nested_in_item-overflow_add-result
 nested_in_item-overflow_add-result t c =
-    let more = one_more c.in-Some.folder.now c.args.item.now c.nested_in_folder.result c.in-Some.ensures.0 c.nested_in_folder.ensures in
+    let is = rw c.in-Folder.is at c.item_of.ensures in
+    let more = one_more c.in-Folder.folder.now c.args.item.now c.nested_in_folder.result is.0 c.nested_in_folder.ensures in
     omega (arith, more.1, c.depth-more.ensures, c.depth-more.type_inv)
 
-pub nested_in_item-returns : goal.nested_in_item-returns
-nested_in_item-returns t c = (one_more c.in-Some.folder.now c.args.item.now c.nested_in_folder.result c.in-Some.ensures.0 c.nested_in_folder.ensures).0
+pub nested_in_item-returns-in-Folder : goal.nested_in_item-returns-in-Folder
+nested_in_item-returns-in-Folder t c =
+    let is = rw c.in-Folder.is at c.item_of.ensures in
+    (one_more c.in-Folder.folder.now c.args.item.now c.nested_in_folder.result is.0 c.nested_in_folder.ensures).0
+
+pub nested_in_item-returns-in-Link : goal.nested_in_item-returns-in-Link
+nested_in_item-returns-in-Link t c =
+    let is = rw c.in-Link.is at c.item_of.ensures in
+    sym (in_link is.0.value c.args.item.now is.0.below)
 
 pub nested_in_list-nested_in_item-requires : goal.nested_in_list-nested_in_item-requires
 nested_in_list-nested_in_item-requires t c =

@@ -6,5 +6,5 @@ use Rattle.hm_marks_schema.proofs.limits.nested_in_both.Goals as goal
 
 pub returns : goal.returns
 returns c =
-    let whole = by_edges at_top c.args.tree.now ∙ ap (most (at_edge at_top)) c.both_folders.ensures.tree in
+    let whole = by_edges at_top c.args.tree.now ∙ ap (most (at_edge at_top)) c.folders_of.ensures.tree in
     omega (arith, whole, c.max.ensures, c.nested_in_folder.ensures, c.nested_in_folder-2.ensures)

@@ -3,8 +3,8 @@ use Rattle.hm_tree.specs.Classes.{IsClean}
 use Rattle.hm_tree.specs.Nodes.{Tree}
 use Rattle.hm_marks.specs.FolderTrees.{IsLinkTree, IsFolderTree}
 use Rattle.hm_marks_schema.specs.Members.{IsAt}
-use Rattle.hm_json_nodes.specs.declared.item.ItemTree.{ItemTree}
-use Rattle.hm_json_nodes.specs.declared.item.ItemTree.TheVariants as item
+use Rattle.hm_marks_schema.specs.declared.parts.ItemTree.{ItemTree}
+use Rattle.hm_marks_schema.specs.declared.parts.ItemTree.TheVariants as item
 
 -- a folder in which is to stand what has this tree, or a link to this address
 abbrev pub IsItemTree : Tree → ItemTree → Type 0

@@ -1,6 +1,6 @@
 use Rattle.std.proofs.Common.{arith}
-use Rattle.hm_marks_schema.proofs.Walks.{two_edges, the_two}
-use Rattle.hm_marks_schema.proofs.limits.both_folders.Goals as goal
+use Rattle.hm_marks_schema.proofs.TreeParts.{two_edges, the_two}
+use Rattle.hm_marks_schema.proofs.parts.folders_of.Goals as goal
 
 pub edge-requires : goal.edge-requires
 edge-requires c = let two = two_edges c.args.tree.now c.requires in omega (arith, two)

@@ -1,7 +1,7 @@
 use Rattle.std.proofs.Common.{sym, ◌∙◌}
 use Rattle.hm_marks.specs.FolderTrees.{folder_name}
-use Rattle.hm_json_nodes.proofs.ItemEdges.{has_edge, a_folder_below, a_link_below, one_name, address_is, told_same, told_other}
-use Rattle.hm_json_nodes.proofs.item.item_of.Goals as goal
+use Rattle.hm_marks_schema.proofs.TreeParts.{has_edge, a_folder_below, a_link_below, one_name, address_is, told_same, told_other}
+use Rattle.hm_marks_schema.proofs.parts.item_of.Goals as goal
 
 pub edge-requires : goal.edge-requires
 edge-requires c = has_edge c.args.tree.now c.requires
