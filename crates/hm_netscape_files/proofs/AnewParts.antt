@@ -13,7 +13,7 @@ use Rattle.hm_netscape_entries.proofs.ReadAgain.{same_tree}
 
 -- ---- with notes without the white space at their end
 
-tidied_bar : (c : Contents) → bar_of (tidied c) ≡ tidied (bar_of c)
+pub tidied_bar : (c : Contents) → bar_of (tidied c) ≡ tidied (bar_of c)
 tidied_bar nothing = refl
 tidied_bar (link e c) = tidied_bar c
 tidied_bar (folder e inside c) = go (is_toolbar e.attributes) (tidied_bar c)
@@ -23,7 +23,7 @@ tidied_bar (folder e inside c) = go (is_toolbar e.attributes) (tidied_bar c)
     go false more = more
 tidied_bar (separator a c) = tidied_bar c
 
-tidied_other : (c : Contents) → other_of (tidied c) ≡ tidied (other_of c)
+pub tidied_other : (c : Contents) → other_of (tidied c) ≡ tidied (other_of c)
 tidied_other nothing = refl
 tidied_other (link e c) = ap (link (tidied_entry e)) (tidied_other c)
 tidied_other (folder e inside c) = go (is_toolbar e.attributes) (tidied_other c)

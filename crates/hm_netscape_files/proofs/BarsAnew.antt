@@ -17,7 +17,7 @@ use Rattle.hm_netscape_entries.specs.Entries.{html}
 use Rattle.hm_netscape_entries.specs.Toolbars.{is_toolbar, bar_of, other_of}
 use Rattle.hm_netscape_files.specs.Anew.{in_front_of_bar, bar_entry, new_bar, put_behind, is_something, with_bar}
 
-abbrev Pieces : Type 0
+abbrev pub Pieces : Type 0
 Pieces = List (Piece Entry Entry (List ℕ))
 
 no_toolbar : is_toolbar [] ≡ false
@@ -31,12 +31,12 @@ new_toolbar = refl
 -- ---- no piece is the bookmarks bar
 
 -- an item from before is none
-abbrev IsOther : Option (Item Entry Entry (List ℕ)) → Type 0
+abbrev pub IsOther : Option (Item Entry Entry (List ℕ)) → Type 0
 IsOther None = Unit {0}
 IsOther (Some (a_link e)) = Unit {0}
 IsOther (Some (a_folder e inside)) = is_toolbar e.attributes ≡ false
 
-abbrev AreOthers : Pieces → Type 0
+abbrev pub AreOthers : Pieces → Type 0
 AreOthers [] = Unit {0}
 AreOthers (an_item x ∷ ps) = IsOther x.1 × AreOthers ps
 AreOthers (a_separator a ∷ ps) = AreOthers ps
@@ -51,7 +51,7 @@ one_other k i None is = tt
 one_other k i (Some t) is = (is, tt)
 
 -- what stays of what stands in front of it
-front_others : (lists : Lists) (before : List (Name × Item Entry Entry (List ℕ))) (c : Contents) → AreOthers (staying html lists before (in_front_of_bar c))
+pub front_others : (lists : Lists) (before : List (Name × Item Entry Entry (List ℕ))) (c : Contents) → AreOthers (staying html lists before (in_front_of_bar c))
 front_others lists before nothing = tt
 front_others lists before (link e c) =
     let k = html.link_key e in
@@ -102,7 +102,7 @@ front_first lists before (separator a c) =
     let r = front_first lists before c in (r.0, ap (λ ps. a_separator a ∷ ps) r.1)
 
 -- what is made of an item that isn't the bookmarks bar isn't either
-made_other : (k : Name) (o : Option (Item Entry Entry (List ℕ))) → IsOther o → is_toolbar (folder_for html k o).attributes ≡ false
+pub made_other : (k : Name) (o : Option (Item Entry Entry (List ℕ))) → IsOther o → is_toolbar (folder_for html k o).attributes ≡ false
 made_other k None is = no_toolbar
 made_other k (Some (a_link e)) is = no_toolbar
 made_other k (Some (a_folder e inside)) is = is
@@ -158,7 +158,7 @@ added_others : (old : List (Name × Item Entry Entry (List ℕ))) (lists : Lists
 added_others old [] = tt
 added_others old (l ∷ lists) = fresh_before l.0 (drop (length (of_key name_cmp l.0 old)) l.1) (added name_cmp old lists) (added_others old lists)
 
-entry_toolbar : (c : Contents) (e : Entry) → bar_entry c ≡ Some e → is_toolbar e.attributes ≡ true
+pub entry_toolbar : (c : Contents) (e : Entry) → bar_entry c ≡ Some e → is_toolbar e.attributes ≡ true
 entry_toolbar nothing e is = absurd (none-some e is)
 entry_toolbar (link f c) e is = entry_toolbar c e is
 entry_toolbar (folder f inside c) e is = go (is_toolbar f.attributes) refl is (λ h. entry_toolbar c e h)

@@ -1,17 +1,25 @@
-mod HeadPlaces
+pub mod HeadPlaces
 mod Whites
 mod TailsRead
 mod Open
 mod Outermost
 mod Before
 mod ShownSoFar
-mod ListText
+pub mod ListText
+pub mod BarParts
+pub mod EntryTexts
 mod FileTexts
 mod WholeFiles
 pub mod ReadOnce
+mod SomeFolder
+pub mod SomeFile
 pub mod MemberTrees
-mod BarsAnew
+pub mod BarsAnew
 pub mod WholeAnew
+mod AddressTexts
+pub mod AnewTexts
+pub mod LaidTexts
 mod AnewHeads
-mod AnewParts
+pub mod AnewParts
 pub mod ReadAnew
+pub mod WritesOnce

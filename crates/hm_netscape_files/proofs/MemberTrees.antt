@@ -23,7 +23,7 @@ clean_texts (link e c) =
 clean_texts (folder e inside c) = (cleaned-cleaned (unescaped e.title), clean_texts inside, clean_texts c)
 clean_texts (separator a c) = (tt, clean_texts c)
 
-pub member : (bytes : List ℕ) (t : Tree) → NetscapeReads bytes (Ok t) → IsMemberTree marks_schema t
-member bytes t is =
+pub member_read : (bytes : List ℕ) (t : Tree) → NetscapeReads bytes (Ok t) → IsMemberTree marks_schema t
+member_read bytes t is =
     let c = is.0.contents in
     bookmarks_are_members html (bar_of c) (other_of c) t is.0.tree (clean_texts (bar_of c)) (clean_texts (other_of c))

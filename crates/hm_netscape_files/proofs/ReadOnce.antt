@@ -21,11 +21,11 @@ use Rattle.hm_netscape_files.specs.Files.{IsFile, IsFileOf, IsOver, IsBadItem, n
 
 -- ---- parts of a file
 
-one_head : (bytes : List ℕ) (m n : ℕ) → IsHead bytes m → IsHead bytes n → m ≡ n
+pub one_head : (bytes : List ℕ) (m n : ℕ) → IsHead bytes m → IsHead bytes n → m ≡ n
 one_head bytes m n one other = one_place bytes m n one.list one.first other
 
 -- what begins behind one head begins behind the other
-at_head : (bytes : List ℕ) (m n : ℕ) (c : Contents) (tail : List ℕ) → IsHead bytes m → IsHead bytes n → IsListOf (drop n bytes) c tail
+pub at_head : (bytes : List ℕ) (m n : ℕ) (c : Contents) (tail : List ℕ) → IsHead bytes m → IsHead bytes n → IsListOf (drop n bytes) c tail
     → IsListOf (drop m bytes) c tail
 at_head bytes m n c tail one other list = subst (λ k. IsListOf (drop k bytes) c tail) (sym (one_head bytes m n one other)) list
 
@@ -36,10 +36,10 @@ misfit_at bytes m n number one other misfit = subst (λ k. IsMisfit (drop k byte
 no_list : (list : List ℕ) (c : Contents) (tail : List ℕ) (number : ℕ) → IsListOf list c tail → IsMisfit list number → ⊥
 no_list list c tail number is misfit = no_misfit list tail number ((by_contents list tail).1 (c, is)) misfit
 
-one_tail : (list : List ℕ) (c d : Contents) (r s : List ℕ) → IsListOf list c r → IsListOf list d s → r ≡ s
+pub one_tail : (list : List ℕ) (c d : Contents) (r s : List ℕ) → IsListOf list c r → IsListOf list d s → r ≡ s
 one_tail list c d r s one other = one_rest list r s ((by_contents list r).1 (c, one)) ((by_contents list s).1 (d, other))
 
-file_once : (bytes : List ℕ) (c d : Contents) → IsFile bytes c → IsFile bytes d → c ≡ d
+pub file_once : (bytes : List ℕ) (c d : Contents) → IsFile bytes c → IsFile bytes d → c ≡ d
 file_once bytes c d one other =
     one_contents (drop one.head bytes) c d one.tail other.tail one.list (at_head bytes one.head other.head d other.tail one.head_is other.head_is other.list)
 

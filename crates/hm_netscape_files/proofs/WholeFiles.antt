@@ -17,13 +17,14 @@ use Rattle.hm_netscape_entries.specs.Toolbars.{bar_of, other_of}
 use Rattle.hm_netscape_files.specs.Shown.{shown_of}
 use Rattle.hm_netscape_files.specs.Files.{IsFileOf, NetscapeReads}
 use Rattle.hm_netscape_files.specs.Opened.{IsOpened, folders_within}
-use Rattle.hm_netscape_files.proofs.FileTexts.{file_texts, bar_texts, other_texts}
+use Rattle.hm_netscape_files.proofs.EntryTexts.{left_bytes}
+use Rattle.hm_netscape_files.proofs.FileTexts.{bar_texts, other_texts}
 
 module _ (bytes inside : List ℕ) (is : IsOpened bytes inside) where
   -- too many folders nest, whatever else there is
   pub nested : (n : ℕ) → n ≡ folders_within is.contents → most_folders < n → NetscapeReads bytes (Err (TooDeep n))
   nested n same over =
-      let texts = file_texts is.contents [] is.rest inside is.text is.left in
+      let texts = left_bytes is.contents [] is.rest inside is.text is.left in
       let bar = bar_of is.contents in
       let other = other_of is.contents in
       let some = tree_of_both html bar other (bar_texts is.contents texts) (other_texts is.contents texts) in

@@ -12,13 +12,13 @@
 //!
 //! Proved: `read_bookmarks` gives the tree of a file, or the one fault that it has (`specs/Files`): where bytes stop being
 //! UTF-8, the number of the first symbol that doesn't fit, how many folders nest where too many do, or else how deep the
-//! tree is where that is too deep. Whatever the bytes are, they have one answer at the most (`files_are_known`), and a tree
-//! is a member of the schema of bookmarks (`files_have_members`).
+//! tree is where that is too deep. Whatever the bytes are, they have one answer (`files_are_known`, `files_are_told`), and a
+//! tree is a member of the schema of bookmarks (`files_have_members`).
 //!
-//! What is written of a tree behind a file from before is told, and not made yet (`specs/Anew`, `specs/Writing`): the head and
+//! What is written of a tree behind a file from before is told here (`specs/Anew`, `specs/Writing`), and made above: the head and
 //! the tail stay, what stands in the bookmarks bar and what stands beside it is written anew as any folder, and the bar stays
-//! in its place. It shows the tree (`folders_show_their_tree`), and as far as it is a text it is read as the tree
-//! (`files_are_read_again`).
+//! in its place. It shows the tree (`folders_show_their_tree`) and is read as the tree (`files_are_read_again`). Behind each
+//! file there is one such text for each member of the schema (`files_are_written`, `files_are_written_once`).
 #![tactic(auto)]
 
 mod heads;
@@ -33,9 +33,10 @@ mod tests;
 
 pub use heads::head_len;
 pub use laws::{
-    files_are_known, files_are_read_again, files_have_members, folders_show_their_tree,
+    files_are_known, files_are_read_again, files_are_told, files_are_written,
+    files_are_written_once, files_have_members, folders_show_their_tree,
 };
-pub use nesting::folders_within;
+pub use nesting::{folders_within, nesting_in};
 pub use nodes::{Bookmarks, bookmarks_in};
 pub use opening::opened;
 pub use reading::read_bookmarks;

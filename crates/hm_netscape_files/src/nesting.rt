@@ -1,5 +1,5 @@
 //! How deep folders lie one within another.
-ghost use Rattle.std.specs.Prelude.{◌≡◌, ◌<◌, ◌+◌, ◌&&◌, not, length, false, ℕ, List};
+ghost use Rattle.std.specs.Prelude.{◌≡◌, ◌<◌, ◌+◌, ◌&&◌, not, length, false, ℕ, List, IsUtf8};
 ghost use Rattle.hm_marks_tokens.specs.Symbols.{Symbol as SeenSymbol, HasSymbols};
 ghost use Rattle.hm_marks_tokens.specs.Grammar.{Contents};
 ghost use Rattle.hm_netscape_entries.specs.Next.{IsLeft, IsInFolder};
@@ -44,11 +44,12 @@ pub(crate) fn is_bar(found: bool, attributes: &[u8]) -> bool
     !found && is_toolbar(attributes)
 }
 
-// How many lie one within another in a folder, and what stands behind its end. It isn't recursive, since they may be as many as
-// a file has room for.
-fn nesting_in(bytes: &[u8]) -> (usize, &[u8])
+/// How many folders lie one within another in a folder, and what stands behind its end. It isn't recursive, since they may be as
+/// many as a file has room for.
+pub fn nesting_in(bytes: &[u8]) -> (usize, &[u8])
     requires { IsInFolder bytes.now }
     ensures nesting { (c : Contents) (more : List SeenSymbol) (rest : List ℕ) → IsLeft bytes.now c more rest → (result.0 ≡ nesting c) × HasSymbols false result.1.now more rest }
+    ensures utf8 { IsUtf8 bytes.now → IsUtf8 result.1.now }
     ensures within { result.0 + length result.1.now < length bytes.now }
 {
     let mut rest = bytes;

@@ -7,6 +7,7 @@ use Rattle.hm_netscape_files.proofs.nesting.nesting_in.Goals as goal
 pub loop-within-init : goal.loop-within-init
 loop-within-init c = record {
   stands = λ d more rest left. is_open d c.args.bytes.now more rest left;
+  utf8 = λ u. u;
   room = omega arith;
   below = omega arith;
 }
@@ -23,12 +24,16 @@ returns-in-End-clause-nesting c = λ d more rest left.
     closed_all (nesting d) c.loop-within.within c.loop-within.deepest c.loop-within.rest.now more rest c.next_entry.result.1.now is
     (rw c.in-End.is at (c.next_entry.ensures.next is.first (open_symbols is.others more) rest is.left)) c.if-within-eq0.true
 
+pub returns-in-End-clause-utf8 : goal.returns-in-End-clause-utf8
+returns-in-End-clause-utf8 c = λ u. (c.next_entry.ensures.utf8 (c.loop-within.invariant.utf8 u)).1
+
 pub loop-within-preserved-in-End-2 : goal.loop-within-preserved-in-End-2
 loop-within-preserved-in-End-2 c = record {
   stands = λ d more rest left.
       let is = c.loop-within.invariant.stands d more rest left in
       closed_one (nesting d) c.loop-within.within c.loop-within.deepest c.loop-within.rest.now more rest c.next_entry.result.1.now is
       (rw c.in-End-2.is at (c.next_entry.ensures.next is.first (open_symbols is.others more) rest is.left)) (omega arith);
+  utf8 = λ u. (c.next_entry.ensures.utf8 (c.loop-within.invariant.utf8 u)).1;
   room = omega (arith, c.loop-within.invariant.room, c.next_entry.ensures.shorter);
   below = omega (arith, c.loop-within.invariant.below);
 }
@@ -41,6 +46,7 @@ loop-within-preserved-in-Folder c = record {
       (opened_one (nesting d) c.loop-within.within c.loop-within.deepest c.loop-within.rest.now more rest
       (entry_seen c.in-Folder.field-0 c.in-Folder.field-1 c.in-Folder.field-2) c.next_entry.result.1.now is
       (rw c.in-Folder.is at (c.next_entry.ensures.next is.first (open_symbols is.others more) rest is.left)));
+  utf8 = λ u. (c.next_entry.ensures.utf8 (c.loop-within.invariant.utf8 u)).1;
   room = omega (arith, c.loop-within.invariant.room, c.loop-within.invariant.below, c.next_entry.ensures.shorter, c.max-deepest.ensures);
   below = omega (arith, c.max-deepest.ensures);
 }
@@ -51,6 +57,7 @@ loop-within-preserved c = record {
       let is = c.loop-within.invariant.stands d more rest left in
       passed (nesting d) c.loop-within.within c.loop-within.deepest c.loop-within.rest.now more rest c.next_entry.result.0 c.in_default.not-End c.in_default.not-Folder
       c.next_entry.result.1.now is (c.next_entry.ensures.next is.first (open_symbols is.others more) rest is.left);
+  utf8 = λ u. (c.next_entry.ensures.utf8 (c.loop-within.invariant.utf8 u)).1;
   room = omega (arith, c.loop-within.invariant.room, c.next_entry.ensures.shorter);
   below = c.loop-within.invariant.below;
 }
