@@ -1,0 +1,8 @@
+mod Joining
+mod Staying
+mod Empty
+mod BarLeft
+mod Rooms
+mod Around
+mod Missing
+mod FileText
