@@ -1,0 +1,6 @@
+mod TidiedTwice
+mod TidiedKept
+mod BarKept
+mod KeptFiles
+pub mod Laws
+mod Examples
