@@ -15,6 +15,7 @@ use hm_csv::Csv;
 use hm_format::{Format, Plain};
 use hm_ical::ICalendar;
 use hm_json_marks::Chrome;
+use hm_netscape_marks::Netscape;
 use hm_outside::{FileStore, Sink, StdSink, Store};
 use hm_program::{boxed, words_of};
 use hm_text_kit::{date, email, trim, yes_no};
@@ -45,8 +46,9 @@ fn run_with<S: Store, K: Sink>(
 // The status of the words. Formats and text lenses are made where they are lent, since the gate takes no function that puts
 // something behind a trait and gives it out.
 fn status_of(alloc: Global, rt: &HostRuntime, words: &[Name]) -> Result<u8, Memory> {
-    let formats: [Box<dyn Format>; 5] = [
+    let formats: [Box<dyn Format>; 6] = [
         Box::new(alloc, Chrome::new())?,
+        Box::new(alloc, Netscape::new())?,
         Box::new(alloc, VCard::new())?,
         Box::new(alloc, ICalendar::new())?,
         Box::new(alloc, Csv::new())?,
