@@ -189,7 +189,6 @@ refuse_lens 'BadLens 6' "harmony lens 1\nformat tree root=R\n$EVERY_NODE\nmain=i
 
 refuse_lens 'UnknownFormat "abc"' 'harmony lens 1\nformat abc\nmain = id\n'
 refuse_lens 'UnknownFormat "Tree"' 'harmony lens 1\nformat Tree root=R\nnode R\n  shape\nmain = id\n'
-refuse_lens 'UnknownFormat "netscape"' 'harmony lens 1\nformat netscape\nmain = id\n'
 
 refuse_lens 'BadOption "root"' 'harmony lens 1\nformat tree\nnode R\n  shape\nmain = id\n'
 refuse_lens 'BadOption "root"' 'harmony lens 1\nformat tree root=S\nnode R\n  shape\nmain = id\n'
