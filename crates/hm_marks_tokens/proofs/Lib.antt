@@ -1,5 +1,7 @@
 mod Found
 pub mod NextTokens
+mod QuotedRuns
+mod Literal
 pub mod NextSymbols
 pub mod Attributed
 pub mod AttributesRead

@@ -1,7 +1,7 @@
 -- Characters that are spelled by entities: `&amp;`, `&lt;`, `&gt;`, `&quot;`, and `&#N;` with one to seven digits.
 use Rattle.std.specs.Prelude.{◌≡◌, ℕ, ◌+◌, ◌-◌, ◌*◌, zero, suc, Bool, false, cond, ◌&&◌, List, [], ◌∷◌, ◌++◌, take, slice_index, Option, Some, None, codes}
 use Rattle.std.specs.Bool.{◌==◌, nat_eq, nat_lt}
-use Rattle.std.specs.List.{flat_map, prefix_len, starts_with}
+use Rattle.std.specs.List.{flat_map, list_any, prefix_len, starts_with}
 use Rattle.std.specs.Char.{is_ascii_digit, encode_utf8}
 use Rattle.hm_marks_tokens.specs.Bytes.{less, greater, quote, has_less, has_quote}
 use lib.Utf8.{scalar}
@@ -9,6 +9,10 @@ use lib.Utf8.{scalar}
 -- `&`
 abbrev pub ampersand : ℕ
 ampersand = 38
+
+-- some of these bytes is `&`
+abbrev pub has_ampersand : List ℕ → Bool
+has_ampersand bytes = list_any (λ b. b == ampersand) bytes
 
 -- `;`
 abbrev pub semicolon : ℕ

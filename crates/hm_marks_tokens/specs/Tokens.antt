@@ -1,5 +1,5 @@
 -- The tokens that bytes begin with: tags, from `<` to the next `>` outside double quotes, and the texts between them.
-use Rattle.std.specs.Prelude.{◌≡◌, ◌≢◌, ℕ, ◌+◌, Bool, true, false, not, cond, ◌&&◌, List, [], ◌∷◌, ◌++◌}
+use Rattle.std.specs.Prelude.{◌≡◌, ◌≢◌, ℕ, ◌+◌, Bool, true, false, not, cond, ◌&&◌, ◌||◌, List, [], ◌∷◌, ◌++◌, drop}
 use Rattle.std.specs.Bool.{◌==◌}
 use Rattle.std.specs.List.{position_or_len}
 use Rattle.hm_marks_tokens.specs.Bytes.{less, greater, quote, has_less}
@@ -52,3 +52,11 @@ text_len bytes = position_or_len (λ b. b == less) bytes
 abbrev pub inside_len : Bool → List ℕ → ℕ
 inside_len quoted [] = 0
 inside_len quoted (b ∷ rest) = cond ((b == greater) && not quoted) 0 (1 + inside_len (toggled b quoted) rest)
+
+-- a run outside double quotes ends at this byte: the tag does, or a quote begins
+abbrev pub ends_run : ℕ → Bool
+ends_run b = (b == greater) || (b == quote)
+
+-- what stands behind the first `"`; nothing where there is none
+abbrev pub behind_quote : List ℕ → List ℕ
+behind_quote bytes = drop (position_or_len (λ b. b == quote) bytes + 1) bytes

@@ -1,11 +1,12 @@
 //! Characters that are spelled by entities (WHATWG HTML, section 13.1.4).
-ghost use Rattle.std.specs.Prelude.{◌≡◌, ◌++◌, ◌+◌, ◌<◌, ◌≤◌, IfOk, IfSome, IsUtf8, OnOk, length, true};
+ghost use Rattle.std.specs.Prelude.{◌≡◌, ◌↔◌, ◌++◌, ◌+◌, ◌<◌, ◌≤◌, IfOk, IfSome, IsTrue, IsUtf8, OnOk, length, false, true};
 ghost use Rattle.std.specs.Option.{option_map};
 ghost use Rattle.std.specs.Char.{encode_utf8, is_ascii_digit};
 ghost use Rattle.std.specs.List.{list_all, prefix_len};
-ghost use Rattle.hm_marks_tokens.specs.Entities.{decimal_behind, number_at, entity_at, read_byte, unescaped, escaped_byte, escaped, IsPlain};
+ghost use Rattle.hm_marks_tokens.specs.Entities.{has_ampersand, decimal_behind, number_at, entity_at, read_byte, unescaped, escaped_byte, escaped, IsPlain};
 
 use hm_tree::Memory;
+use memchr::memchr;
 use std::alloc::Global;
 
 /// Bytes with entities in place of `&`, `<`, `>` and `"`: they may stand in a title and between the quotes of an attribute,
@@ -57,6 +58,17 @@ pub fn unescape(alloc: Global, bytes: &[u8]) -> Result<Vec<u8>, Memory>
         rest = behind.split_at(skipped).1;
     }
     Ok(made)
+}
+
+/// Whether bytes have no `&`. Then they are read as they are.
+pub fn is_literal(bytes: &[u8]) -> bool
+    ensures ampersand { IsTrue result ↔ (has_ampersand bytes.now ≡ false) }
+    ensures read { IsTrue result → unescaped bytes.now ≡ bytes.now }
+{
+    match memchr(b'&', bytes) {
+        Some(_) => false,
+        None => true,
+    }
 }
 
 // Puts behind others what a byte is read as, by those behind it; gives how many of these are read with it.

@@ -51,7 +51,7 @@ mod tests;
 mod token;
 
 pub use attributes::{Attribute, Value, address, are_attributes, next_attribute};
-pub use entities::{add_escaped, escape, unescape};
+pub use entities::{add_escaped, escape, is_literal, unescape};
 pub use laws::{
     addresses_are_replaced, attributes_are_found, attributes_stand_in_tags, folders_are_known,
     folders_are_of_the_grammar, lines_are_read, symbols_are_known,

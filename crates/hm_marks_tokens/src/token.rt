@@ -1,10 +1,12 @@
 //! The token that bytes begin with.
-ghost use Rattle.std.specs.Prelude.{◌≡◌, ◌∷◌, ◌==◌, ◌&&◌, false, not, ◌<◌, length, IfSome, MatchOption};
-ghost use Rattle.hm_marks_tokens.specs.Bytes.{less, greater};
-ghost use Rattle.hm_marks_tokens.specs.Tokens.{tag, toggled, inside_len, text_len, IsNext, HasNone};
+ghost use Rattle.std.specs.Prelude.{◌≡◌, ◌≢◌, ◌∷◌, false, ◌<◌, ◌≤◌, length, ℕ, List, IfSome, MatchOption};
+ghost use Rattle.std.specs.List.{position_or_len};
+ghost use Rattle.hm_marks_tokens.specs.Bytes.{less, quote};
+ghost use Rattle.hm_marks_tokens.specs.Tokens.{tag, ends_run, behind_quote, inside_len, IsNext, HasNone};
 ghost use Rattle.hm_marks_tokens.specs.Lent.{token_seen};
 
 use crate::bytes::len_before;
+use memchr::memchr2;
 
 /// A tag or a text of a file.
 #[derive(Clone, Copy, Debug)]
@@ -42,30 +44,49 @@ fn next_tag(behind: &[u8]) -> Option<(&[u8], &[u8])>
     }
 }
 
-// How many bytes stand before the first `>` outside of double quotes, or before the end.
+// How many bytes stand before the first `>` outside of double quotes, or before the end. It is looked for from quote to quote.
 fn inside_len(bytes: &[u8]) -> usize
     ensures { result ≡ inside_len false bytes.now }
 {
-    let mut quoted = false;
-    for place in 0..bytes.len() {
-        if is_end(bytes[place], quoted) {
-            return place;
+    let mut rest = bytes;
+    loop {
+        let (_, end) = rest.split_at(unquoted_len(rest));
+        match begun_quote(end) {
+            Some(quoted) => rest = behind_quote(quoted),
+            None => return bytes.len() - end.len(),
         }
-        quoted = is_quoted_behind(bytes[place], quoted);
     }
-    bytes.len()
 }
 
-// Whether a byte is a `>` outside of double quotes.
-fn is_end(byte: u8, quoted: bool) -> bool
-    ensures { result ≡ ((byte == greater) && not quoted) }
+// What stands behind the `"` that bytes begin with; none where they begin with none.
+fn begun_quote(bytes: &[u8]) -> Option<&[u8]>
+    ensures { MatchOption result ((rest : List ℕ) → bytes.now ≢ quote ∷ rest) (λ quoted. bytes.now ≡ quote ∷ quoted.now) }
 {
-    byte == b'>' && !quoted
+    match bytes.split_first() {
+        Some((b'"', rest)) => Some(rest),
+        _ => None,
+    }
 }
 
-// Whether what stands behind a byte is inside of double quotes.
-fn is_quoted_behind(byte: u8, quoted: bool) -> bool
-    ensures { result ≡ toggled byte quoted }
+// How many bytes stand before the first `>` or `"`, or before the end.
+fn unquoted_len(bytes: &[u8]) -> usize
+    ensures len { result ≡ position_or_len ends_run bytes.now }
+    ensures within { result ≤ length bytes.now }
 {
-    if byte == b'"' { !quoted } else { quoted }
+    match memchr2(b'>', b'"', bytes) {
+        Some(place) => place,
+        None => bytes.len(),
+    }
+}
+
+// What stands behind the first `"`; nothing where there is none.
+fn behind_quote(bytes: &[u8]) -> &[u8]
+    ensures { result.now ≡ behind_quote bytes.now }
+{
+    let end = len_before(b'"', bytes);
+    if end < bytes.len() {
+        bytes.split_at(end + 1).1
+    } else {
+        b""
+    }
 }

@@ -6,7 +6,7 @@ ghost use Rattle.hm_marks_tokens.specs.Lent.{attribute_seen, value_seen};
 ghost use Rattle.hm_netscape_entries.specs.Entries as entries;
 ghost use Rattle.hm_netscape_entries.specs.Toolbars as toolbars;
 
-use hm_marks_tokens::{Attribute, Value, address, next_attribute, unescape};
+use hm_marks_tokens::{Attribute, Value, address, is_literal, next_attribute, unescape};
 use hm_tree::{Memory, Name};
 use std::alloc::Global;
 
@@ -15,6 +15,10 @@ pub fn text_of(alloc: Global, bytes: &[u8]) -> Result<Name, Memory>
     requires { IsUtf8 bytes.now }
     ensures { IfOk result (λ name. name ≡ entries.text_of bytes.now) }
 {
+    // Most have no entity.
+    if is_literal(bytes) {
+        return Name::cleaned_bytes(alloc, bytes);
+    }
     let text = unescape(alloc, bytes)?;
     Name::cleaned_bytes(alloc, &text)
 }
