@@ -3,6 +3,7 @@ pub mod Pieces
 pub mod ReadBack
 pub mod Sound
 pub mod Once
+pub mod Among
 mod KeptParts
 pub mod KeptContents
 pub mod KeptItself

@@ -9,12 +9,15 @@
 //! among them, and new items stand behind all (`specs/Pieces`). A link that survives gets another address where it has
 //! to, and a folder gets what it is to have in it in the same way; where a link is to be a folder, or a folder a link,
 //! a new one stands in its place (`specs/Writing`). What has to stay of a folder is said without that, of what stood in
-//! it and what does now (`specs/Kept`). This crate has definitions and theorems alone.
+//! it and what does now (`specs/Kept`). Which tree a folder may have is told of one link or folder after the other: each is
+//! among the items with its key, and there are no more keys than these (`specs/Among`). This crate has definitions and
+//! theorems alone.
 //!
 //! Proved, for each layout that reads what it makes: what is written anew for a tree shows this tree, at each depth
 //! (`put_get`, `proofs/ReadBack`), and may stand in a file where what stood before could (`anew_sound`,
 //! `proofs/Sound`); a folder has one tree at the most, and one folder at the most is written for a tree (`tree_once`,
-//! `anew_once`, `proofs/Once`); and all stays that has to (`anew_kept`, `proofs/KeptContents`): a link but for its
+//! `anew_once`, `proofs/Once`); a folder's tree has each link and each folder of it, so one that a tree lacks tells that it
+//! is another (`tree_has_all`, `proofs/Among`); and all stays that has to (`anew_kept`, `proofs/KeptContents`): a link but for its
 //! address, a folder but for what goes from it and comes into it, each separator in its place, and the order of what
 //! survives. A folder that stays as it is keeps all of itself (`keeps_itself`, `proofs/KeptItself`). Small folders in which
 //! one of these isn't kept are told apart (`proofs/Examples`).
