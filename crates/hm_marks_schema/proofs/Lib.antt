@@ -9,5 +9,6 @@ pub mod WholeFiles
 pub mod Nesting
 pub mod Walks
 pub mod TreeParts
+pub mod OneItem
 pub mod Utf8Keys
 pub mod Taking

@@ -3,13 +3,16 @@ use Rattle.std.proofs.Common.{◌≡◌, ℕ, ◌+◌, ◌<◌, ◌≤◌, max, 
 use denote.Param.Weighed.{most, most-append}
 use Rattle.std.proofs.lemmas.List.{take_all, take_more}
 use Rattle.std.proofs.lemmas.Option.{get_or_from_slice_get, slice_get_within}
+use Rattle.hm_tree.specs.Classes.{IsClean}
 use Rattle.hm_tree.specs.Names.{Name}
-use Rattle.hm_tree.specs.Nodes.{Tree, edges, depth}
+use Rattle.hm_tree.specs.Nodes.{Tree, below, edges, depth}
 use Rattle.hm_tree.proofs.Depths.{depth_edge, depth_below}
+use Rattle.hm_tree.proofs.Steps.{found_edge}
 use Rattle.hm_tree_parts.specs.Edges.{IsEdge}
 use Rattle.hm_tree_parts.specs.Lists.{IsNil, ListOf, an_item}
 use Rattle.hm_tree_parts.proofs.OneEdge.{below-edge}
 use Rattle.hm_tree_parts.proofs.OneList.{below-head, below-tail}
+use Rattle.hm_book_cards.proofs.BookTrees.{IsEntry}
 use Rattle.hm_book_cards.proofs.CardLists.{Items, items_alike as items_of_list}
 use Rattle.hm_marks.specs.FolderTrees.{folder_name}
 use Rattle.hm_marks_schema.specs.Members.{IsAt, IsNextItem}
@@ -32,6 +35,9 @@ pub list_here : (t : Tree) (i : ℕ) (k : Name) (x : Tree) → IsAt 1 t → Stan
 list_here t i k x member at =
     let entry = entries_alike.into t member i (k, x) (slice_get_within (edges t) i (k, x) at) in
     list_of x (subst (λ (e : Name × Tree). Items (IsAt 3) e.1) (get_or_from_slice_get (edges t) i (k, x) (k, x) at) entry.1)
+
+pub list_below : (t : Tree) (k : Name) (x : Tree) → IsAt 1 t → below k t ≡ Some x → ListOf (IsAt 3) x
+list_below t k x member at = list_of x (found_edge (IsEntry IsClean (IsAt 3)) k x (edges t) (entries_alike.into t member) at).1
 
 pub edge_less : (t : Tree) (i : ℕ) (k : Name) (x : Tree) → Stands i k x t → depth x < depth t
 edge_less t i k x at = depth_edge t i k x at

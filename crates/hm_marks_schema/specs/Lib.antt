@@ -4,3 +4,4 @@ pub mod Bookmarks
 pub mod Nesting
 pub mod ItemTrees
 pub mod Taken
+pub mod Sought

@@ -1,14 +1,14 @@
 //! How many folders nest in a tree of bookmarks.
-ghost use Rattle.std.specs.Prelude.{◌≡◌, ◌<◌, MatchOption, Some, length, slice_get};
+ghost use Rattle.std.specs.Prelude.{◌≡◌, ◌<◌, Some, length, slice_get};
 ghost use Rattle.hm_tree.specs.Names.{Name as NameValue};
 ghost use Rattle.hm_tree.specs.Nodes.{edges};
 ghost use Rattle.hm_schema.specs.Membership.{IsMemberTree};
-ghost use Rattle.hm_tree_parts.specs.Lists.{IsNil, ListOf};
+ghost use Rattle.hm_tree_parts.specs.Lists.{ListOf};
 ghost use Rattle.hm_marks_schema.specs.Schema.{marks_schema};
-ghost use Rattle.hm_marks_schema.specs.Members.{IsAt, IsNextItem};
+ghost use Rattle.hm_marks_schema.specs.Members.{IsAt};
 ghost use Rattle.hm_marks_schema.specs.Nesting.{marks_over, folders_deep, folders_in, at_folder, at_list, at_item};
 
-use crate::parts::{ItemTree, folders_of, item_of};
+use crate::parts::{ItemTree, folders_of, item_of, next_item};
 use hm_tree::{DEEPEST, Tree};
 
 /// So many folders may nest.
@@ -87,15 +87,4 @@ fn list_at(folder: &Tree, place: usize) -> &Tree
     ensures there { (k : NameValue) × (slice_get (edges folder.now) place ≡ Some (k, result.now)) }
 {
     folder.edge(place).1
-}
-
-// The first item of a list, and the list of the others; none where there is no item.
-fn next_item(list: &Tree) -> Option<(&Tree, &Tree)>
-    requires { ListOf (IsAt 3) list.now }
-    ensures { MatchOption result (IsNil list.now) (λ parts. IsNextItem list.now parts.0.now parts.1.now) }
-{
-    if list.count() == 0 {
-        return None;
-    }
-    Some((list.edge(0).1, list.edge(1).1))
 }

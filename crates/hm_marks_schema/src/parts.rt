@@ -1,7 +1,9 @@
 //! The parts of a tree of bookmarks.
+ghost use Rattle.std.specs.Prelude.{MatchOption};
 ghost use Rattle.hm_schema.specs.Membership.{IsMemberTree};
+ghost use Rattle.hm_tree_parts.specs.Lists.{IsNil, ListOf};
 ghost use Rattle.hm_marks_schema.specs.Schema.{marks_schema};
-ghost use Rattle.hm_marks_schema.specs.Members.{IsAt, AreFoldersOf};
+ghost use Rattle.hm_marks_schema.specs.Members.{IsAt, AreFoldersOf, IsNextItem};
 ghost use Rattle.hm_marks_schema.specs.ItemTrees.{IsItemTree};
 
 use hm_tree::{Name, Tree};
@@ -33,4 +35,15 @@ pub fn item_of(tree: &Tree) -> ItemTree<'_>
     } else {
         ItemTree::Link(value_of(below))
     }
+}
+
+// The first item of a list, and the list of the others; none where there is no item.
+pub(crate) fn next_item(list: &Tree) -> Option<(&Tree, &Tree)>
+    requires { ListOf (IsAt 3) list.now }
+    ensures { MatchOption result (IsNil list.now) (λ parts. IsNextItem list.now parts.0.now parts.1.now) }
+{
+    if list.count() == 0 {
+        return None;
+    }
+    Some((list.edge(0).1, list.edge(1).1))
 }
