@@ -8,6 +8,7 @@ mod ReadNodes
 pub mod OldNodes
 mod Spelling
 mod Left
+mod Sought
 pub mod Layouts
 pub mod Spelled
 pub mod NodesOnce

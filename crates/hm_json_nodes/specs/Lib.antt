@@ -3,3 +3,4 @@ pub mod Numbers
 pub mod Kinds
 pub mod Reading
 pub mod Anew
+pub mod Seeking
