@@ -11,3 +11,4 @@ mod WritesOnce
 mod SomeFile
 pub mod Laws
 mod WrittenRoots
+mod OtherFile

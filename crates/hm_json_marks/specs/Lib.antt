@@ -3,3 +3,4 @@ pub mod Files
 pub mod Writing
 pub mod Reading
 pub mod Rewriting
+pub mod Seeking

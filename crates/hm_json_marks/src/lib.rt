@@ -12,7 +12,9 @@
 //!
 //! Where the tree stays, so do the bytes. Else the file is written anew (`specs/Writing`): compact, the members of each
 //! object by their keys, with all as it was but for the children of folders, and for the address of a link that has
-//! another one. Where a browser keeps a checksum in its file, it is carried as it was.
+//! another one. Where a browser keeps a checksum in its file, it is carried as it was. The file from before is parsed
+//! once: its document is asked for the first difference from the tree, read as a tree only where that finds none, and
+//! written over.
 //!
 //! Proved: `Chrome` is the format of bookmark files of JSON: what a file is read as, and otherwise the one reason why it
 //! isn't, is told exactly (`specs/Files`); what is written of a tree is read as it; of what stood in the file all stays
@@ -23,6 +25,7 @@
 mod format;
 mod reading;
 mod roots;
+mod seeking;
 mod writing;
 
 pub use format::Chrome;

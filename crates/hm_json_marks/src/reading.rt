@@ -42,8 +42,8 @@ fn read_text(alloc: Global, text: &str) -> Result<Tree, FormatFault>
     }
 }
 
-// The same of a document.
-fn tree_of(alloc: Global, file: &Value) -> Result<Tree, FormatFault>
+/// The same of a document.
+pub(crate) fn tree_of(alloc: Global, file: &Value) -> Result<Tree, FormatFault>
     ensures { (bytes : List ℕ) → IsUtf8 bytes → IsDocument bytes (view file.now) → Reads (JsonReads bytes) result }
 {
     let Some((bar, other)) = roots_of(file) else {

@@ -1,5 +1,5 @@
 //! Files that are written anew.
-ghost use Rattle.std.specs.Prelude.{◌≡◌, ◌↔◌, IfOk, OnOk, None, Ok, IsTrue, IsUtf8};
+ghost use Rattle.std.specs.Prelude.{◌≡◌, ◌↔◌, ℕ, List, IfOk, OnOk, None, Ok, IsTrue, IsUtf8};
 ghost use Rattle.hm_tree.specs.Nodes.{Tree as TreeValue};
 ghost use Rattle.hm_format.specs.Answers.{Writes};
 ghost use Rattle.hm_schema.specs.Membership.{IsMemberTree};
@@ -14,7 +14,8 @@ ghost use Rattle.hm_json_marks.specs.Files.{IsFile, JsonReads};
 ghost use Rattle.hm_json_marks.specs.Writing.{IsWrittenAnew, JsonWrites};
 ghost use Rattle.hm_json_marks.specs.Rewriting.{HasRootAt, IsRootAnew, AreBothWritten, HasBothRoots, AreRootsWritten};
 
-use crate::reading::read_file;
+use crate::reading::tree_of;
+use crate::seeking::differs;
 use hm_format::FormatFault;
 use hm_json_documents::{read_document, write_document};
 use hm_json_nodes::{folder_written, replace, set};
@@ -32,20 +33,43 @@ pub(crate) fn write_file(alloc: Global, tree: &Tree, before: &[u8]) -> Result<Ve
     if let Some(depth) = over_limits(tree) {
         return Err(FormatFault::TooDeep { depth });
     }
-    if is_read_as(alloc, before, tree)? {
-        return Ok(copied(alloc, before)?);
+    match std::str::from_utf8(before) {
+        Ok(text) => Ok(text_for(alloc, tree, text)?),
+        Err(_) => unreachable!(),
     }
-    Ok(written_anew(alloc, tree, before)?)
 }
 
-// Whether a file that is read is read as a tree.
-fn is_read_as(alloc: Global, bytes: &[u8], tree: &Tree) -> Result<bool, Memory>
-    requires { (old : TreeValue) × JsonReads bytes.now (Ok old) }
-    ensures { IfOk result (λ same. IsTrue same ↔ JsonReads bytes.now (Ok tree.now)) }
+// The same of a text, for a tree within the limits.
+fn text_for(alloc: Global, tree: &Tree, text: &str) -> Result<Vec<u8>, Memory>
+    requires member { IsMemberTree marks_schema tree.now }
+    requires within { marks_over tree.now ≡ None }
+    requires read { (old : TreeValue) × JsonReads text.now (Ok old) }
+    ensures { IfOk result (λ bytes. JsonWrites tree.now text.now bytes.items) }
 {
-    match read_file(alloc, bytes) {
+    match read_document(alloc, text)? {
+        Some(file) => {
+            if is_read_as(alloc, &file, tree)? {
+                copied(alloc, text.as_bytes())
+            } else {
+                written_over(alloc, tree, text, file)
+            }
+        }
+        None => unreachable!(),
+    }
+}
+
+// Whether the document of a text that is read is read as a tree.
+fn is_read_as(alloc: Global, file: &Value, tree: &Tree) -> Result<bool, Memory>
+    requires member { IsMemberTree marks_schema tree.now }
+    requires read { (text : List ℕ) × (old : TreeValue) × IsDocument text (view file.now) × JsonReads text (Ok old) }
+    ensures { IfOk result (λ same. (text : List ℕ) → IsUtf8 text → IsDocument text (view file.now) → (IsTrue same ↔ JsonReads text (Ok tree.now))) }
+{
+    if differs(alloc, tree, file)? {
+        return Ok(false);
+    }
+    match tree_of(alloc, file) {
         Ok(old) => Ok(old.same(tree)),
-        // A file that is read has no other fault.
+        // What is read has no other fault.
         Err(_) => Err(Memory),
     }
 }
@@ -56,24 +80,7 @@ fn copied(alloc: Global, bytes: &[u8]) -> Result<Vec<u8>, Memory>
     Ok(Vec::from_slice(alloc, bytes)?)
 }
 
-// A file that is written anew for a tree within the limits.
-fn written_anew(alloc: Global, tree: &Tree, before: &[u8]) -> Result<Vec<u8>, Memory>
-    requires member { IsMemberTree marks_schema tree.now }
-    requires within { marks_over tree.now ≡ None }
-    requires utf8 { IsUtf8 before.now }
-    requires file { IsFile before.now }
-    ensures { IfOk result (λ bytes. IsWrittenAnew tree.now before.now bytes.items) }
-{
-    match std::str::from_utf8(before) {
-        Ok(text) => match read_document(alloc, text)? {
-            Some(file) => written_over(alloc, tree, text, file),
-            None => unreachable!(),
-        },
-        Err(_) => unreachable!(),
-    }
-}
-
-// The same over its document.
+// The text of a document that is written anew.
 fn written_over(alloc: Global, tree: &Tree, text: &str, file: Value) -> Result<Vec<u8>, Memory>
     requires member { IsMemberTree marks_schema tree.now }
     requires within { marks_over tree.now ≡ None }

@@ -6,7 +6,8 @@ use Rattle.hm_json_marks.proofs.ReadOnce.{read_once}
 use Rattle.hm_json_marks.proofs.writing.is_read_as.Goals as goal
 
 pub returns-in-Ok : goal.returns-in-Ok
-returns-in-Ok c = (
-  λ same. subst (λ (t : Tree). JsonReads c.args.bytes.now (Ok t)) (c.same.ensures.0 same) c.in-Ok.ensures,
-  λ read. c.same.ensures.1 (let one : ◌≡◌ {A = Result Tree FormatFault} (Ok c.in-Ok.old) (Ok c.args.tree.now) = read_once c.args.bytes.now (Ok c.in-Ok.old) (Ok c.args.tree.now) c.in-Ok.ensures read in cc),
-)
+returns-in-Ok c = λ text utf8 document.
+    let read = c.in-Ok.ensures text utf8 document in (
+      λ same. subst (λ (t : Tree). JsonReads text (Ok t)) (c.same.ensures.0 same) read,
+      λ also. c.same.ensures.1 (let one : ◌≡◌ {A = Result Tree FormatFault} (Ok c.in-Ok.old) (Ok c.args.tree.now) = read_once text (Ok c.in-Ok.old) (Ok c.args.tree.now) read also in cc),
+    )

@@ -1,15 +1,8 @@
-use Rattle.std.proofs.Common.{true≢false, sym, ◌∙◌, subst}
-use Rattle.hm_json_marks.specs.Writing.{JsonWrites, stays, anew}
+use Rattle.std.proofs.Common.{Ok, sym, subst}
+use Rattle.hm_json_marks.specs.Files.{JsonReads}
 use Rattle.hm_json_marks.proofs.writing.write_file.Goals as goal
 
-pub returns-then-branch : goal.returns-then-branch
-returns-then-branch c = (
-  sym c.over_limits.ensures ∙ c.in_default.is,
-  subst (JsonWrites c.args.tree.now c.args.before.now) (sym c.in_ok-copied.ensures) (stays (c.in_ok-is_read_as.ensures.0 c.if-branch.true)),
-)
-
-pub returns : goal.returns
-returns c = (
-  sym c.over_limits.ensures ∙ c.in_default.is,
-  anew (λ read. true≢false (sym (c.in_ok-is_read_as.ensures.1 read) ∙ c.if-branch.false)) c.in_ok-written_anew.ensures,
-)
+pub text_for-requires-clause-read : goal.text_for-requires-clause-read
+text_for-requires-clause-read c =
+    let old = c.requires.read.0 in
+    (old, subst (λ text. JsonReads text (Ok old)) (sym c.in-Ok.ensures.cases.0) c.requires.read.1)
