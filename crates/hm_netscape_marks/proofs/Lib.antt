@@ -1,3 +1,5 @@
+mod Passing
+mod Fronts
 mod TidiedTwice
 mod TidiedKept
 mod BarKept

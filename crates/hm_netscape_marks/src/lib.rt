@@ -22,14 +22,20 @@
 //! address, and a note loses the white space at its end. The bookmarks bar stays, even with nothing in it; where there was
 //! none, a new one stands first if something is to stand in it.
 //!
+//! Before a file is read as a whole, to compare its tree with the new one, its links and folders are sought in that, one after
+//! the other. The first that is certainly not there, or too few of them in a folder, tells that the file is to be written anew
+//! (`differing`, `seeking`). Of items with one key in one folder nothing is told.
+//!
 //! Proved: `Netscape` is the format of files of Netscape bookmarks. What a file is read as, and otherwise the one reason
 //! why it isn't, is told exactly; what is written of a tree is read as it; of what stood in the file all stays that
 //! `NetscapeKeeps` tells, links and folders by their names and places, and the bookmarks bar in its own (`specs/Kept`); and
-//! the bytes stay where nothing changes. It is lawful (`proofs/Laws`). What isn't kept is tried on small folders
-//! (`proofs/Examples`).
+//! the bytes stay where nothing changes. Where a difference was found before, the file isn't read as the tree (`differs`). It
+//! is lawful (`proofs/Laws`). What isn't kept is tried on small folders (`proofs/Examples`).
 #![tactic(auto)]
 
+mod differing;
 mod format;
+mod seeking;
 mod writing;
 
 pub use format::Netscape;

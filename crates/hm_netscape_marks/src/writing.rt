@@ -8,6 +8,7 @@ ghost use Rattle.hm_marks_schema.specs.Schema.{marks_schema};
 ghost use Rattle.hm_netscape_files.specs.Files.{NetscapeReads};
 ghost use Rattle.hm_netscape_files.specs.Writing.{NetscapeWrites};
 
+use crate::differing::differs;
 use hm_format::FormatFault;
 use hm_marks_schema::over_limits;
 use hm_netscape_files::read_bookmarks;
@@ -30,11 +31,15 @@ pub(crate) fn write_file(alloc: Global, tree: &Tree, before: &[u8]) -> Result<Ve
     Ok(written_anew(alloc, before, tree)?)
 }
 
-// Whether a file that is read is read as a tree.
+// Whether a file that is read is read as a tree. It is read as a whole only where no difference shows before.
 fn is_read_as(alloc: Global, bytes: &[u8], tree: &Tree) -> Result<bool, Memory>
-    requires { (old : TreeValue) × NetscapeReads bytes.now (Ok old) }
+    requires read { (old : TreeValue) × NetscapeReads bytes.now (Ok old) }
+    requires member { IsMemberTree marks_schema tree.now }
     ensures { IfOk result (λ same. IsTrue same ↔ NetscapeReads bytes.now (Ok tree.now)) }
 {
+    if differs(alloc, bytes, tree)? {
+        return Ok(false);
+    }
     match read_bookmarks(alloc, bytes) {
         Ok(old) => Ok(old.same(tree)),
         // A file that is read has no other fault.

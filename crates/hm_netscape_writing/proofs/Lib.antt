@@ -1,4 +1,4 @@
-mod Joining
+pub mod Joining
 mod Staying
 mod Empty
 mod BarLeft
