@@ -1,5 +1,5 @@
 pub mod Marks
-mod Forced
+pub mod Forced
 pub mod Best
 pub mod Settled
 pub mod OneSided
