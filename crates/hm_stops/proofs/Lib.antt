@@ -1,0 +1,4 @@
+mod From
+pub mod Again
+pub mod Reasons
+mod Examples
