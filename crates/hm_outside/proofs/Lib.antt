@@ -1,4 +1,5 @@
-mod Contents
+pub mod Contents
 pub mod Risen
 mod Compared
 mod Files
+mod InMemory

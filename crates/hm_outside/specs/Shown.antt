@@ -3,7 +3,6 @@ use Rattle.std.specs.Prelude.{ℕ, List, length}
 use Rattle.hm_outside.specs.Contents.{Contents}
 use Rattle.hm_outside.specs.Files.{contents_of}
 use Rattle.hm_outside.specs.declared.memory.MemStore.{MemStore}
-use Rattle.hm_outside.specs.declared.memory.MemSink.{MemSink}
 use Rattle.hm_outside.specs.declared.outside.Failure.{Failure}
 use Rattle.hm_outside.specs.declared.file.FileStore.{FileStore}
 use Rattle.hm_outside.specs.declared.output.StdSink.{StdSink}
@@ -11,10 +10,6 @@ use Rattle.hm_outside.specs.declared.output.StdSink.{StdSink}
 -- what a store in memory holds
 abbrev pub stored_in : MemStore → Contents
 stored_in store = contents_of store.files
-
--- what was written into a sink in memory
-abbrev pub written_to : MemSink → List ℕ
-written_to sink = sink.bytes.items
 
 -- the calls of a store of real files that failed
 abbrev pub failed_calls : {R File Dir : Type 0} → FileStore R File Dir → List Failure

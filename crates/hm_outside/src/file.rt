@@ -1,13 +1,14 @@
 //! Real files. The system is trusted with them, and no contract tells what is in them.
-ghost use Rattle.std.specs.Prelude.{◌≡◌, ℕ, ◌<◌, ◌++◌, ◌∷◌, [], None, Some, IfOk, IfSome, OnOk, length, vec_len, vec_capacity};
+ghost use Rattle.std.specs.Prelude.{◌≡◌, ℕ, ◌<◌, None, Some, IfOk, IfSome, length, vec_len};
 ghost use Rattle.hm_outside.specs.Answers.{IsWithin, LoadsFrom};
 
+use crate::failing::{entry_for, note};
 use crate::kind::{metadata_of, open_file};
 use crate::outside::{Failure, Kind, Loaded, Store, Stored};
 use crate::path::{follow, has_folder, is_absent};
 use crate::replace::{is_held, write_file};
 use crate::seen::{Seen, Stamp, is_another, is_changed, is_loaded, keep, room_for};
-use hm_tree::{Memory, Name};
+use hm_tree::Name;
 use std::alloc::{AllocError, Global};
 use std::fs::OpenFile;
 use std::io::{ErrorKind, Read};
@@ -53,27 +54,6 @@ impl<R: Files + Drop> FileStore<R> {
             seen: Vec::new(alloc),
         }
     }
-}
-
-// The entry of a call that may fail, with room for it in the list.
-fn entry_for(failed: &mut Vec<Failure>, kind: Kind, name: &Name) -> Result<Failure, Memory>
-    ensures same { failed.new.items ≡ failed.old.items }
-    ensures room { OnOk result (vec_len failed.new < vec_capacity failed.new) }
-    ensures entry { IfOk result (λ entry. (entry.kind ≡ kind) × (entry.name ≡ name.now)) }
-{
-    failed.reserve(1)?;
-    Ok(Failure {
-        kind,
-        name: name.copy()?,
-    })
-}
-
-// Puts an entry behind the others, for which there is room.
-fn note(failed: &mut Vec<Failure>, entry: Failure)
-    requires { vec_len failed.old < vec_capacity failed.old }
-    ensures { failed.new.items ≡ failed.old.items ++ entry ∷ [] }
-{
-    failed.push(entry).unwrap();
 }
 
 // Room for one piece.

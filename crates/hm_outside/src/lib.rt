@@ -8,14 +8,17 @@
 //! known here.
 //!
 //! Proved: stores and sinks meet their traits: what a load tells, what a replace leaves, and that a failure is told
-//! where the list of failed calls grew, and only there. `MemStore` and `MemSink` tell what they hold. Of what
+//! where the list of failed calls grew, and only there. `MemStore` and `MemSink` tell what they hold, and of them calls can
+//! be made to fail, by their numbers: just these do, and leave what was said (`specs/InMemory`). Of what
 //! `FileStore` has seen of files it is decided exactly whether one was loaded, under another name, or in another state
 //! (`specs/Seen`), and whether a reader gives just these bytes.
 #![tactic(auto)]
 
+mod failing;
 mod file;
 mod kind;
 mod memory;
+mod numbered;
 mod output;
 mod outside;
 mod path;

@@ -1,33 +1,61 @@
-//! A store and a sink in memory, which tell all that is in them.
-ghost use Rattle.std.specs.Prelude.{◌≡◌, Some, None, [], ◌++◌, ℕ, OnOk, OnErr, List};
-ghost use Rattle.hm_outside.specs.Contents.{replaced};
+//! A store and a sink in memory, which tell all that is in them, and of which calls can be made to fail.
+ghost use Rattle.std.specs.Prelude.{◌≡◌, ◌≢◌, ◌<◌, ◌≤◌, cond, length, Some, OnErr, OnOk};
+ghost use Rattle.hm_outside.specs.Answers.{IsWithin, LoadsFrom, ReplacesIn, PutsAfter};
+ghost use Rattle.hm_outside.specs.Contents.{held, replaced};
+ghost use Rattle.hm_outside.specs.Failures.{Extends, HasRisen};
 ghost use Rattle.hm_outside.specs.Files.{contents_of};
+ghost use Rattle.hm_outside.specs.InMemory.{mem_store, mem_sink, noted, LoadsAs, ReplacesAs, PutsAs};
+ghost use Rattle.hm_outside.specs.declared.outside.Kind.TheVariants.{Load, Replace};
 
-use crate::outside::{Loaded, Put, Sink, Store, Stored};
-use hm_tree::Name;
+use crate::failing::{entry_for, note};
+use crate::numbered::Numbered;
+use crate::outside::{Failure, Kind, Loaded, Put, Sink, Store, Stored};
+use hm_tree::{Memory, Name};
 use std::alloc::{AllocError, Global};
 use std::collections::BTreeMap;
 
-/// A store in memory, of which no call fails.
+/// A store in memory. Its loads and its replaces are numbered from 1 on, each kind by itself, and no call fails but those
+/// that are to. A call that runs out of memory isn't counted.
 #[derive(Drop)]
 pub struct MemStore {
     alloc: Global,
     files: BTreeMap<String, Vec<u8>>,
+    failed: Vec<Failure>,
+    loads: Numbered,
+    replaces: Numbered,
 }
 
 impl MemStore {
-    ghost use Rattle.hm_outside.specs.Shown.{stored_in};
-    ghost use Rattle.hm_outside.specs.Contents.{nothing_held};
-    ghost use Rattle.std.specs.Prelude.{◌≡◌};
+    ghost use Rattle.hm_outside.specs.InMemory.{mem_store, empty_store, with_failing_load, with_failing_replace};
+    ghost use Rattle.std.specs.Prelude.{◌≡◌, OnErr, OnOk};
 
-    /// A store that holds nothing.
+    /// A store that holds nothing, and of which no call is to fail.
     pub fn empty(alloc: Global) -> MemStore
-        ensures { stored_in result ≡ nothing_held }
+        ensures { mem_store result ≡ empty_store }
     {
         MemStore {
             alloc,
             files: BTreeMap::new(alloc),
+            failed: Vec::new(alloc),
+            loads: Numbered::new(alloc),
+            replaces: Numbered::new(alloc),
         }
+    }
+
+    /// Lets the load of a number fail.
+    pub fn fail_load(&mut self, number: u64) -> Result<(), Memory>
+        ensures named { OnOk result (mem_store self.new ≡ with_failing_load number (mem_store self.old)) }
+        ensures same { OnErr result (mem_store self.new ≡ mem_store self.old) }
+    {
+        Ok(self.loads.name(number, false)?)
+    }
+
+    /// Lets the replace of a number fail, and says whether the new bytes stand then. What is said last of a number counts.
+    pub fn fail_replace(&mut self, number: u64, written: bool) -> Result<(), Memory>
+        ensures named { OnOk result (mem_store self.new ≡ with_failing_replace number written (mem_store self.old)) }
+        ensures same { OnErr result (mem_store self.new ≡ mem_store self.old) }
+    {
+        Ok(self.replaces.name(number, written)?)
     }
 }
 
@@ -46,70 +74,218 @@ fn put_file(
     Ok(())
 }
 
-impl Store for MemStore {
-    ghost contents = { λ s. Some (contents_of s.files) };
-
-    ghost failed = { λ _. [] };
-
-    fn load(&mut self, name: &Name, limit: usize) -> Loaded {
-        match self.files.get(name.text()) {
-            None => Loaded::Absent,
-            Some(bytes) => {
-                if bytes.len() > limit {
-                    return Loaded::Large;
-                }
-                match bytes.to_vec(self.alloc) {
-                    Ok(copy) => Loaded::Bytes(copy),
-                    Err(_) => Loaded::Memory,
-                }
+// What a load that doesn't fail answers.
+fn load_from(alloc: Global, files: &BTreeMap<String, Vec<u8>>, name: &Name, limit: usize) -> Loaded
+    ensures within { IsWithin limit result }
+    ensures calm { result ≢ Loaded.Failed }
+    ensures told { LoadsFrom (held (contents_of files.now) name.now) limit result }
+{
+    match files.get(name.text()) {
+        None => Loaded::Absent,
+        Some(bytes) => {
+            if bytes.len() > limit {
+                return Loaded::Large;
+            }
+            match bytes.to_vec(alloc) {
+                Ok(copy) => Loaded::Bytes(copy),
+                Err(_) => Loaded::Memory,
             }
         }
     }
+}
 
-    fn replace(&mut self, name: &Name, bytes: &[u8]) -> Stored {
-        match put_file(self.alloc, &mut self.files, name, bytes) {
-            Ok(()) => Stored::Done,
-            Err(_) => Stored::Memory,
+// Notes a call that fails.
+fn failed_call(failed: &mut Vec<Failure>, kind: Kind, name: &Name) -> Result<(), Memory>
+    ensures noted { OnOk result (failed.new.items ≡ noted kind name.now failed.old.items) }
+    ensures same { OnErr result (failed.new.items ≡ failed.old.items) }
+{
+    let entry = entry_for(failed, kind, name)?;
+    note(failed, entry);
+    Ok(())
+}
+
+// Puts the bytes under the name if that was said, and notes the call, which fails. Where memory runs out, nothing changes.
+fn failed_replace(
+    alloc: Global,
+    files: &mut BTreeMap<String, Vec<u8>>,
+    failed: &mut Vec<Failure>,
+    name: &Name,
+    bytes: &[u8],
+    written: bool,
+) -> Result<(), Memory>
+    ensures contents { OnOk result (contents_of files.new ≡ cond written (replaced (contents_of files.old) name.now bytes.now) (contents_of files.old)) }
+    ensures noted { OnOk result (failed.new.items ≡ noted Replace name.now failed.old.items) }
+    ensures same_contents { OnErr result (contents_of files.new ≡ contents_of files.old) }
+    ensures same { OnErr result (failed.new.items ≡ failed.old.items) }
+{
+    let entry = entry_for(failed, Kind::Replace, name)?;
+    if written {
+        put_file(alloc, files, name, bytes)?;
+    }
+    note(failed, entry);
+    Ok(())
+}
+
+impl MemStore {
+    ghost use Rattle.hm_outside.specs.Answers.{IsWithin};
+    ghost use Rattle.hm_outside.specs.InMemory.{mem_store, LoadsAs, ReplacesAs};
+
+    // The load of a name, which fails where it is to.
+    fn load_next(&mut self, name: &Name, limit: usize) -> Loaded
+        ensures loads { LoadsAs name.now limit (mem_store self.old) result (mem_store self.new) }
+        ensures within { IsWithin limit result }
+    {
+        let answer = match self.loads.next() {
+            None => load_from(self.alloc, &self.files, name, limit),
+            Some(_) => match failed_call(&mut self.failed, Kind::Load, name) {
+                Ok(()) => Loaded::Failed,
+                Err(_) => Loaded::Memory,
+            },
+        };
+        if let Loaded::Memory = answer {
+            return Loaded::Memory;
+        }
+        self.loads.count();
+        answer
+    }
+
+    // The replace of a name, which fails where it is to.
+    fn replace_next(&mut self, name: &Name, bytes: &[u8]) -> Stored
+        ensures { ReplacesAs name.now bytes.now (mem_store self.old) result (mem_store self.new) }
+    {
+        match self.replaces.next() {
+            None => {
+                if put_file(self.alloc, &mut self.files, name, bytes).is_err() {
+                    return Stored::Memory;
+                }
+                self.replaces.count();
+                Stored::Done
+            }
+            Some(written) => {
+                let failed = failed_replace(
+                    self.alloc,
+                    &mut self.files,
+                    &mut self.failed,
+                    name,
+                    bytes,
+                    written,
+                );
+                if failed.is_err() {
+                    return Stored::Memory;
+                }
+                self.replaces.count();
+                Stored::Failed
+            }
         }
     }
 }
 
-/// A sink in memory, of which no call fails.
+impl Store for MemStore {
+    ghost contents = { λ s. Some (contents_of s.files) };
+
+    ghost failed = { λ s. s.failed.items };
+
+    // As the trait says, and `loads`: it fails exactly where it is to.
+    fn load(&mut self, name: &Name, limit: usize) -> Loaded
+        ensures loads { LoadsAs name.now limit (mem_store self.old) result (mem_store self.new) }
+        ensures contents { Some (contents_of self.new.files) ≡ Some (contents_of self.old.files) }
+        ensures failed { Extends self.old.failed.items self.new.failed.items }
+        ensures cause { result ≡ Loaded.Failed → HasRisen Load name.now self.old.failed.items self.new.failed.items }
+        ensures calm { result ≢ Loaded.Failed → self.new.failed.items ≡ self.old.failed.items }
+        ensures within { IsWithin limit result }
+        ensures told { LoadsFrom (held (contents_of self.old.files) name.now) limit result }
+    {
+        self.load_next(name, limit)
+    }
+
+    // As the trait says, and `replaces`: it fails exactly where it is to, and leaves what was said then.
+    fn replace(&mut self, name: &Name, bytes: &[u8]) -> Stored
+        ensures replaces { ReplacesAs name.now bytes.now (mem_store self.old) result (mem_store self.new) }
+        ensures failed { Extends self.old.failed.items self.new.failed.items }
+        ensures cause { result ≡ Stored.Failed → HasRisen Replace name.now self.old.failed.items self.new.failed.items }
+        ensures calm { result ≢ Stored.Failed → self.new.failed.items ≡ self.old.failed.items }
+        ensures told { ReplacesIn (contents_of self.old.files) name.now bytes.now result (Some (contents_of self.new.files)) }
+    {
+        self.replace_next(name, bytes)
+    }
+}
+
+/// A sink in memory. Its puts are numbered from 1 on, and none fails but those that are to. A put that runs out of memory
+/// isn't counted.
 #[derive(Drop)]
 pub struct MemSink {
     bytes: Vec<u8>,
+    // The number of each put that failed.
+    faults: Vec<u64>,
+    puts: Numbered,
 }
 
 impl MemSink {
-    ghost use Rattle.hm_outside.specs.Shown.{written_to};
-    ghost use Rattle.std.specs.Prelude.{◌≡◌, []};
+    ghost use Rattle.hm_outside.specs.InMemory.{mem_sink, empty_sink, with_failing_put, PutsAs};
+    ghost use Rattle.std.specs.Prelude.{◌≡◌, OnErr, OnOk};
 
-    /// A sink with nothing written.
+    /// A sink with nothing written, and of which no put is to fail.
     pub fn empty(alloc: Global) -> MemSink
-        ensures { written_to result ≡ [] }
+        ensures { mem_sink result ≡ empty_sink }
     {
         MemSink {
             bytes: Vec::new(alloc),
+            faults: Vec::new(alloc),
+            puts: Numbered::new(alloc),
         }
+    }
+
+    /// Lets the put of a number fail.
+    pub fn fail_put(&mut self, number: u64) -> Result<(), Memory>
+        ensures named { OnOk result (mem_sink self.new ≡ with_failing_put number (mem_sink self.old)) }
+        ensures same { OnErr result (mem_sink self.new ≡ mem_sink self.old) }
+    {
+        Ok(self.puts.name(number, false)?)
     }
 
     /// All that was written.
     pub fn bytes(&self) -> &[u8]
-        ensures { result.now ≡ written_to self.now }
+        ensures { result.now ≡ (mem_sink self.now).written }
     {
         &self.bytes
+    }
+
+    // The put of a piece, which fails where it is to.
+    fn put_next(&mut self, piece: &[u8]) -> Put
+        ensures { PutsAs piece.now (mem_sink self.old) result (mem_sink self.new) }
+    {
+        match self.puts.next() {
+            None => {
+                if self.bytes.extend_from_slice(piece).is_err() {
+                    return Put::Memory;
+                }
+                self.puts.count();
+                Put::Done
+            }
+            Some(_) => {
+                if self.faults.push(self.puts.count).is_err() {
+                    return Put::Memory;
+                }
+                self.puts.count();
+                Put::Failed
+            }
+        }
     }
 }
 
 impl Sink for MemSink {
     ghost written = { λ s. Some s.bytes.items };
 
-    ghost faults = { λ _. 0 };
+    ghost faults = { λ s. length s.faults.items };
 
-    fn put(&mut self, piece: &[u8]) -> Put {
-        match self.bytes.extend_from_slice(piece) {
-            Ok(()) => Put::Done,
-            Err(_) => Put::Memory,
-        }
+    // As the trait says, and `puts`: it fails exactly where it is to, and nothing is written then.
+    fn put(&mut self, piece: &[u8]) -> Put
+        ensures puts { PutsAs piece.now (mem_sink self.old) result (mem_sink self.new) }
+        ensures faults { length self.old.faults.items ≤ length self.new.faults.items }
+        ensures cause { result ≡ Put.Failed → length self.old.faults.items < length self.new.faults.items }
+        ensures calm { result ≢ Put.Failed → length self.new.faults.items ≡ length self.old.faults.items }
+        ensures told { PutsAfter self.old.bytes.items piece.now result (Some self.new.bytes.items) }
+    {
+        self.put_next(piece)
     }
 }

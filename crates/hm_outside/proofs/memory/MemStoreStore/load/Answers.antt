@@ -1,12 +1,7 @@
-use Rattle.std.proofs.Common.{rules}
-use Rattle.hm_outside.proofs.Files.{held-contents_of}
+use Rattle.hm_outside.specs.InMemory.{mem_store}
+use Rattle.hm_outside.proofs.InMemory.{load_rises}
 use Rattle.hm_outside.proofs.memory.MemStoreStore.load.Goals as goal
 
-pub returns-then-len-limit-clause-told : goal.returns-then-len-limit-clause-told
-returns-then-len-limit-clause-told c = rw held-contents_of (search rules)
-
-pub returns-in-None-clause-told : goal.returns-in-None-clause-told
-returns-in-None-clause-told c = rw held-contents_of (search rules)
-
-pub returns-in-Ok-clause-told : goal.returns-in-Ok-clause-told
-returns-in-Ok-clause-told c = rw held-contents_of (search rules)
+pub returns-clause-cause : goal.returns-clause-cause
+returns-clause-cause c =
+    load_rises c.args.name.now c.args.limit (mem_store c.args.self.now) (mem_store c.load_next.new.self) c.load_next.result c.load_next.ensures.loads
