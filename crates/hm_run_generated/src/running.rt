@@ -5,6 +5,7 @@ ghost use Rattle.hm_run_files.specs.Steps.{Computes};
 ghost use Rattle.hm_run_handed.specs.Handed.{handed_in};
 ghost use Rattle.hm_run_sides.specs.Sides.{seen};
 ghost use Rattle.hm_outside.specs.Shown.{stored_in};
+ghost use Rattle.hm_run_generated.specs.Calm.{calmed};
 ghost use Rattle.hm_run_generated.specs.Stored.{names_value, store_names, generated_contents};
 ghost use Rattle.hm_run_generated.specs.Generating.{Generates};
 
@@ -18,6 +19,17 @@ use hm_run_sync::plan;
 use hm_run_words::Output;
 use std::alloc::Global;
 
+// A call of a store in memory fails where it is to, and in no other case; here none is to, so a fault is no other answer than want
+// of memory.
+fn calm<T>(made: Result<T, Stop>) -> Result<T, Stop>
+    ensures { result ≡ calmed made }
+{
+    match made {
+        Err(Stop::Fault(_, _)) => Err(Stop::Memory),
+        made => made,
+    }
+}
+
 // The same over a store that holds these files under these names, and nothing else.
 fn run_over(
     alloc: Global,
@@ -30,9 +42,9 @@ fn run_over(
     requires store { stored_in store.now ≡ generated_contents number }
     ensures { Computes (Generates (handed_in given.entry means meaning) number) (seen output_value result) }
 {
-    let loads = load_all(alloc, store, &names.slots())?;
+    let loads = calm(load_all(alloc, store, &names.slots()))?;
     let (news, summary) = plan(alloc, names.written(), given, loads)?;
-    write_all(store, &news)?;
+    calm(write_all(store, &news))?;
     let text = numbers_line(alloc, number, &summary)?;
     Ok(Output { status: 0, text })
 }
