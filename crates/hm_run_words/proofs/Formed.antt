@@ -71,7 +71,7 @@ request_formed words r e = go (line_of words) e
     go None e = absurd (let no : ⊥ = cc in no)
     go (Some line) e = asked_formed line.quiet line.words r e
 
-meant_formed : (words : List Name) (r : RequestValue) → meaning words ≡ Ok r → length r.files ≡ length (slots_of r.command)
+pub meant_formed : (words : List Name) (r : RequestValue) → meaning words ≡ Ok r → length r.files ≡ length (slots_of r.command)
 unfolding meaning
 meant_formed words r e = go (request_of words) refl e
   where

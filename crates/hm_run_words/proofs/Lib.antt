@@ -2,3 +2,4 @@ mod Behind
 mod SamePairs
 mod Meanings
 mod Formed
+pub mod Apart
