@@ -2,3 +2,4 @@ mod Lists
 pub mod Steps
 mod Loading
 mod Writing
+pub mod Rewriting
