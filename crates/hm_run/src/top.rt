@@ -6,6 +6,7 @@ ghost use Rattle.hm_run_handed.specs.Handed.{handed};
 ghost use Rattle.hm_run_words.specs.declared.ending.Ending.{Ending as EndingOf};
 ghost use Rattle.hm_run_words.specs.Lines.{status_of};
 ghost use Rattle.hm_run.specs.Endings.{HasPut, EndsAs, AsksFor, IsSynchronised, IsReported, IsShown, IsComplete};
+ghost use Rattle.hm_run.specs.Stops.{ComesToOneEnd};
 
 use crate::acting::carry_out;
 use hm_format::Format;
@@ -65,6 +66,10 @@ pub fn run<S: Store, K: Sink>(
 
     // Where nothing outside fails, what can be done is, and what is refused is refused for this cause, unless memory runs out.
     ensures complete { S.failed store.new ≡ S.failed store.old → K.faults out.new ≡ K.faults out.old → WhereTold (S.contents store.old) (λ c. IsComplete (handed (λ b. means b) formats.now (map (λ b. meaning b) texts.now)) words.now c result (S.contents store.new)) }
+
+    // Wherever `sync` stops, it has carried out its plan as far as some file; and the same run again, from there or from any other
+    // such stop, is refused nothing and comes to the same files, with conflicts at the same paths. `plan` finds the same there.
+    ensures again { AsksFor words.now Sync ⊎ AsksFor words.now Plan → ComesToOneEnd (handed (λ b. means b) formats.now (map (λ b. meaning b) texts.now)) words.now (S.contents store.old) (S.contents store.new) }
 {
     let work = carry_out(alloc, words, store, HandedIn { formats, texts });
     let put = put_output(alloc, &work, out);

@@ -3,6 +3,7 @@ use Rattle.hm_run_words.specs.declared.ending.Ending.{Ending}
 use Rattle.hm_run_handed.specs.Handed.{Handed, handed}
 use Rattle.hm_run.specs.Endings.{Outside, EndsAs}
 use Rattle.hm_run.proofs.Relied.{relied, relied_untouched}
+use Rattle.hm_run.proofs.StopStates.{may_go_on}
 use Rattle.hm_run.proofs.top.run.Goals as goal
 
 pub returns : goal.returns
@@ -31,4 +32,5 @@ returns g c =
       refused = all.refused;
       untouched = relied_untouched hand ending c.args.words.now before after so;
       complete = all.complete;
+      again = may_go_on hand c.args.words.now before.contents after.contents before.failed after.failed ending.work so.works;
     }
