@@ -10,6 +10,8 @@ use crate::texts::schema_text;
 use hm_csv::Csv;
 use hm_format::{Format, FormatFault, Plain};
 use hm_ical::ICalendar;
+use hm_json_marks::Chrome;
+use hm_netscape_marks::Netscape;
 use hm_outside::Store;
 use hm_schema::{Options, Schema};
 use hm_tree::{Memory, Name, Tree};
@@ -76,6 +78,8 @@ fn by_name(
     requires { AreSound (options_value options.now) }
 {
     match format {
+        "chrome" => Ok(Some(told(alloc, &Chrome::new(), options, question)?)),
+        "netscape" => Ok(Some(told(alloc, &Netscape::new(), options, question)?)),
         "vcard" => Ok(Some(told(alloc, &VCard::new(), options, question)?)),
         "icalendar" => Ok(Some(told(alloc, &ICalendar::new(), options, question)?)),
         "csv" => Ok(Some(told(alloc, &Csv::new(), options, question)?)),
