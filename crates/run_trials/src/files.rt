@@ -30,18 +30,20 @@ fn hold(store: &mut MemStore, name: &Name, bytes: &[u8]) -> Result<(), Memory> {
     }
 }
 
-/// Puts what a folder has under these names into a store.
+/// Puts what a folder has under these names into a store. Gives how many files these are.
 pub fn load_named<S: Store>(
     folder: &mut S,
     names: &[Name],
     store: &mut MemStore,
-) -> Result<(), Memory> {
+) -> Result<u64, Memory> {
+    let mut held: u64 = 0;
     for name in names {
         if let Some(bytes) = load(folder, name)? {
             hold(store, name, &bytes)?;
+            held = held.saturating_add(1);
         }
     }
-    Ok(())
+    Ok(held)
 }
 
 // What became of a file that a folder has as it was before.

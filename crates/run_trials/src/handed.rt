@@ -3,6 +3,8 @@
 use hm_csv::Csv;
 use hm_format::{Format, Plain};
 use hm_ical::ICalendar;
+use hm_json_marks::Chrome;
+use hm_netscape_marks::Netscape;
 use hm_outside::{Sink, Store};
 use hm_text_kit::{date, email, trim, yes_no};
 use hm_text_lens::TextLens;
@@ -23,7 +25,9 @@ pub fn run_with_all<S: Store, K: Sink>(
     store: &mut S,
     out: &mut K,
 ) -> Result<u8, Memory> {
-    let formats: [Box<dyn Format>; 4] = [
+    let formats: [Box<dyn Format>; 6] = [
+        Box::new(alloc, Chrome::new())?,
+        Box::new(alloc, Netscape::new())?,
         Box::new(alloc, VCard::new())?,
         Box::new(alloc, ICalendar::new())?,
         Box::new(alloc, Csv::new())?,

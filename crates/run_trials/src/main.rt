@@ -6,12 +6,18 @@
 //! `NAME is absent`, `NAME stays` where it has the bytes from before, or `NAME becomes`, with the bytes that it has now
 //! in the lines below. `tests/run-cases` runs it.
 //!
+//! In front of a run's words may stand `load N`, `replace N`, `replace-new N` and `put N`, by which its call of this kind and
+//! number fails, a replace with the bytes from before or the new ones; and behind these `again`, by which the same is told
+//! of the same run behind it.
+//!
 //! Proved: that what it calls is called as the contracts ask. Nothing is said of what it prints.
 #![tactic(auto)]
 
+mod faults;
 mod files;
 mod handed;
 
+use crate::faults::{take_again, take_fault};
 use crate::files::{load_named, tell_named};
 use crate::handed::run_with_all;
 use hm_outside::{FileStore, MemSink, MemStore, Put, Sink, StdSink, Store};
@@ -54,19 +60,37 @@ fn told(alloc: Global, output: &[u8], status: u8) -> Result<Vec<u8>, Memory> {
     Ok(text)
 }
 
-// The same of a run of these words over a store.
-fn run_over(alloc: Global, words: &[Name], store: &mut MemStore) -> Result<Vec<u8>, Memory> {
-    let mut out = MemSink::empty(alloc);
-    let status = run_with_all(alloc, words, store, &mut out)?;
+// The same of a run of these words over a store and a sink.
+fn run_over(
+    alloc: Global,
+    words: &[Name],
+    store: &mut MemStore,
+    out: &mut MemSink,
+) -> Result<Vec<u8>, Memory> {
+    let status = run_with_all(alloc, words, store, out)?;
     told(alloc, out.bytes(), status)
 }
 
-// What is printed of a run of these words over the files of a folder.
+// What is printed of a run of these words over the files of a folder, and of the same run behind it.
 fn report<S: Store>(alloc: Global, words: &[Name], folder: &mut S) -> Result<Vec<u8>, Memory> {
     let mut store = MemStore::empty(alloc);
-    load_named(folder, words, &mut store)?;
-    let mut text = run_over(alloc, words, &mut store)?;
+    let mut out = MemSink::empty(alloc);
+    let held = load_named(folder, words, &mut store)?;
+    let mut rest = words;
+    for _ in words {
+        if let Some(behind) = take_fault(rest, held, &mut store, &mut out)? {
+            rest = behind;
+        }
+    }
+    let again = take_again(rest);
+    let words = again.unwrap_or(rest);
+    let mut text = run_over(alloc, words, &mut store, &mut out)?;
     tell_named(&mut text, folder, written(words), &mut store)?;
+    if again.is_some() {
+        let mut out = MemSink::empty(alloc);
+        text.extend_from_slice(&run_over(alloc, words, &mut store, &mut out)?)?;
+        tell_named(&mut text, folder, written(words), &mut store)?;
+    }
     Ok(text)
 }
 
