@@ -2,9 +2,13 @@
 brought together of which each has a change. What must come of it is what docs/FORMATS.md says."""
 import csv
 import hashlib
+import html.parser
 import io
+import json
 import os
 import re
+import shutil
+import sqlite3
 import subprocess
 import sys
 import tempfile
@@ -13,6 +17,7 @@ import icalendar
 import vobject
 
 import lines
+import marks
 import tables
 
 program, folder, verdicts = sys.argv[1:4]
@@ -144,7 +149,55 @@ def by_csv(data):
     return [row for row in csv.reader(io.StringIO(data.decode("utf-8-sig"), newline="")) if row]
 
 
+class Links(html.parser.HTMLParser):
+    """The links of a page: the title of each, and its address."""
+
+    def __init__(self):
+        super().__init__()
+        self.found, self.inside = [], False
+
+    def handle_starttag(self, tag, attrs):
+        if tag == "a":
+            self.found.append(("", dict(attrs)["href"]))
+            self.inside = True
+
+    def handle_endtag(self, tag):
+        self.inside = self.inside and tag != "a"
+
+    def handle_data(self, data):
+        if self.inside:
+            self.found[-1] = (self.found[-1][0] + data, self.found[-1][1])
+
+
+def by_html_parser(data):
+    page = Links()
+    page.feed(data.decode("utf-8-sig"))
+    page.close()
+    return page.found
+
+
+def by_json(data):
+    def of(node):
+        here = [(node["name"], node["url"])] if node.get("type") == "url" else []
+        return here + [link for child in node.get("children", []) for link in of(child)]
+
+    return [link for root in json.loads(data)["roots"].values() if isinstance(root, dict) for link in of(root)]
+
+
+def by_buku(data):
+    """What it imports: links of one address are one."""
+    with tempfile.TemporaryDirectory() as home:
+        write(home, "exported.html", data)
+        words = ["buku", "--nostdin", "--tacit", "--import", "exported.html"]
+        subprocess.run(words, cwd=home, env={**os.environ, "XDG_DATA_HOME": home}, stdin=subprocess.DEVNULL,
+                       capture_output=True, timeout=120, check=True)
+        with sqlite3.connect(os.path.join(home, "buku", "bookmarks.db")) as store:
+            return store.execute("select metadata, URL from bookmarks order by id").fetchall()
+
+
 READERS = {
+    "netscape": [("html.parser", by_html_parser)] + [("buku", by_buku)] * bool(shutil.which("buku")),
+    "chrome": [("json", by_json)],
     "cards": [("vobject", by_vobject)],
     "events": [("icalendar", by_icalendar), ("vobject", by_vobject)],
     "records": [("csv", by_csv)],
@@ -156,6 +209,10 @@ READERS = {
 def form_of(path, data):
     if path.endswith(".csv"):
         return tables.Table(data)
+    if path.endswith("Bookmarks"):
+        return marks.Kept()
+    if b"NETSCAPE-Bookmark-file" in data or path.endswith(".htm"):
+        return marks.Exported()
     return lines.Lines("events" if path.endswith(".ics") else "cards")
 
 
