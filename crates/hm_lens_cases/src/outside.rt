@@ -47,6 +47,18 @@ fn a_store_gives_what_it_was_given(rt: HostRuntime) -> Result<(), Fail> {
 }
 
 #[test]
+fn room_is_no_file_and_takes_the_bytes(rt: HostRuntime) -> Result<(), Fail> {
+    let alloc = rt.alloc();
+    let mut store = MemStore::empty(alloc);
+    let name = Name::from_text(alloc, "a")?;
+    store.reserve(&name, 100)?;
+    assert_eq!(rt; load(&mut store, "a", 100, alloc)?.0, "absent");
+    assert_eq!(rt; store.replace(&name, [b'x'; 100].as_slice()), Stored::Done);
+    assert_eq!(rt; load(&mut store, "a", 100, alloc)?.1.len(), 100);
+    Ok(())
+}
+
+#[test]
 fn a_sink_holds_its_pieces_in_order(rt: HostRuntime) {
     let mut sink = MemSink::empty(rt.alloc());
     for piece in ["one ", "", "two"] {

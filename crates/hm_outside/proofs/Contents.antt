@@ -1,6 +1,6 @@
 -- What a look-up finds in contents, which look-ups alone tell apart.
 use Rattle.std.proofs.Common.{◌≡◌, ℕ, List, Some, None, cond, ap, ◌∙◌, refl, ◌≢◌}
-use Rattle.std.specs.FinMap.{get, get-empty, get-insert, same_map, IsAntisymmetric, nat_cmp-IsAntisymmetric, slice_cmp-IsAntisymmetric}
+use Rattle.std.specs.FinMap.{get, get-empty, get-insert, get-remove, same_map, IsAntisymmetric, nat_cmp-IsAntisymmetric, slice_cmp-IsAntisymmetric}
 use Rattle.std.specs.Cmp.{IsTotalOrder}
 use Rattle.std.specs.Ordering.{eq_by_cmp}
 use Rattle.std.specs.Str.{bytes_eq}
@@ -9,7 +9,7 @@ use Rattle.std.proofs.lemmas.Map.Text.{is_eq-slice_cmp}
 use Rattle.std.proofs.lemmas.Slice.Eq.{bytes_eq-Decides}
 use Rattle.std.proofs.lemmas.Bool.{false_from_ne_true}
 use Rattle.hm_tree.specs.Names.{Name, name_cmp}
-use Rattle.hm_outside.specs.Contents.{Contents, nothing_held, held, replaced}
+use Rattle.hm_outside.specs.Contents.{Contents, nothing_held, held, replaced, removed}
 
 pub name_cmp_total : IsTotalOrder name_cmp
 unfolding name_cmp
@@ -33,6 +33,12 @@ pub held-replaced : (contents : Contents) (name : Name) (bytes : List ℕ) (othe
 unfolding held replaced
 held-replaced contents name bytes other = get-insert name_cmp_total contents name bytes other
     ∙ ap (λ b. cond b (Some bytes) (get contents other)) (eq_by_cmp-name_cmp other name)
+
+pub held-removed : (contents : Contents) (name other : Name)
+    → held (removed contents name) other ≡ cond (bytes_eq other name) None (held contents other)
+unfolding held removed
+held-removed contents name other = get-remove name_cmp_total contents name other
+    ∙ ap (λ b. cond b None (get contents other)) (eq_by_cmp-name_cmp other name)
 
 -- the name has the new bytes after a replace
 pub held-replaced_same : (contents : Contents) (name : Name) (bytes : List ℕ) → held (replaced contents name bytes) name ≡ Some bytes

@@ -1,5 +1,5 @@
 pub mod Contents
 pub mod Risen
 mod Compared
-mod Files
+mod Places
 mod InMemory

@@ -1,5 +1,5 @@
 -- A store and a sink in memory: what they hold, and what their calls answer, by what was said of those that are to fail.
-use Rattle.std.specs.Prelude.{◌≡◌, ℕ, ◌+◌, Bool, false, cond, List, [], ◌∷◌, ◌++◌, length, Some, None}
+use Rattle.std.specs.Prelude.{◌≡◌, ℕ, ◌+◌, Bool, false, cond, List, [], ◌∷◌, ◌++◌, length, Option, Some, None}
 use Rattle.hm_tree.specs.Names.{Name}
 use Rattle.hm_outside.specs.declared.memory.MemStore.{MemStore}
 use Rattle.hm_outside.specs.declared.memory.MemSink.{MemSink}
@@ -13,33 +13,40 @@ use Rattle.hm_outside.specs.declared.outside.Stored.TheVariants as stored
 use Rattle.hm_outside.specs.declared.outside.Put.{Put}
 use Rattle.hm_outside.specs.declared.outside.Put.TheVariants as put
 use Rattle.hm_outside.specs.Contents.{Contents, nothing_held, held, replaced}
-use Rattle.hm_outside.specs.Files.{contents_of}
+use Rattle.hm_outside.specs.Room.{contents_of, room_sizes, HasRoom, RoomsStay}
 use Rattle.hm_outside.specs.Answers.{LoadsFrom}
 use Rattle.hm_outside.specs.Numbered.{Calls, numbered, no_calls, next_naming, counted, failing}
 
 -- ---- a store
 
--- what it holds, the calls that failed, and the calls of each kind
+-- what it holds, the room of each name that has some, the calls that failed, and the calls of each kind
 pub record StoreValue : Type 0 where
   pub contents : Contents
+  pub rooms : Name → Option ℕ
   pub failed : List Failure
   pub loads : Calls
   pub replaces : Calls
 
 abbrev pub mem_store : MemStore → StoreValue
-mem_store s = record { contents = contents_of s.files; failed = s.failed.items; loads = numbered s.loads; replaces = numbered s.replaces }
+mem_store s = record {
+  contents = contents_of s.rooms;
+  rooms = room_sizes s.rooms;
+  failed = s.failed.items;
+  loads = numbered s.loads;
+  replaces = numbered s.replaces;
+}
 
 abbrev pub empty_store : StoreValue
-empty_store = record { contents = nothing_held; failed = []; loads = no_calls; replaces = no_calls }
+empty_store = record { contents = nothing_held; rooms = λ _. None; failed = []; loads = no_calls; replaces = no_calls }
 
 -- the load of a number is to fail
 abbrev pub with_failing_load : ℕ → StoreValue → StoreValue
-with_failing_load number s = record { contents = s.contents; failed = s.failed; loads = failing number false s.loads; replaces = s.replaces }
+with_failing_load number s = record { contents = s.contents; rooms = s.rooms; failed = s.failed; loads = failing number false s.loads; replaces = s.replaces }
 
 -- the replace of a number is to fail, and the new bytes stand then, or don't
 abbrev pub with_failing_replace : ℕ → Bool → StoreValue → StoreValue
 with_failing_replace number written s =
-    record { contents = s.contents; failed = s.failed; loads = s.loads; replaces = failing number written s.replaces }
+    record { contents = s.contents; rooms = s.rooms; failed = s.failed; loads = s.loads; replaces = failing number written s.replaces }
 
 abbrev pub noted : Kind → Name → List Failure → List Failure
 noted kind name failed = failed ++ record { kind = kind; name = name } ∷ []
@@ -50,31 +57,46 @@ abbrev pub LoadsAs : Name → ℕ → StoreValue → Loaded → StoreValue → T
 LoadsAs name limit s loaded.Memory t = t ≡ s
 LoadsAs name limit s loaded.Failed t =
     (done : Bool) × ((next_naming s.loads ≡ Some done)
-    × (t ≡ record { contents = s.contents; failed = noted Load name s.failed; loads = counted s.loads; replaces = s.replaces }))
+    × (t ≡ record { contents = s.contents; rooms = s.rooms; failed = noted Load name s.failed; loads = counted s.loads; replaces = s.replaces }))
 LoadsAs name limit s loaded.Absent t =
     (next_naming s.loads ≡ None) × LoadsFrom (held s.contents name) limit loaded.Absent
-    × (t ≡ record { contents = s.contents; failed = s.failed; loads = counted s.loads; replaces = s.replaces })
+    × (t ≡ record { contents = s.contents; rooms = s.rooms; failed = s.failed; loads = counted s.loads; replaces = s.replaces })
 LoadsAs name limit s loaded.Large t =
     (next_naming s.loads ≡ None) × LoadsFrom (held s.contents name) limit loaded.Large
-    × (t ≡ record { contents = s.contents; failed = s.failed; loads = counted s.loads; replaces = s.replaces })
+    × (t ≡ record { contents = s.contents; rooms = s.rooms; failed = s.failed; loads = counted s.loads; replaces = s.replaces })
 LoadsAs name limit s (loaded.Bytes bytes) t =
     (next_naming s.loads ≡ None) × LoadsFrom (held s.contents name) limit (loaded.Bytes bytes)
-    × (t ≡ record { contents = s.contents; failed = s.failed; loads = counted s.loads; replaces = s.replaces })
+    × (t ≡ record { contents = s.contents; rooms = s.rooms; failed = s.failed; loads = counted s.loads; replaces = s.replaces })
 
--- the same of a replace; where it fails, the new bytes stand if that was said
+-- room is given, and nothing else changes
+pub record Reserves (s t : StoreValue) : Type 0 where
+  pub stay : RoomsStay s.rooms t.rooms
+  pub is : t ≡ record { contents = s.contents; rooms = t.rooms; failed = s.failed; loads = s.loads; replaces = s.replaces }
+
+-- the same of a replace; where it fails, the new bytes stand if that was said. A call that isn't to fail never runs out of memory
+-- where the name has room for the bytes
 abbrev pub ReplacesAs : Name → List ℕ → StoreValue → Stored → StoreValue → Type 0
-ReplacesAs name bytes s stored.Memory t = t ≡ s
+ReplacesAs name bytes s stored.Memory t = (t ≡ s) × (next_naming s.replaces ≡ None → ¬ (HasRoom s.rooms name (length bytes)))
 ReplacesAs name bytes s stored.Failed t =
-    (written : Bool) × ((next_naming s.replaces ≡ Some written)
+    RoomsStay s.rooms t.rooms
+    × ((written : Bool) × ((next_naming s.replaces ≡ Some written)
     × (t ≡ record {
       contents = cond written (replaced s.contents name bytes) s.contents;
+      rooms = t.rooms;
       failed = noted Replace name s.failed;
       loads = s.loads;
       replaces = counted s.replaces;
-    }))
+    })))
 ReplacesAs name bytes s stored.Done t =
-    (next_naming s.replaces ≡ None)
-    × (t ≡ record { contents = replaced s.contents name bytes; failed = s.failed; loads = s.loads; replaces = counted s.replaces })
+    RoomsStay s.rooms t.rooms
+    × (next_naming s.replaces ≡ None)
+    × (t ≡ record {
+      contents = replaced s.contents name bytes;
+      rooms = t.rooms;
+      failed = s.failed;
+      loads = s.loads;
+      replaces = counted s.replaces;
+    })
 
 -- ---- a sink
 

@@ -1,7 +1,7 @@
 -- What the stores and sinks of this crate show of themselves.
 use Rattle.std.specs.Prelude.{ℕ, List, length}
 use Rattle.hm_outside.specs.Contents.{Contents}
-use Rattle.hm_outside.specs.Files.{contents_of}
+use Rattle.hm_outside.specs.Room.{contents_of}
 use Rattle.hm_outside.specs.declared.memory.MemStore.{MemStore}
 use Rattle.hm_outside.specs.declared.outside.Failure.{Failure}
 use Rattle.hm_outside.specs.declared.file.FileStore.{FileStore}
@@ -9,7 +9,7 @@ use Rattle.hm_outside.specs.declared.output.StdSink.{StdSink}
 
 -- what a store in memory holds
 abbrev pub stored_in : MemStore → Contents
-stored_in store = contents_of store.files
+stored_in store = contents_of store.rooms
 
 -- the calls of a store of real files that failed
 abbrev pub failed_calls : {R File Dir : Type 0} → FileStore R File Dir → List Failure

@@ -9,7 +9,8 @@
 //!
 //! Proved: stores and sinks meet their traits: what a load tells, what a replace leaves, and that a failure is told
 //! where the list of failed calls grew, and only there. `MemStore` and `MemSink` tell what they hold, and of them calls can
-//! be made to fail, by their numbers: just these do, and leave what was said (`specs/InMemory`). Of what
+//! be made to fail, by their numbers: just these do, and leave what was said, and a replace within the room of its name never
+//! runs out of memory (`specs/InMemory`). Of what
 //! `FileStore` has seen of files it is decided exactly whether one was loaded, under another name, or in another state
 //! (`specs/Seen`), and whether a reader gives just these bytes.
 #![tactic(auto)]
@@ -23,6 +24,7 @@ mod output;
 mod outside;
 mod path;
 mod replace;
+mod room;
 mod seen;
 
 pub use file::FileStore;

@@ -3,30 +3,33 @@ ghost use Rattle.std.specs.Prelude.{◌≡◌, ◌≢◌, ◌<◌, ◌≤◌, co
 ghost use Rattle.hm_outside.specs.Answers.{IsWithin, LoadsFrom, ReplacesIn, PutsAfter};
 ghost use Rattle.hm_outside.specs.Contents.{held, replaced};
 ghost use Rattle.hm_outside.specs.Failures.{Extends, HasRisen};
-ghost use Rattle.hm_outside.specs.Files.{contents_of};
+ghost use Rattle.hm_outside.specs.Room.{contents_of, room_sizes, HasRoom, RoomsStay};
 ghost use Rattle.hm_outside.specs.InMemory.{mem_store, mem_sink, noted, LoadsAs, ReplacesAs, PutsAs};
 ghost use Rattle.hm_outside.specs.declared.outside.Kind.TheVariants.{Load, Replace};
 
 use crate::failing::{entry_for, note};
 use crate::numbered::Numbered;
 use crate::outside::{Failure, Kind, Loaded, Put, Sink, Store, Stored};
+use crate::room::{Room, file_at, make_room, put_file};
 use hm_tree::{Memory, Name};
-use std::alloc::{AllocError, Global};
+use std::alloc::Global;
 use std::collections::BTreeMap;
 
 /// A store in memory. Its loads and its replaces are numbered from 1 on, each kind by itself, and no call fails but those
-/// that are to. A call that runs out of memory isn't counted.
+/// that are to. A call that runs out of memory isn't counted. A name may have room for bytes, and within it a replace takes
+/// no memory.
 #[derive(Drop)]
 pub struct MemStore {
     alloc: Global,
-    files: BTreeMap<String, Vec<u8>>,
+    rooms: BTreeMap<String, Room>,
     failed: Vec<Failure>,
     loads: Numbered,
     replaces: Numbered,
 }
 
 impl MemStore {
-    ghost use Rattle.hm_outside.specs.InMemory.{mem_store, empty_store, with_failing_load, with_failing_replace};
+    ghost use Rattle.hm_outside.specs.InMemory.{mem_store, empty_store, with_failing_load, with_failing_replace, Reserves};
+    ghost use Rattle.hm_outside.specs.Room.{HasRoom};
     ghost use Rattle.std.specs.Prelude.{◌≡◌, OnErr, OnOk};
 
     /// A store that holds nothing, and of which no call is to fail.
@@ -35,7 +38,7 @@ impl MemStore {
     {
         MemStore {
             alloc,
-            files: BTreeMap::new(alloc),
+            rooms: BTreeMap::new(alloc),
             failed: Vec::new(alloc),
             loads: Numbered::new(alloc),
             replaces: Numbered::new(alloc),
@@ -57,30 +60,24 @@ impl MemStore {
     {
         Ok(self.replaces.name(number, written)?)
     }
-}
 
-// Puts the bytes under the name. Where memory runs out, nothing changes.
-fn put_file(
-    alloc: Global,
-    files: &mut BTreeMap<String, Vec<u8>>,
-    name: &Name,
-    bytes: &[u8],
-) -> Result<(), AllocError>
-    ensures ok { OnOk result (contents_of files.new ≡ replaced (contents_of files.old) name.now bytes.now) }
-    ensures err { OnErr result (contents_of files.new ≡ contents_of files.old) }
-{
-    let key = String::from_str(alloc, name.text())?;
-    files.insert(key, bytes.to_vec(alloc)?)?;
-    Ok(())
+    /// Gives a name room for at least so many bytes, which no later call takes away. A replace of the name with no more
+    /// bytes, which isn't to fail, takes no memory then. No file changes.
+    pub fn reserve(&mut self, name: &Name, size: usize) -> Result<(), Memory>
+        ensures reserves { Reserves (mem_store self.old) (mem_store self.new) }
+        ensures room { OnOk result (HasRoom (mem_store self.new).rooms name.now size) }
+    {
+        make_room(self.alloc, &mut self.rooms, name, size)
+    }
 }
 
 // What a load that doesn't fail answers.
-fn load_from(alloc: Global, files: &BTreeMap<String, Vec<u8>>, name: &Name, limit: usize) -> Loaded
+fn load_from(alloc: Global, rooms: &BTreeMap<String, Room>, name: &Name, limit: usize) -> Loaded
     ensures within { IsWithin limit result }
     ensures calm { result ≢ Loaded.Failed }
-    ensures told { LoadsFrom (held (contents_of files.now) name.now) limit result }
+    ensures told { LoadsFrom (held (contents_of rooms.now) name.now) limit result }
 {
-    match files.get(name.text()) {
+    match file_at(rooms, name) {
         None => Loaded::Absent,
         Some(bytes) => {
             if bytes.len() > limit {
@@ -107,20 +104,22 @@ fn failed_call(failed: &mut Vec<Failure>, kind: Kind, name: &Name) -> Result<(),
 // Puts the bytes under the name if that was said, and notes the call, which fails. Where memory runs out, nothing changes.
 fn failed_replace(
     alloc: Global,
-    files: &mut BTreeMap<String, Vec<u8>>,
+    rooms: &mut BTreeMap<String, Room>,
     failed: &mut Vec<Failure>,
     name: &Name,
     bytes: &[u8],
     written: bool,
 ) -> Result<(), Memory>
-    ensures contents { OnOk result (contents_of files.new ≡ cond written (replaced (contents_of files.old) name.now bytes.now) (contents_of files.old)) }
+    ensures contents { OnOk result (contents_of rooms.new ≡ cond written (replaced (contents_of rooms.old) name.now bytes.now) (contents_of rooms.old)) }
+    ensures stay { RoomsStay (room_sizes rooms.old) (room_sizes rooms.new) }
     ensures noted { OnOk result (failed.new.items ≡ noted Replace name.now failed.old.items) }
-    ensures same_contents { OnErr result (contents_of files.new ≡ contents_of files.old) }
+    ensures same_contents { OnErr result (contents_of rooms.new ≡ contents_of rooms.old) }
+    ensures same_rooms { OnErr result (room_sizes rooms.new ≡ room_sizes rooms.old) }
     ensures same { OnErr result (failed.new.items ≡ failed.old.items) }
 {
     let entry = entry_for(failed, Kind::Replace, name)?;
     if written {
-        put_file(alloc, files, name, bytes)?;
+        put_file(alloc, rooms, name, bytes)?;
     }
     note(failed, entry);
     Ok(())
@@ -136,7 +135,7 @@ impl MemStore {
         ensures within { IsWithin limit result }
     {
         let answer = match self.loads.next() {
-            None => load_from(self.alloc, &self.files, name, limit),
+            None => load_from(self.alloc, &self.rooms, name, limit),
             Some(_) => match failed_call(&mut self.failed, Kind::Load, name) {
                 Ok(()) => Loaded::Failed,
                 Err(_) => Loaded::Memory,
@@ -155,7 +154,7 @@ impl MemStore {
     {
         match self.replaces.next() {
             None => {
-                if put_file(self.alloc, &mut self.files, name, bytes).is_err() {
+                if put_file(self.alloc, &mut self.rooms, name, bytes).is_err() {
                     return Stored::Memory;
                 }
                 self.replaces.count();
@@ -164,7 +163,7 @@ impl MemStore {
             Some(written) => {
                 let failed = failed_replace(
                     self.alloc,
-                    &mut self.files,
+                    &mut self.rooms,
                     &mut self.failed,
                     name,
                     bytes,
@@ -181,19 +180,19 @@ impl MemStore {
 }
 
 impl Store for MemStore {
-    ghost contents = { λ s. Some (contents_of s.files) };
+    ghost contents = { λ s. Some (contents_of s.rooms) };
 
     ghost failed = { λ s. s.failed.items };
 
     // As the trait says, and `loads`: it fails exactly where it is to.
     fn load(&mut self, name: &Name, limit: usize) -> Loaded
         ensures loads { LoadsAs name.now limit (mem_store self.old) result (mem_store self.new) }
-        ensures contents { Some (contents_of self.new.files) ≡ Some (contents_of self.old.files) }
+        ensures contents { Some (contents_of self.new.rooms) ≡ Some (contents_of self.old.rooms) }
         ensures failed { Extends self.old.failed.items self.new.failed.items }
         ensures cause { result ≡ Loaded.Failed → HasRisen Load name.now self.old.failed.items self.new.failed.items }
         ensures calm { result ≢ Loaded.Failed → self.new.failed.items ≡ self.old.failed.items }
         ensures within { IsWithin limit result }
-        ensures told { LoadsFrom (held (contents_of self.old.files) name.now) limit result }
+        ensures told { LoadsFrom (held (contents_of self.old.rooms) name.now) limit result }
     {
         self.load_next(name, limit)
     }
@@ -204,7 +203,7 @@ impl Store for MemStore {
         ensures failed { Extends self.old.failed.items self.new.failed.items }
         ensures cause { result ≡ Stored.Failed → HasRisen Replace name.now self.old.failed.items self.new.failed.items }
         ensures calm { result ≢ Stored.Failed → self.new.failed.items ≡ self.old.failed.items }
-        ensures told { ReplacesIn (contents_of self.old.files) name.now bytes.now result (Some (contents_of self.new.files)) }
+        ensures told { ReplacesIn (contents_of self.old.rooms) name.now bytes.now result (Some (contents_of self.new.rooms)) }
     {
         self.replace_next(name, bytes)
     }
