@@ -23,12 +23,15 @@ fn set_of(alloc: Global, names: &[Name]) -> Result<NameSet, Memory> {
     NameSet::from_list(copies_of(alloc, names)?)
 }
 
+fn path_of(alloc: Global, names: &[Name]) -> Result<Path, Memory> {
+    let names = copies_of(alloc, names)?;
+    Ok(Path { names })
+}
+
 // A text is lost at the path of these names.
 fn lost_at(alloc: Global, names: &[Name]) -> Result<Why, Memory> {
-    let names = copies_of(alloc, names)?;
-    Ok(Why::Lost {
-        kept: Path { names },
-    })
+    let kept = path_of(alloc, names)?;
+    Ok(Why::Lost { kept })
 }
 
 // These names come to stand on both sides.
@@ -40,11 +43,9 @@ fn names_of_both(alloc: Global, names: &[Name]) -> Result<Why, Memory> {
     }
 }
 
-// One conflict, at the root.
-fn at_root(alloc: Global, why: Why) -> Result<Vec<Conflict>, Memory> {
-    let path = Path {
-        names: Vec::new(alloc),
-    };
+// One conflict, at the path of these names.
+fn one_at(alloc: Global, names: &[Name], why: Why) -> Result<Vec<Conflict>, Memory> {
+    let path = path_of(alloc, names)?;
     let mut conflicts = Vec::new(alloc);
     conflicts.push(Conflict { path, why })?;
     Ok(conflicts)
@@ -78,7 +79,7 @@ fn change_path(alloc: Global, conflicts: &mut [Conflict]) -> Result<(), Memory> 
 // No conflict where there is one, and one at the root where there is none.
 fn other_conflicts(alloc: Global, conflicts: &[Conflict]) -> Result<Vec<Conflict>, Memory> {
     if conflicts.is_empty() {
-        at_root(alloc, Why::Earlier)
+        one_at(alloc, &[], Why::Earlier)
     } else {
         Ok(Vec::new(alloc))
     }
@@ -132,8 +133,41 @@ fn stop(
     let Some(why) = why_of(alloc, words)? else {
         return Ok(false);
     };
-    outcome.conflicts = at_root(alloc, why)?;
+    outcome.conflicts = one_at(alloc, &[], why)?;
     outcome.archive = Archive::marked(alloc);
+    outcome.left = left.copy()?;
+    outcome.right = right.copy()?;
+    Ok(true)
+}
+
+// The conflict that words tell, for its reason and at the path of the names behind it; none where there are no words. Nothing
+// where they have no meaning.
+fn told_conflict(alloc: Global, words: &[Name]) -> Result<Option<Vec<Conflict>>, Memory> {
+    let Some((word, names)) = words.split_first() else {
+        return Ok(Some(Vec::new(alloc)));
+    };
+    Ok(match word.text() {
+        "earlier" => Some(one_at(alloc, names, Why::Earlier)?),
+        "lost" => Some(one_at(alloc, names, lost_at(alloc, names)?)?),
+        _ => None,
+    })
+}
+
+/// Makes of an outcome one in which both sides stay as they were and the archive is this one, with the conflict that words
+/// tell, if there are some. Tells whether they have a meaning; after want of memory the outcome is any.
+pub fn claim_archive(
+    alloc: Global,
+    outcome: &mut Outcome,
+    left: &Tree,
+    right: &Tree,
+    archive: Archive,
+    words: &[Name],
+) -> Result<bool, Memory> {
+    let Some(conflicts) = told_conflict(alloc, words)? else {
+        return Ok(false);
+    };
+    outcome.conflicts = conflicts;
+    outcome.archive = archive;
     outcome.left = left.copy()?;
     outcome.right = right.copy()?;
     Ok(true)

@@ -3,9 +3,11 @@
 //!
 //! Behind `certify` further words claim another outcome: a part that is changed, as `archive`, `left`, `right`,
 //! `conflicts`, the `order` of these, the `reason` of the last one or the `path` that it tells; or, behind `stop`, that
-//! both sides stay as they were, for the reason `earlier`, `lost NAME..` or `names NAME..`. The status is 0 where all
-//! was done, and the outcome is certified; 1 where it isn't, or a side is no member; 2 where the words have no meaning;
-//! and 5 where a file isn't read. `tests/run-cases` and `bench/certify` run it.
+//! both sides stay as they were, for the reason `earlier`, `lost NAME..` or `names NAME..`; or, behind `claimed`, that they
+//! stay and the archive becomes what the file `claimed` holds, with no conflict, or one at the path of the names behind
+//! `earlier NAME..` or `lost NAME..`, which is the path that it tells too. The status is 0 where all was done, and the
+//! outcome is certified; 1 where it isn't, or a side is no member; 2 where the words have no meaning; and 5 where a file
+//! isn't read. `tests/run-cases` and `bench/certify` run it.
 //!
 //! Proved: that what it measures is called as the contracts ask: for a schema without twins, and two members. Nothing
 //! is said of what it answers.
@@ -16,10 +18,11 @@ ghost use Rattle.hm_schema.specs.Membership.{HasNoTwins};
 
 mod claims;
 
-use crate::claims::claim;
+use crate::claims::{claim, claim_archive};
 use hm_certify::certify;
 use hm_outside::{FileStore, Loaded, Store};
 use hm_reconcile::reconcile;
+use hm_report::Outcome;
 use hm_schema::Schema;
 use hm_schema_text::read_schema;
 use hm_tree::{Archive, Memory, Name, Tree};
@@ -82,6 +85,32 @@ fn read<S: Store>(alloc: Global, store: &mut S) -> Result<Values, Memory>
     })
 }
 
+// The archive that the file `claimed` holds.
+fn claimed_archive<S: Store>(alloc: Global, store: &mut S) -> Result<Archive, Memory> {
+    let bytes = load(alloc, store, "claimed")?;
+    match read_archive(alloc, &bytes) {
+        Ok(archive) => Ok(archive),
+        Err(_) => Err(Memory),
+    }
+}
+
+// Makes of an outcome the one that words claim, and tells whether they have a meaning.
+fn alter<S: Store>(
+    alloc: Global,
+    store: &mut S,
+    values: &Values,
+    outcome: &mut Outcome,
+    words: &[Name],
+) -> Result<bool, Memory> {
+    match words.split_first() {
+        Some((word, rest)) if word.text() == "claimed" => {
+            let archive = claimed_archive(alloc, store)?;
+            claim_archive(alloc, outcome, &values.left, &values.right, archive, rest)
+        }
+        _ => claim(alloc, outcome, &values.left, &values.right, words),
+    }
+}
+
 // Goes on as far as a step, and answers a status. Behind `certify` there are the words of a claim.
 fn go_on<S: Store>(alloc: Global, store: &mut S, step: &str, words: &[Name]) -> Result<u8, Memory> {
     let values = read(alloc, store)?;
@@ -104,7 +133,7 @@ fn go_on<S: Store>(alloc: Global, store: &mut S, step: &str, words: &[Name]) -> 
     if step == "reconcile" {
         return Ok(DONE);
     }
-    if !claim(alloc, &mut outcome, &values.left, &values.right, words)? {
+    if !alter(alloc, store, &values, &mut outcome, words)? {
         return Ok(USAGE);
     }
     if certify(
